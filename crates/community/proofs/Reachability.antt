@@ -1,0 +1,97 @@
+-- The computed test `reachable` says what `Reached` says.
+use Prim.Native.Nat.{ℕ, zero, suc, _+_, _≤_, _<_}
+use native.Mathlib.Omega.{arith}
+use mathlib.Core.Path.{_≡_, refl, sym, ap, subst}
+use mathlib.Core.Logic.{_⊎_, inl, inr, ⊎-elim}
+use mathlib.Core.Bool.{Bool, true, false, _&&_, _||_}
+use lib.Dec.{T}
+use Rattle.sets.proofs.Tests.{and-make, and-left, and-right, or-left, or-right, or-cases, below}
+use Rattle.community.specs.Network.{Network, step, Reachable, one, more, chain, reachable}
+
+pub Reachable-trans : {g : Network} {u v w : ℕ} → Reachable g u v → Reachable g v w → Reachable g u w
+Reachable-trans r (one a b t) = more r b t
+Reachable-trans r (more s b t) = more (Reachable-trans r s) b t
+
+pub from-below : {g : Network} {u v : ℕ} → Reachable g u v → u < g .n
+from-below (one a b t) = a
+from-below (more r b t) = from-below r
+
+pub to-below : {g : Network} {u v : ℕ} → Reachable g u v → v < g .n
+to-below (one a b t) = b
+to-below (more r b t) = b
+
+-- the two ways to a chain with inner handsets below suc k
+module _ (st : ℕ → ℕ → Bool) where
+  Ways : ℕ → ℕ → ℕ → Type 0
+  Ways k u v = T (chain st k u v) ⊎ (T (chain st k u k) × T (chain st k k v))
+
+  ways : (k u v : ℕ) → T (chain st (suc k) u v) → Ways k u v
+  unfolding Ways chain
+  ways k u v t = go (or-cases (chain st k u v) (chain st k u k && chain st k k v) t)
+    where
+      go : T (chain st k u v) ⊎ T (chain st k u k && chain st k k v) → Ways k u v
+      go (inl x) = inl x
+      go (inr x) = inr (and-left (chain st k u k) (chain st k k v) x, and-right (chain st k u k) (chain st k k v) x)
+
+  keep : (k u v : ℕ) → T (chain st k u v) → T (chain st (suc k) u v)
+  unfolding chain
+  keep k u v t = or-left (chain st k u v) (chain st k u k && chain st k k v) t
+
+  via : (k u v : ℕ) → T (chain st k u k) → T (chain st k k v) → T (chain st (suc k) u v)
+  unfolding chain
+  via k u v x y = or-right (chain st k u v) (chain st k u k && chain st k k v) (and-make (chain st k u k) (chain st k k v) x y)
+
+  -- a chain to k, or from k, needs no inner k
+  to-end : (k u : ℕ) → T (chain st (suc k) u k) → T (chain st k u k)
+  unfolding Ways
+  to-end k u t = go (ways k u k t)
+    where
+      go : Ways k u k → T (chain st k u k)
+      go (inl x) = x
+      go (inr x) = x .0
+
+  from-end : (k v : ℕ) → T (chain st (suc k) k v) → T (chain st k k v)
+  unfolding Ways
+  from-end k v t = go (ways k k v t)
+    where
+      go : Ways k k v → T (chain st k k v)
+      go (inl x) = x
+      go (inr x) = x .1
+
+  -- two chains that meet at w below k are one
+  meet : (k w : ℕ) → w < k → (u v : ℕ) → T (chain st k u w) → T (chain st k w v) → T (chain st k u v)
+  unfolding Ways
+  meet zero w h u v x y = absurd (omega arith)
+  meet (suc k) w h u v x y =
+      ⊎-elim
+      (λ e. via k u v (to-end k u (rw e at x)) (from-end k v (rw e at y)))
+      (λ l.
+        ⊎-elim
+        (λ a. ⊎-elim (λ b. keep k u v (meet k w l u v a b)) (λ b. via k u v (meet k w l u k a (b .0)) (b .1)) (ways k w v y))
+        (λ a. ⊎-elim (λ b. via k u v (a .0) (meet k w l k v (a .1) b)) (λ b. via k u v (a .0) (b .1)) (ways k w v y))
+        (ways k u w x))
+      (below h)
+
+  -- a step is a chain
+  lift : (k u v : ℕ) → T (st u v) → T (chain st k u v)
+  unfolding chain
+  lift zero u v t = t
+  lift (suc k) u v t = keep k u v (lift k u v t)
+
+from-chain : (g : Network) (k : ℕ) → k ≤ g .n → (u v : ℕ) → u < g .n → v < g .n → T (chain (step g) k u v) → Reachable g u v
+unfolding chain Ways
+from-chain g zero l u v a b t = one a b t
+from-chain g (suc k) l u v a b t =
+    ⊎-elim
+    (λ x. from-chain g k (omega arith) u v a b x)
+    (λ x. Reachable-trans (from-chain g k (omega arith) u k a (omega arith) (x .0)) (from-chain g k (omega arith) k v (omega arith) b (x .1)))
+    (ways (step g) k u v t)
+
+pub reachable-sound : (g : Network) (u v : ℕ) → u < g .n → v < g .n → T (reachable g u v) → Reachable g u v
+unfolding reachable
+reachable-sound g u v a b t = from-chain g (g .n) (omega arith) u v a b t
+
+pub reachable-complete : (g : Network) {u v : ℕ} → Reachable g u v → T (reachable g u v)
+unfolding reachable
+reachable-complete g (one {u} {v} a b t) = lift (step g) (g .n) u v t
+reachable-complete g (more {u} {v} {w} r b t) = meet (step g) (g .n) v (to-below r) u w (reachable-complete g r) (lift (step g) (g .n) v w t)

@@ -1,0 +1,98 @@
+-- Laws of similar, core and reachable, of a network whose neighbour relation is reflexive and symmetric.
+use Prim.Native.Nat.{ℕ, zero, suc, _+_, _*_, _≤_, _<_}
+use native.Mathlib.Omega.{arith}
+use native.Mathlib.Nat.{mul-comm, mul-le-mul}
+use mathlib.Core.Path.{_≡_, refl, sym, ap, ap₂, _∙_, subst}
+use mathlib.Core.Bool.{Bool, true, false, _&&_, _||_, not}
+use lib.Dec.{T, leb, le→leb, leb→le}
+use Rattle.sets.proofs.Tests.{and-make, and-left, and-right, any-take}
+use Rattle.sets.proofs.Counting.{count-cong, count-some}
+use Rattle.sets.specs.Below.{count}
+use Rattle.community.specs.Network.{Network, neighbourhoodSize, commonNeighbours, meetsEpsilon, similar, isCore, step, Reachable, one, more, reachable}
+use Rattle.community.proofs.Reachability.{Reachable-trans, to-below, from-below}
+
+-- what an accepted image ensures of its network
+pub record Sound (g : Network) : Type 0 where
+  pub neighbour-self : (u v : ℕ) → T (g .neighbour u v) → T (g .neighbour u u)
+  pub neighbour-sym : (u v : ℕ) → g .neighbour u v ≡ g .neighbour v u
+  pub at-most-one : g .p ≤ g .q
+  pub mu-some : 1 ≤ g .mu
+
+and-comm : (a b : Bool) → (a && b) ≡ (b && a)
+and-comm true true = refl
+and-comm true false = refl
+and-comm false true = refl
+and-comm false false = refl
+
+and-same : (a : Bool) → (a && a) ≡ a
+and-same true = refl
+and-same false = refl
+
+pub commonNeighbours-sym : (g : Network) (u v : ℕ) → commonNeighbours g u v ≡ commonNeighbours g v u
+unfolding commonNeighbours
+commonNeighbours-sym g u v =
+    count-cong (g .n) (λ w. g .neighbour u w && g .neighbour v w) (λ w. g .neighbour v w && g .neighbour u w) (λ w h. and-comm (g .neighbour u w) (g .neighbour v w))
+
+pub commonNeighbours-self : (g : Network) (u : ℕ) → commonNeighbours g u u ≡ neighbourhoodSize g u
+unfolding commonNeighbours neighbourhoodSize
+commonNeighbours-self g u = count-cong (g .n) (λ w. g .neighbour u w && g .neighbour u w) (g .neighbour u) (λ w h. and-same (g .neighbour u w))
+
+meetsEpsilon-comm : (g : Network) (c a b : ℕ) → meetsEpsilon g c a b ≡ meetsEpsilon g c b a
+unfolding meetsEpsilon
+meetsEpsilon-comm g c a b = ap (λ (x : ℕ). leb (g .p * g .p * x) (c * c * (g .q * g .q))) (mul-comm a b)
+
+meetsEpsilon-self : (g : Network) → g .p ≤ g .q → (a : ℕ) → T (meetsEpsilon g a a a)
+unfolding meetsEpsilon
+meetsEpsilon-self g h a =
+    le→leb (g .p * g .p * (a * a)) (a * a * (g .q * g .q))
+    (rw (mul-comm (g .p * g .p) (a * a)) (mul-le-mul (omega arith) (mul-le-mul h h)))
+
+module _ {g : Network} (ok : Sound g) where
+  pub similar-sym : (u v : ℕ) → similar g u v ≡ similar g v u
+  unfolding similar
+  similar-sym u v =
+      ap₂ _&&_ (ok .neighbour-sym u v)
+      (ap (λ (c : ℕ). meetsEpsilon g c (neighbourhoodSize g u) (neighbourhoodSize g v)) (commonNeighbours-sym g u v) ∙ meetsEpsilon-comm g (commonNeighbours g v u) (neighbourhoodSize g u) (neighbourhoodSize g v))
+
+  pub similar-self : (u : ℕ) → T (g .neighbour u u) → T (similar g u u)
+  unfolding similar
+  similar-self u t =
+      and-make (g .neighbour u u) (meetsEpsilon g (commonNeighbours g u u) (neighbourhoodSize g u) (neighbourhoodSize g u)) t
+      (rw (commonNeighbours-self g u) (meetsEpsilon-self g (ok .at-most-one) (neighbourhoodSize g u)))
+
+  -- a core is similar to some handset, so it is neighbour to itself
+  pub core-neighbour : (u : ℕ) → T (isCore g u) → T (g .neighbour u u)
+  unfolding isCore similar
+  core-neighbour u c =
+      let a = any-take (g .n) (similar g u) (count-some (g .n) (similar g u) (omega (arith, leb→le (g .mu) (count (g .n) (similar g u)) c, ok .mu-some))) in
+      ok .neighbour-self u (a .0) (and-left (g .neighbour u (a .0)) (meetsEpsilon g (commonNeighbours g u (a .0)) (neighbourhoodSize g u) (neighbourhoodSize g (a .0))) (a .2))
+
+  pub step-core : (u v : ℕ) → T (step g u v) → T (isCore g u)
+  unfolding step
+  step-core u v t = and-left (isCore g u) (similar g u v) t
+
+  pub step-similar : (u v : ℕ) → T (step g u v) → T (similar g u v)
+  unfolding step
+  step-similar u v t = and-right (isCore g u) (similar g u v) t
+
+  pub step-make : (u v : ℕ) → T (isCore g u) → T (similar g u v) → T (step g u v)
+  unfolding step
+  step-make u v c t = and-make (isCore g u) (similar g u v) c t
+
+  -- only cores reach anything
+  pub reaches-core : {u v : ℕ} → Reachable g u v → T (isCore g u)
+  reaches-core (one {u} {v} a b t) = step-core u v t
+  reaches-core (more r b t) = reaches-core r
+
+  -- a core reaches itself
+  pub core-self : (u : ℕ) → u < g .n → T (isCore g u) → Reachable g u u
+  core-self u h c = one h h (step-make u u c (similar-self u (core-neighbour u c)))
+
+  -- a core is reachable both ways
+  step-back : (u v : ℕ) → T (isCore g v) → T (step g u v) → T (step g v u)
+  step-back u v c t = step-make v u c (rw (similar-sym v u) (step-similar u v t))
+
+  pub Reachable-back : {u v : ℕ} → Reachable g u v → T (isCore g v) → Reachable g v u
+  Reachable-back (one {u} {v} a b t) c = one b a (step-back u v c t)
+  Reachable-back (more {u} {v} {w} r b t) c =
+      Reachable-trans (one b (to-below r) (step-back v w c t)) (Reachable-back r (step-core v w t))

@@ -1,0 +1,5 @@
+pub mod Network
+pub mod Tables
+pub mod Scores
+pub mod Site
+pub mod Examples

@@ -1,0 +1,117 @@
+-- The density-based communities of a network (source document 003, 3.2 to 3.12; paper 01, "Near, alike, core" and "Reached, and the groups").
+--
+--     neighbourhoodSize g u     the size of u's neighbourhood, u included (paper 01: of its near set)
+--     commonNeighbours g u v    how many are in both neighbourhoods
+--     similar g u v             neighbours with c² q² ≥ p² a b (paper 01: alike)
+--     isCore g u                at least mu handsets, u among them, are similar to u
+--     Reachable g u v           a chain of one or more steps from u to v, each from a core to a handset similar to it (paper 01: reached)
+--     reachable g u v           the same as a test (proofs/Reachability: it passes exactly when there is a chain)
+--     IsCommunity g P           P is a community: it has a core, each two members are reachable from some one handset, and it is closed (paper 01: a group)
+--     communities g             the communities by their smallest core, the members of each ascending (proofs/Communities: listed exactly when IsCommunity)
+--     role g v                  core with its community's number, border with the count of its communities, or outlier
+use Prim.Native.Nat.{ℕ, zero, suc, _+_, _*_, _<_}
+use mathlib.Core.Bool.{Bool, true, false, _&&_, _||_, not, cond}
+use mathlib.Core.List.{List, [], _∷_, map}
+use lib.Dec.{leb, eqb, T}
+use Rattle.sets.specs.Below.{any, count, select, bit}
+use Rattle.community.specs.declared.Role.{Role}
+use Rattle.community.specs.declared.Role.the-variants.{Core, Border, Outlier}
+
+-- n handsets, who is a neighbour of whom, epsilon as p/q, and mu
+pub record Network : Type 0 where
+  pub n : ℕ
+  pub neighbour : ℕ → ℕ → Bool
+  pub p : ℕ
+  pub q : ℕ
+  pub mu : ℕ
+
+unfoldable pub neighbourhoodSize : Network → ℕ → ℕ
+unfolding count
+neighbourhoodSize g u = count (g .n) (g .neighbour u)
+
+unfoldable pub commonNeighbours : Network → ℕ → ℕ → ℕ
+unfolding count
+commonNeighbours g u v = count (g .n) (λ w. g .neighbour u w && g .neighbour v w)
+
+-- c / √(a b) ≥ p / q, in whole numbers
+unfoldable pub meetsEpsilon : Network → ℕ → ℕ → ℕ → Bool
+meetsEpsilon g c a b = leb (g .p * g .p * (a * b)) (c * c * (g .q * g .q))
+
+unfoldable pub similar : Network → ℕ → ℕ → Bool
+unfolding meetsEpsilon commonNeighbours neighbourhoodSize
+similar g u v = g .neighbour u v && meetsEpsilon g (commonNeighbours g u v) (neighbourhoodSize g u) (neighbourhoodSize g v)
+
+unfoldable pub isCore : Network → ℕ → Bool
+unfolding similar count
+isCore g u = leb (g .mu) (count (g .n) (similar g u))
+
+unfoldable pub step : Network → ℕ → ℕ → Bool
+unfolding isCore similar
+step g u v = isCore g u && similar g u v
+
+pub data Reachable (g : Network) : ℕ → ℕ → Type 0 where
+  one : {u v : ℕ} → u < g .n → v < g .n → T (step g u v) → Reachable g u v
+  more : {u v w : ℕ} → Reachable g u v → w < g .n → T (step g v w) → Reachable g u w
+
+pub record IsCommunity (g : Network) (P : ℕ → Type 0) : Type 0 where
+  pub handset : (v : ℕ) → P v → v < g .n
+  pub has-core : (u : ℕ) × P u × T (isCore g u)
+  pub together : (v w : ℕ) → P v → P w → (u : ℕ) × Reachable g u v × Reachable g u w
+  pub closed : (v w : ℕ) → P v → Reachable g v w → P w
+
+-- a chain from u to v whose inner handsets, if it has any, are all below k
+unfoldable pub chain : (ℕ → ℕ → Bool) → ℕ → ℕ → ℕ → Bool
+chain st zero u v = st u v
+chain st (suc k) u v = chain st k u v || (chain st k u k && chain st k k v)
+
+unfoldable pub reachable : Network → ℕ → ℕ → Bool
+unfolding chain step
+reachable g u v = chain (step g) (g .n) u v
+
+-- the smallest core of its community: a core that no smaller handset reaches
+unfoldable pub isLeader : Network → ℕ → Bool
+unfolding isCore any reachable
+isLeader g u = isCore g u && not (any u (λ w. reachable g w u))
+
+-- the community of a leader
+unfoldable pub members : Network → ℕ → List ℕ
+unfolding select reachable
+members g u = select (g .n) (reachable g u)
+
+unfoldable pub leaders : Network → List ℕ
+unfolding select isLeader
+leaders g = select (g .n) (isLeader g)
+
+unfoldable pub communities : Network → List (List ℕ)
+unfolding members leaders
+communities g = map (members g) (leaders g)
+
+unfoldable pub cores : Network → List ℕ
+unfolding select isCore
+cores g = select (g .n) (isCore g)
+
+-- whether v stands in a list
+unfoldable pub contains : ℕ → List ℕ → Bool
+contains v [] = false
+contains v (x ∷ xs) = eqb v x || contains v xs
+
+-- the number of the first list that contains v
+unfoldable pub communityNumber : ℕ → List (List ℕ) → ℕ
+unfolding contains
+communityNumber v [] = 0
+communityNumber v (x ∷ xs) = cond (contains v x) 0 (suc (communityNumber v xs))
+
+-- how many of the lists contain v
+unfoldable pub membershipCount : ℕ → List (List ℕ) → ℕ
+unfolding contains
+membershipCount v [] = 0
+membershipCount v (x ∷ xs) = bit (contains v x) + membershipCount v xs
+
+-- no core: a border with the count of its communities, or an outlier in none
+abbrev pub borderOf : ℕ → Role
+borderOf zero = Outlier
+borderOf (suc k) = Border (suc k)
+
+unfoldable pub role : Network → ℕ → Role
+unfolding isCore communityNumber membershipCount communities
+role g v = cond (isCore g v) (Core (communityNumber v (communities g))) (borderOf (membershipCount v (communities g)))

@@ -1,0 +1,8 @@
+-- The network of a site image.
+use mathlib.Core.List.{List}
+use Prim.Native.Nat.{ℕ}
+use Rattle.image.specs.Image.{handsetCount, neighbour, epsilonNum, epsilonDen, mu}
+use Rattle.community.specs.Network.{Network}
+
+abbrev pub network : List ℕ → Network
+network s = record { n = handsetCount s; neighbour = neighbour s; p = epsilonNum s; q = epsilonDen s; mu = mu s }

@@ -1,0 +1,153 @@
+-- The reader answers a header exactly when every question gets a yes. A chain of `ask` that ends in the header passed each of its questions,
+-- and one whose questions all pass is what stands at its end.
+--
+--     accepted            openOf s ≡ Site h gives Accepted s, and h is headerOf s
+--     opened              Accepted s gives openOf s ≡ Site (headerOf s)
+--     Limits, limits      what an accepted image's numbers keep to, for the proofs of the calls
+use Prim.Native.Nat.{ℕ, _+_, _*_, _≤_, _<_}
+use native.Mathlib.Omega.{arith}
+use mathlib.Core.Path.{_≡_, refl, sym, ap, _∙_, subst}
+use mathlib.Core.Logic.{_⊎_, inl, inr, ⊎-elim}
+use mathlib.Core.Bool.{Bool, true, false, _&&_, _||_, not}
+use mathlib.Core.List.{List}
+use lib.Dec.{T, leb, ltb, eqb, leb→le, ltb→lt, eqb→eq, T-not, not-T}
+use lib.ListN.{length}
+use Rattle.sets.specs.Below.{any, find}
+use Rattle.sets.proofs.Tests.{and-left, and-right, any-none, none-any, T-true}
+use Rattle.image.specs.Image.{handsetCount, edgeCount, handsetOffset, edgeOffset, imageLength, limitSquared, epsilonNum, epsilonDen, muField, reserved, handsetRecords, edgeRecords, xAt, yAt, endA, endB}
+use Rattle.image.specs.Questions.{headerOf, countsFit, thresholdsFit, tablesFit, inLimits, outOfLimits, badEnd, isLoop, repeatsEarlier, ask, askEach, askRecords, askHeader, openOf, Accepted}
+use Rattle.image.specs.declared.Header.{Header}
+use Rattle.image.specs.declared.Refusal.{Refusal}
+use Rattle.image.specs.declared.Opened.{Opened}
+use Rattle.image.specs.declared.Opened.the-variants.{Site, Refused}
+
+pass : {h : Header} (b : Bool) (k p : ℕ) (next : Opened) → ask b k p next ≡ Site h → T b × (next ≡ Site h)
+unfolding ask
+pass true k p next e = (tt, e)
+pass false k p next e = let z : _≡_ {A = ℕ} 0 1 = cc in absurd (omega arith)
+
+pass-each : {h : Header} (n : ℕ) (bad : ℕ → Bool) (k : ℕ) (next : Opened) → askEach n bad k next ≡ Site h → T (not (any n bad)) × (next ≡ Site h)
+unfolding askEach
+pass-each n bad k next e = pass (not (any n bad)) k (find n bad) next e
+
+go-on : (b : Bool) (k p : ℕ) (next : Opened) → T b → ask b k p next ≡ next
+unfolding ask
+go-on true k p next t = refl
+go-on false k p next t = absurd t
+
+same : {h g : Header} → Site g ≡ Site h → g ≡ h
+same e = cc
+
+pub accepted : (s : List ℕ) (h : Header) → openOf s ≡ Site h → Accepted s × (h ≡ headerOf s)
+unfolding openOf askHeader askRecords headerOf
+accepted s h e =
+    let a1 = pass (leb 32 (length s)) _ _ _ e in
+    let a2 = pass (eqb (headerOf s .len) (length s)) _ _ _ (a1 .1) in
+    let a3 = pass (countsFit (headerOf s)) _ _ _ (a2 .1) in
+    let a4 = pass (eqb (headerOf s .reserved) 0) _ _ _ (a3 .1) in
+    let a5 = pass (thresholdsFit (headerOf s)) _ _ _ (a4 .1) in
+    let a6 = pass (tablesFit (headerOf s)) _ _ _ (a5 .1) in
+    let a7 = pass-each (headerOf s .n) (outOfLimits (handsetRecords s)) _ _ (a6 .1) in
+    let a8 = pass-each (headerOf s .m) (badEnd (edgeRecords s) (headerOf s .n)) _ _ (a7 .1) in
+    let a9 = pass-each (headerOf s .m) (isLoop (edgeRecords s)) _ _ (a8 .1) in
+    let a10 = pass-each (headerOf s .m) (repeatsEarlier (edgeRecords s)) _ _ (a9 .1) in
+    (record {
+      q1 = a1 .0;
+      q2 = a2 .0;
+      q3 = a3 .0;
+      q4 = a4 .0;
+      q5 = a5 .0;
+      q6 = a6 .0;
+      q7 = any-none (handsetCount s) (outOfLimits (handsetRecords s)) (a7 .0);
+      q8 = any-none (edgeCount s) (badEnd (edgeRecords s) (handsetCount s)) (a8 .0);
+      q9 = any-none (edgeCount s) (isLoop (edgeRecords s)) (a9 .0);
+      q10 = any-none (edgeCount s) (repeatsEarlier (edgeRecords s)) (a10 .0);
+    }, sym (same (a10 .1)))
+
+pub opened : (s : List ℕ) → Accepted s → openOf s ≡ Site (headerOf s)
+unfolding openOf askHeader askRecords askEach headerOf
+opened s a =
+    go-on (leb 32 (length s)) _ _ _ (a .q1)
+    ∙ go-on (eqb (headerOf s .len) (length s)) _ _ _ (a .q2)
+    ∙ go-on (countsFit (headerOf s)) _ _ _ (a .q3)
+    ∙ go-on (eqb (headerOf s .reserved) 0) _ _ _ (a .q4)
+    ∙ go-on (thresholdsFit (headerOf s)) _ _ _ (a .q5)
+    ∙ go-on (tablesFit (headerOf s)) _ _ _ (a .q6)
+    ∙ go-on (not (any (handsetCount s) (outOfLimits (handsetRecords s)))) _ _ _ (none-any (handsetCount s) (outOfLimits (handsetRecords s)) (a .q7))
+    ∙ go-on (not (any (edgeCount s) (badEnd (edgeRecords s) (handsetCount s)))) _ _ _ (none-any (edgeCount s) (badEnd (edgeRecords s) (handsetCount s)) (a .q8))
+    ∙ go-on (not (any (edgeCount s) (isLoop (edgeRecords s)))) _ _ _ (none-any (edgeCount s) (isLoop (edgeRecords s)) (a .q9))
+    ∙ go-on (not (any (edgeCount s) (repeatsEarlier (edgeRecords s)))) _ _ _ (none-any (edgeCount s) (repeatsEarlier (edgeRecords s)) (a .q10))
+
+-- a header whose counts, thresholds and tables fit
+pub record Fits (h : Header) : Type 0 where
+  pub n-limit : h .n ≤ 512
+  pub m-limit : h .m ≤ 4096
+  pub square-limit : h .limit ≤ 8000000000000
+  pub p-some : 1 ≤ h .p
+  pub p-q : h .p ≤ h .q
+  pub q-limit : h .q ≤ 1000
+  pub mu-limit : h .mu ≤ 512
+  pub handsets-from : 32 ≤ h .handsets
+  pub edges-from : 32 ≤ h .edges
+  pub handsets-to : h .handsets + 8 * h .n ≤ h .len
+  pub edges-to : h .edges + 4 * h .m ≤ h .len
+
+pub fits : (h : Header) → T (countsFit h) → T (thresholdsFit h) → T (tablesFit h) → Fits h
+unfolding countsFit thresholdsFit tablesFit
+fits h c t f =
+    let t1 = and-right (leb (h .limit) 8000000000000) _ t in
+    let t2 = and-right (leb 1 (h .p)) _ t1 in
+    let t3 = and-right (leb (h .p) (h .q)) _ t2 in
+    let f1 = and-right (leb 32 (h .handsets)) _ f in
+    let f2 = and-right (leb 32 (h .edges)) _ f1 in
+    let f3 = and-right (leb (h .handsets + 8 * h .n) (h .len)) _ f2 in
+    record {
+      n-limit = leb→le (h .n) 512 (and-left (leb (h .n) 512) _ c);
+      m-limit = leb→le (h .m) 4096 (and-right (leb (h .n) 512) _ c);
+      square-limit = leb→le (h .limit) 8000000000000 (and-left (leb (h .limit) 8000000000000) _ t);
+      p-some = leb→le 1 (h .p) (and-left (leb 1 (h .p)) _ t1);
+      p-q = leb→le (h .p) (h .q) (and-left (leb (h .p) (h .q)) _ t2);
+      q-limit = leb→le (h .q) 1000 (and-left (leb (h .q) 1000) _ t3);
+      mu-limit = leb→le (h .mu) 512 (and-right (leb (h .q) 1000) _ t3);
+      handsets-from = leb→le 32 (h .handsets) (and-left (leb 32 (h .handsets)) _ f);
+      edges-from = leb→le 32 (h .edges) (and-left (leb 32 (h .edges)) _ f1);
+      handsets-to = leb→le (h .handsets + 8 * h .n) (h .len) (and-left (leb (h .handsets + 8 * h .n) (h .len)) _ f2);
+      edges-to = leb→le (h .edges + 4 * h .m) (h .len) (and-left (leb (h .edges + 4 * h .m) (h .len)) _ f3);
+    }
+
+module _ (s : List ℕ) (a : Accepted s) where
+  pub accepted-fits : Fits (headerOf s)
+  accepted-fits = fits (headerOf s) (a .q3) (a .q5) (a .q6)
+
+  pub length-is : imageLength s ≡ length s
+  length-is = eqb→eq (imageLength s) (length s) (a .q2)
+
+  yes-of : (c : Bool) → T (not (not c)) → T c
+  yes-of true t = tt
+  yes-of false t = t
+
+  -- the ends of every edge are handsets
+  pub ends-below : (k : ℕ) → k < edgeCount s → (endA (edgeRecords s) k < handsetCount s) × (endB (edgeRecords s) k < handsetCount s)
+  unfolding badEnd
+  ends-below k h =
+      let x : Bool = ltb (endA (edgeRecords s) k) (handsetCount s) in
+      let y : Bool = ltb (endB (edgeRecords s) k) (handsetCount s) in
+      let t : T (x && y) = yes-of (x && y) (a .q8 k h) in
+      (ltb→lt (endA (edgeRecords s) k) (handsetCount s) (and-left x y t), ltb→lt (endB (edgeRecords s) k) (handsetCount s) (and-right x y t))
+
+  -- every coordinate, shifted by 2 ^ 31, keeps its limits
+  in-limits : (x : ℕ) → T (inLimits x) → (2146483648 ≤ x) × (x ≤ 2148483648)
+  in-limits x t =
+      (leb→le 2146483648 x (and-left (leb 2146483648 x) (leb x 2148483648) t), leb→le x 2148483648 (and-right (leb 2146483648 x) (leb x 2148483648) t))
+
+  both-limits : (v : ℕ) → v < handsetCount s → T (inLimits (xAt (handsetRecords s) v) && inLimits (yAt (handsetRecords s) v))
+  unfolding outOfLimits
+  both-limits v h = yes-of (inLimits (xAt (handsetRecords s) v) && inLimits (yAt (handsetRecords s) v)) (a .q7 v h)
+
+  pub x-limits : (v : ℕ) → v < handsetCount s → (2146483648 ≤ xAt (handsetRecords s) v) × (xAt (handsetRecords s) v ≤ 2148483648)
+  x-limits v h =
+      in-limits (xAt (handsetRecords s) v) (and-left (inLimits (xAt (handsetRecords s) v)) (inLimits (yAt (handsetRecords s) v)) (both-limits v h))
+
+  pub y-limits : (v : ℕ) → v < handsetCount s → (2146483648 ≤ yAt (handsetRecords s) v) × (yAt (handsetRecords s) v ≤ 2148483648)
+  y-limits v h =
+      in-limits (yAt (handsetRecords s) v) (and-right (inLimits (xAt (handsetRecords s) v)) (inLimits (yAt (handsetRecords s) v)) (both-limits v h))

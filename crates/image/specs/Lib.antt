@@ -1,0 +1,4 @@
+pub mod Bytes
+pub mod Image
+pub mod Signed
+pub mod Questions

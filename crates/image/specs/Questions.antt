@@ -1,0 +1,124 @@
+-- The ten questions put to an image (paper 01, "Questions put to an image"), and the reader's answer.
+--
+--     headerOf s     the header's numbers, as they stand
+--     openOf s       the questions in the paper's order, each of the whole image before the next: the header, or the number and place of the first no
+--     Accepted s     every question gets a yes (proofs/Acceptance: exactly when the reader answers the header)
+use Prim.Native.Nat.{ℕ, _+_, _*_, _<_}
+use mathlib.Core.Bool.{Bool, true, false, _&&_, _||_, not}
+use mathlib.Core.List.{List}
+use lib.Dec.{T, leb, ltb, eqb}
+use lib.ListN.{length}
+use Rattle.sets.specs.Below.{any, find}
+use Rattle.image.specs.Image.{handsetCount, edgeCount, handsetOffset, edgeOffset, imageLength, limitSquared, epsilonNum, epsilonDen, muField, reserved, handsetRecords, edgeRecords, xAt, yAt, endA, endB, joins}
+use Rattle.image.specs.declared.Header.{Header}
+use Rattle.image.specs.declared.Refusal.{Refusal}
+use Rattle.image.specs.declared.Opened.{Opened}
+use Rattle.image.specs.declared.Opened.the-variants.{Site, Refused}
+
+unfoldable pub headerOf : List ℕ → Header
+unfolding handsetCount edgeCount handsetOffset edgeOffset imageLength limitSquared epsilonNum epsilonDen muField reserved
+headerOf s = record {
+  n = handsetCount s;
+  m = edgeCount s;
+  handsets = handsetOffset s;
+  edges = edgeOffset s;
+  len = imageLength s;
+  limit = limitSquared s;
+  p = epsilonNum s;
+  q = epsilonDen s;
+  mu = muField s;
+  reserved = reserved s;
+}
+
+-- question 3
+unfoldable pub countsFit : Header → Bool
+countsFit h = leb (h .n) 512 && leb (h .m) 4096
+
+-- question 5
+unfoldable pub thresholdsFit : Header → Bool
+thresholdsFit h = leb (h .limit) 8000000000000 && (leb 1 (h .p) && (leb (h .p) (h .q) && (leb (h .q) 1000 && leb (h .mu) 512)))
+
+-- question 6
+unfoldable pub tablesFit : Header → Bool
+tablesFit h =
+    leb 32 (h .handsets) && (leb 32 (h .edges) && (leb (h .handsets + 8 * h .n) (h .len) && (leb (h .edges + 4 * h .m) (h .len)
+    && (leb (h .handsets + 8 * h .n) (h .edges) || leb (h .edges + 4 * h .m) (h .handsets)))))
+
+-- a coordinate, shifted by 2 ^ 31, is from -1,000,000 to 1,000,000
+abbrev pub inLimits : ℕ → Bool
+inLimits x = leb 2146483648 x && leb x 2148483648
+
+-- question 7, of handset v of the handset records
+unfoldable pub outOfLimits : List ℕ → ℕ → Bool
+unfolding xAt yAt
+outOfLimits part v = not (inLimits (xAt part v) && inLimits (yAt part v))
+
+-- question 8, of edge k of the edge records
+unfoldable pub badEnd : List ℕ → ℕ → ℕ → Bool
+unfolding endA endB
+badEnd part n k = not (ltb (endA part k) n && ltb (endB part k) n)
+
+-- question 9
+unfoldable pub isLoop : List ℕ → ℕ → Bool
+unfolding endA endB
+isLoop part k = eqb (endA part k) (endB part k)
+
+-- question 10: edge k joins what an earlier edge joins
+unfoldable pub repeatsEarlier : List ℕ → ℕ → Bool
+unfolding any joins endA endB
+repeatsEarlier part k = any k (joins part (endA part k) (endB part k))
+
+-- a yes goes on; a no is the refusal with its number and place
+unfoldable pub ask : Bool → ℕ → ℕ → Opened → Opened
+ask true number place next = next
+ask false number place next = Refused (record { number = number; place = place })
+
+-- a question to each of n records: its no is at the first bad one
+unfoldable pub askEach : ℕ → (ℕ → Bool) → ℕ → Opened → Opened
+unfolding ask any find
+askEach n bad number next = ask (not (any n bad)) number (find n bad) next
+
+-- questions 7 to 10, of the two tables
+unfoldable pub askRecords : List ℕ → List ℕ → Header → Opened
+unfolding askEach outOfLimits badEnd isLoop repeatsEarlier
+askRecords handsets edges h =
+    askEach (h .n) (outOfLimits handsets) 7
+    (askEach (h .m) (badEnd edges (h .n)) 8
+    (askEach (h .m) (isLoop edges) 9
+    (askEach (h .m) (repeatsEarlier edges) 10
+    (Site h))))
+
+-- questions 3 to 6, of the header
+unfoldable pub askHeader : Header → Opened → Opened
+unfolding ask countsFit thresholdsFit tablesFit
+askHeader h next =
+    ask (countsFit h) 3 0
+    (ask (eqb (h .reserved) 0) 4 0
+    (ask (thresholdsFit h) 5 0
+    (ask (tablesFit h) 6 0
+    next)))
+
+unfoldable pub openOf : List ℕ → Opened
+unfolding ask headerOf askHeader askRecords handsetRecords edgeRecords
+openOf s =
+    ask (leb 32 (length s)) 1 0
+    (ask (eqb (headerOf s .len) (length s)) 2 0
+    (askHeader (headerOf s)
+    (askRecords (handsetRecords s) (edgeRecords s) (headerOf s))))
+
+-- the paper's number and place for each case of the answer; 0 where the image is accepted
+abbrev pub refusalOf : Opened → Refusal
+refusalOf (Site h) = record { number = 0; place = 0 }
+refusalOf (Refused r) = r
+
+pub record Accepted (s : List ℕ) : Type 0 where
+  pub q1 : T (leb 32 (length s))
+  pub q2 : T (eqb (imageLength s) (length s))
+  pub q3 : T (countsFit (headerOf s))
+  pub q4 : T (eqb (reserved s) 0)
+  pub q5 : T (thresholdsFit (headerOf s))
+  pub q6 : T (tablesFit (headerOf s))
+  pub q7 : (v : ℕ) → v < handsetCount s → T (not (outOfLimits (handsetRecords s) v))
+  pub q8 : (k : ℕ) → k < edgeCount s → T (not (badEnd (edgeRecords s) (handsetCount s) k))
+  pub q9 : (k : ℕ) → k < edgeCount s → T (not (isLoop (edgeRecords s) k))
+  pub q10 : (k : ℕ) → k < edgeCount s → T (not (repeatsEarlier (edgeRecords s) k))

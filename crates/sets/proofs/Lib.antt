@@ -1,0 +1,4 @@
+pub mod Tests
+pub mod Counting
+pub mod Selecting
+pub mod Bits

@@ -1,0 +1,36 @@
+// Sets of numbers as bits of 64-bit words: one bit set, cleared or looked at. A number past the last word is in no set.
+//
+// The specs are what every crate above counts by: tests below a bound, bits, renumberings. Their laws are in proofs/.
+ghost use mathlib.Core.Path.{_≡_};
+ghost use lib.Dec.{eqb};
+ghost use Rattle.sets.specs.Bits.{bitAt, withBit, withoutBit};
+
+// Adds i to the set.
+pub fn mark(words: &mut [u64], i: usize)
+    ensures { λ _. ⌜ now (words .exit) ≡ withBit (now (words .entry)) i ⌝ }
+{
+    if i / 64 < words.len() {
+        words[i / 64] = words[i / 64] | (1u64 << (i % 64));
+    }
+}
+
+// Takes i out of the set.
+pub fn unmark(words: &mut [u64], i: usize)
+    ensures { λ _. ⌜ now (words .exit) ≡ withoutBit (now (words .entry)) i ⌝ }
+{
+    if i / 64 < words.len() {
+        let w = words[i / 64];
+        words[i / 64] = w ^ (w & (1u64 << (i % 64)));
+    }
+}
+
+// Whether i is in the set.
+pub fn has(words: &[u64], i: usize) -> bool
+    ensures { λ r. ⌜ r ≡ eqb (bitAt (now (words .entry)) i) 1 ⌝ }
+{
+    if i / 64 < words.len() {
+        (words[i / 64] >> (i % 64)) % 2 == 1
+    } else {
+        false
+    }
+}

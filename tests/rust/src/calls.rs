@@ -1,0 +1,70 @@
+//! The planner's calls and their answers, in the specification's terms. Every implementation offers
+//! the same trait, so that the differential test and the benchmark treat all of them alike.
+
+/// The number of the question that got a no, and its place.
+#[derive(Clone, Copy, Debug, PartialEq, Eq)]
+pub struct Refusal {
+    pub number: u64,
+    pub place: u64,
+}
+
+/// An accepted image: its counts of handsets and of ties.
+#[derive(Clone, Copy, Debug, PartialEq, Eq)]
+pub struct Opened {
+    pub handsets: u64,
+    pub ties: u64,
+}
+
+/// The two counts that a plan answers.
+#[derive(Clone, Copy, Debug, PartialEq, Eq)]
+pub struct Counts {
+    pub communities: u64,
+    pub memberships: u64,
+}
+
+/// A core carries its community's number, a border the count of its communities.
+#[derive(Clone, Copy, Debug, PartialEq, Eq)]
+pub enum Role {
+    Core(u64),
+    Border(u64),
+    Outlier,
+}
+
+/// What the role call says of a handset: the size of its near set, and its role.
+#[derive(Clone, Copy, Debug, PartialEq, Eq)]
+pub struct Record {
+    pub near: u64,
+    pub role: Role,
+}
+
+/// The counts behind the two scores of a list: s, t and o of the specification.
+#[derive(Clone, Copy, Debug, PartialEq, Eq)]
+pub struct Scores {
+    pub pairs: u64,
+    pub tied_pairs: u64,
+    pub leaving: u64,
+}
+
+/// A planner under test.
+pub trait Planner {
+    fn name(&self) -> &'static str;
+
+    fn open(&self, image: &[u8]) -> Result<Opened, Refusal>;
+
+    fn plan(
+        &self,
+        image: &[u8],
+        starts: &mut [u32],
+        members: &mut [u16],
+    ) -> Result<Counts, Refusal>;
+
+    fn role(&self, image: &[u8], handset: u64) -> Result<Record, Refusal>;
+
+    fn scores(&self, image: &[u8], list: &[u16]) -> Result<Scores, Refusal>;
+
+    /// The count of members of a community, which stand in `members` from its start on.
+    fn members(&self, starts: &[u32], members: &[u16], community: u64) -> Result<u64, Refusal>;
+
+    /// The text's length, or the number of the refusal alone, as the C call answers.
+    fn report(&self, image: &[u8], text: &mut [u8]) -> Result<u64, u64>;
+}

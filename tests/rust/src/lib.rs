@@ -1,0 +1,20 @@
+//! Tests by running for the talk-group planner, and its benchmark.
+//!
+//! | module      | what it is for                                                              |
+//! |-------------|-----------------------------------------------------------------------------|
+//! | `calls`     | the planner's calls and answers, one trait for every implementation         |
+//! | `reference` | an independent planner, written for the reader, by the definitions          |
+//! | `fast`      | an optimised unverified planner, the benchmark's opponent                   |
+//! | `ffi`       | the proved planner, through its C interface (feature `proved`)              |
+//! | `sites`     | sites to try, their images, and renumberings of images                      |
+//! | `damage`    | damaged images                                                              |
+//! | `compare`   | one image through every call of a planner, compared with the reference      |
+
+pub mod calls;
+pub mod compare;
+pub mod damage;
+pub mod fast;
+#[cfg(feature = "proved")]
+pub mod ffi;
+pub mod reference;
+pub mod sites;
