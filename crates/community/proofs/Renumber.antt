@@ -11,11 +11,20 @@ use lib.ListN.{length, getD}
 use Rattle.sets.specs.Below.{any, count, select}
 use Rattle.sets.proofs.Tests.{and-make, and-left, and-right, T-ext}
 use Rattle.sets.proofs.Selecting.{length-select}
-use Rattle.sets.proofs.Counting.{count-cong, count-across, count-pairs, Pairs, Renumbering, inverse}
-use Rattle.community.specs.Network.{Network, neighbourhoodSize, commonNeighbours, meetsEpsilon, similar, isCore, step, Reachable, one, more, reachable, isLeader, members, communities, leadersReaching}
+use Rattle.sets.specs.Renumbering.{Renumbering}
+use Rattle.sets.proofs.Counting.{count-cong, count-across, count-pairs, Pairs, inverse}
+use Rattle.community.specs.Network.{Network, neighbourhoodSize, commonNeighbours, meetsEpsilon, similar, isCore, step, Reachable, one, more, reachable, IsCommunity, isLeader, leaders, members, communities}
 use Rattle.community.proofs.Reachability.{Reachable-trans, from-below, to-below, reachable-sound, reachable-complete}
 use Rattle.community.proofs.Similarity.{Sound, reaches-core, core-self, Reachable-back}
-use Rattle.community.proofs.Communities.{IsCommunity, Listed, exactly, leader-of, leader-one, leader-core, length-communities}
+use Rattle.community.proofs.Communities.{Listed, exactly, leader-of, leader-one, leader-core, length-communities}
+
+-- how many leaders reach v: the count of its communities (proofs/Roles)
+unfoldable pub leadersReaching : Network → ℕ → ℕ
+leadersReaching g v = count (g .n) (λ u. isLeader g u && reachable g u v)
+
+pub length-leaders : (g : Network) → length (leaders g) ≡ count (g .n) (isLeader g)
+unfolding leaders
+length-leaders g = length-select (g .n) (isLeader g)
 
 -- g with another neighbour relation
 abbrev pub withNeighbour : Network → (ℕ → ℕ → Bool) → Network
@@ -151,10 +160,10 @@ module _ (g : Network) (b : ℕ → ℕ → Bool) (r : Renumbering (g .n)) (move
   pub length-communities-moved : length (communities g) ≡ length (communities (withNeighbour g b))
   unfolding Same
   length-communities-moved =
-      length-communities g ∙ length-select (g .n) (isLeader g)
+      length-communities g ∙ length-leaders g
       ∙ count-cong (g .n) (isLeader g) (λ u. isLeader g u && true) (λ u h. sym (and-true (isLeader g u)))
       ∙ le-antisymm
       (leaders-le g b r moved ok ok′ (λ u. true) (λ u. true) (λ u w hu hw t s x. tt))
       (leaders-le (withNeighbour g b) (g .neighbour) (inverse r) (back-moved g b r moved) ok′ ok (λ u. true) (λ u. true) (λ u w hu hw t s x. tt))
       ∙ count-cong (g .n) (λ u. isLeader (withNeighbour g b) u && true) (isLeader (withNeighbour g b)) (λ u h. and-true (isLeader (withNeighbour g b) u))
-      ∙ sym (length-communities (withNeighbour g b) ∙ length-select (g .n) (isLeader (withNeighbour g b)))
+      ∙ sym (length-communities (withNeighbour g b) ∙ length-leaders (withNeighbour g b))

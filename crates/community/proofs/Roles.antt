@@ -10,11 +10,14 @@ use lib.ListN.{length, getD}
 use Rattle.sets.specs.Below.{count, select, bit}
 use Rattle.sets.proofs.Tests.{T-ext, T-true, T-false, decide, or-left, or-right, or-cases, and-left, and-right}
 use Rattle.sets.proofs.Selecting.{mem-select, select-mem, select-yes, select-no}
-use Rattle.sets.proofs.Counting.{Renumbering, bit-true, bit-false}
-use Rattle.community.specs.Network.{Network, isCore, reachable, isLeader, members, communities, contains, communityNumber, membershipCount, leadersReaching, role, Role, Core, Border, Outlier, borderOf}
+use Rattle.sets.specs.Renumbering.{Renumbering}
+use Rattle.sets.proofs.Counting.{count-cong, bit-true, bit-false}
+use Rattle.community.specs.Network.{Network, isCore, reachable, isLeader, members, communities, contains, communityNumber, membershipCount, leaders, role, borderOf}
+use Rattle.community.specs.declared.Role.{Role}
+use Rattle.community.specs.declared.Role.the-variants.{Core, Border, Outlier}
 use Rattle.community.proofs.Similarity.{Sound}
 use Rattle.community.proofs.Communities.{core-once}
-use Rattle.community.proofs.Renumber.{withNeighbour, Moved, core-moved, leadersReaching-moved}
+use Rattle.community.proofs.Renumber.{withNeighbour, Moved, leadersReaching, core-moved, leadersReaching-moved}
 
 pub contains-mem : (v : ℕ) (l : List ℕ) → T (contains v l) → List·Memᴰ v l
 unfolding contains
@@ -75,10 +78,10 @@ contains-members g u v h =
 
 -- the count of a handset's communities
 pub times-law : (g : Network) (v : ℕ) → v < g .n → membershipCount v (communities g) ≡ leadersReaching g v
-unfolding communities leadersReaching
+unfolding communities leaders leadersReaching
 times-law g v h =
     times-select (g .n) v (isLeader g) (members g)
-    ∙ Rattle.sets.proofs.Counting.count-cong (g .n) (λ u. isLeader g u && contains v (members g u)) (λ u. isLeader g u && reachable g u v)
+    ∙ count-cong (g .n) (λ u. isLeader g u && contains v (members g u)) (λ u. isLeader g u && reachable g u v)
     (λ u l. ap (λ (b : Bool). isLeader g u && b) (contains-members g u v h))
 
 -- the number of a core's community

@@ -1,0 +1,70 @@
+-- The examples of paper 01 that are theorems of the definitions, marked there with a diamond, from the images' bytes: one list. The proof is proofs/Examples.
+use Prim.Native.Nat.{ℕ, zero, suc, _+_, _*_, _/_, _%_}
+use mathlib.Core.Path.{_≡_}
+use mathlib.Core.Bool.{Bool, true, false}
+use mathlib.Core.List.{List, [], _∷_}
+use Rattle.image.specs.Image.{neighbour}
+use Rattle.image.specs.Questions.{openOf, headerOf}
+use Rattle.image.specs.declared.Opened.{Opened}
+use Rattle.image.specs.declared.Opened.the-variants.{Site}
+use Rattle.community.specs.Network.{neighbourhoodSize, commonNeighbours, similar, cores, communities, role}
+use Rattle.community.specs.Tables.{startTable}
+use Rattle.community.specs.Site.{network}
+use Rattle.community.specs.declared.Role.{Role}
+use Rattle.community.specs.declared.Role.the-variants.{Core, Border, Outlier}
+
+-- site S with epsilon p/q and mu m
+abbrev pub siteS : ℕ → ℕ → ℕ → List ℕ
+siteS p q m = 7 ∷ 0 ∷ 8 ∷ 0 ∷ 32 ∷ 0 ∷ 0 ∷ 0 ∷ 88 ∷ 0 ∷ 0 ∷ 0 ∷ 120 ∷ 0 ∷ 0 ∷ 0 ∷ 0 ∷ 0 ∷ 0 ∷ 0 ∷ 0 ∷ 0 ∷ 0 ∷ 0 ∷ p % 256 ∷ p / 256 ∷ q % 256 ∷ q / 256 ∷ m ∷ 0 ∷ 0 ∷ 0 ∷ 0 ∷ 0 ∷ 0 ∷ 0 ∷ 0 ∷ 0 ∷ 0 ∷ 0 ∷ 0 ∷ 0 ∷ 0 ∷ 0 ∷ 0 ∷ 0 ∷ 0 ∷ 0 ∷ 0 ∷ 0 ∷ 0 ∷ 0 ∷ 0 ∷ 0 ∷ 0 ∷ 0 ∷ 0 ∷ 0 ∷ 0 ∷ 0 ∷ 0 ∷ 0 ∷ 0 ∷ 0 ∷ 0 ∷ 0 ∷ 0 ∷ 0 ∷ 0 ∷ 0 ∷ 0 ∷ 0 ∷ 0 ∷ 0 ∷ 0 ∷ 0 ∷ 0 ∷ 0 ∷ 0 ∷ 0 ∷ 0 ∷ 0 ∷ 0 ∷ 0 ∷ 0 ∷ 0 ∷ 0 ∷ 0 ∷ 0 ∷ 0 ∷ 1 ∷ 0 ∷ 0 ∷ 0 ∷ 2 ∷ 0 ∷ 1 ∷ 0 ∷ 2 ∷ 0 ∷ 2 ∷ 0 ∷ 3 ∷ 0 ∷ 3 ∷ 0 ∷ 4 ∷ 0 ∷ 4 ∷ 0 ∷ 5 ∷ 0 ∷ 4 ∷ 0 ∷ 6 ∷ 0 ∷ 5 ∷ 0 ∷ 6 ∷ 0 ∷ []
+
+-- two handsets, tied, at (0, 0) and (1, 2)
+abbrev pub pair : ℕ → List ℕ
+pair G = 2 ∷ 0 ∷ 1 ∷ 0 ∷ 32 ∷ 0 ∷ 0 ∷ 0 ∷ 48 ∷ 0 ∷ 0 ∷ 0 ∷ 52 ∷ 0 ∷ 0 ∷ 0 ∷ G ∷ 0 ∷ 0 ∷ 0 ∷ 0 ∷ 0 ∷ 0 ∷ 0 ∷ 1 ∷ 0 ∷ 2 ∷ 0 ∷ 3 ∷ 0 ∷ 0 ∷ 0 ∷ 0 ∷ 0 ∷ 0 ∷ 0 ∷ 0 ∷ 0 ∷ 0 ∷ 0 ∷ 1 ∷ 0 ∷ 0 ∷ 0 ∷ 2 ∷ 0 ∷ 0 ∷ 0 ∷ 0 ∷ 0 ∷ 1 ∷ 0 ∷ []
+
+-- two handsets, tied, at (-1, -1) and (0, 1)
+abbrev pub pairNeg : ℕ → List ℕ
+pairNeg G = 2 ∷ 0 ∷ 1 ∷ 0 ∷ 32 ∷ 0 ∷ 0 ∷ 0 ∷ 48 ∷ 0 ∷ 0 ∷ 0 ∷ 52 ∷ 0 ∷ 0 ∷ 0 ∷ G ∷ 0 ∷ 0 ∷ 0 ∷ 0 ∷ 0 ∷ 0 ∷ 0 ∷ 1 ∷ 0 ∷ 2 ∷ 0 ∷ 3 ∷ 0 ∷ 0 ∷ 0 ∷ 255 ∷ 255 ∷ 255 ∷ 255 ∷ 255 ∷ 255 ∷ 255 ∷ 255 ∷ 0 ∷ 0 ∷ 0 ∷ 0 ∷ 1 ∷ 0 ∷ 0 ∷ 0 ∷ 1 ∷ 0 ∷ 0 ∷ 0 ∷ []
+
+-- no handset
+abbrev pub nobody : List ℕ
+nobody = 0 ∷ 0 ∷ 0 ∷ 0 ∷ 32 ∷ 0 ∷ 0 ∷ 0 ∷ 32 ∷ 0 ∷ 0 ∷ 0 ∷ 32 ∷ 0 ∷ 0 ∷ 0 ∷ 0 ∷ 0 ∷ 0 ∷ 0 ∷ 0 ∷ 0 ∷ 0 ∷ 0 ∷ 1 ∷ 0 ∷ 2 ∷ 0 ∷ 3 ∷ 0 ∷ 0 ∷ 0 ∷ []
+
+-- one handset
+abbrev pub lone : ℕ → List ℕ
+lone m = 1 ∷ 0 ∷ 0 ∷ 0 ∷ 32 ∷ 0 ∷ 0 ∷ 0 ∷ 40 ∷ 0 ∷ 0 ∷ 0 ∷ 40 ∷ 0 ∷ 0 ∷ 0 ∷ 0 ∷ 0 ∷ 0 ∷ 0 ∷ 0 ∷ 0 ∷ 0 ∷ 0 ∷ 1 ∷ 0 ∷ 2 ∷ 0 ∷ m ∷ 0 ∷ 0 ∷ 0 ∷ 0 ∷ 0 ∷ 0 ∷ 0 ∷ 0 ∷ 0 ∷ 0 ∷ 0 ∷ []
+
+abbrev pub seven : List ℕ
+seven = 0 ∷ 1 ∷ 2 ∷ 3 ∷ 4 ∷ 5 ∷ 6 ∷ []
+
+pub record Examples : Type 0 where
+  -- mu 4: cores 2 and 4; groups {0,1,2,3} and {3,4,5,6}; handset 3 is border in two
+  pub accepted-S : openOf (siteS 1 2 4) ≡ Site (headerOf (siteS 1 2 4))
+  pub cores-mu4 : cores (network (siteS 1 2 4)) ≡ 2 ∷ 4 ∷ []
+  pub communities-mu4 : communities (network (siteS 1 2 4)) ≡ (0 ∷ 1 ∷ 2 ∷ 3 ∷ []) ∷ (3 ∷ 4 ∷ 5 ∷ 6 ∷ []) ∷ []
+  pub border-mu4 : role (network (siteS 1 2 4)) 3 ≡ Border 2
+  -- mu 3, and mu 0: all cores, one group of seven
+  pub cores-mu3 : cores (network (siteS 1 2 3)) ≡ seven
+  pub communities-mu3 : communities (network (siteS 1 2 3)) ≡ seven ∷ []
+  pub cores-mu0 : cores (network (siteS 1 2 0)) ≡ seven
+  pub communities-mu0 : communities (network (siteS 1 2 0)) ≡ seven ∷ []
+  -- epsilon 3/5, mu 3: groups {0,1,2} and {4,5,6}; 3 is an outlier
+  pub communities-eps35 : communities (network (siteS 3 5 3)) ≡ (0 ∷ 1 ∷ 2 ∷ []) ∷ (4 ∷ 5 ∷ 6 ∷ []) ∷ []
+  pub outlier-eps35 : role (network (siteS 3 5 3)) 3 ≡ Outlier
+  -- 2 and 3 have c = 2, a = 4, b = 3: alike at 577/1000, not at 578/1000
+  pub common-2-3 : commonNeighbours (network (siteS 577 1000 4)) 2 3 ≡ 2
+  pub size-2 : neighbourhoodSize (network (siteS 577 1000 4)) 2 ≡ 4
+  pub size-3 : neighbourhoodSize (network (siteS 577 1000 4)) 3 ≡ 3
+  pub similar-577 : similar (network (siteS 577 1000 4)) 2 3 ≡ true
+  pub dissimilar-578 : similar (network (siteS 578 1000 4)) 2 3 ≡ false
+  -- tied at (0,0) and (1,2): near at G = 5, not at 4; the same at (-1,-1) and (0,1)
+  pub near-5 : neighbour (pair 5) 0 1 ≡ true
+  pub far-4 : neighbour (pair 4) 0 1 ≡ false
+  pub near-5-negative : neighbour (pairNeg 5) 0 1 ≡ true
+  pub far-4-negative : neighbour (pairNeg 4) 0 1 ≡ false
+  -- n = 0: no groups, start table 0
+  pub accepted-nobody : openOf nobody ≡ Site (headerOf nobody)
+  pub communities-nobody : communities (network nobody) ≡ []
+  pub starts-nobody : startTable (communities (network nobody)) ≡ 0 ∷ []
+  -- n = 1, mu 1: one group {0}; mu 2: an outlier
+  pub communities-lone : communities (network (lone 1)) ≡ (0 ∷ []) ∷ []
+  pub outlier-lone : role (network (lone 2)) 0 ≡ Outlier

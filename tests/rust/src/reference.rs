@@ -1,0 +1,455 @@
+//! An independent planner, written from the specification and from Yao, Papadias and Bakiras,
+//! "Density-based Community Detection in Geo-Social Networks" (2019). It is meant to be read beside
+//! them: hash sets and a breadth-first search as in the article's Algorithm 1, and nothing clever.
+//! Definition numbers are the article's.
+
+use std::collections::{BTreeSet, HashMap, HashSet, VecDeque};
+
+use crate::calls::{Counts, Opened, Planner, Record, Refusal, Role, Scores};
+
+const HEADER: usize = 32;
+const MOST_HANDSETS: usize = 512;
+const MOST_TIES: usize = 4096;
+const MOST_GAMMA_SQUARED: u64 = 8_000_000_000_000;
+const MOST_COORDINATE: i64 = 1_000_000;
+const MOST_DENOMINATOR: u64 = 1000;
+const MOST_MU: usize = 512;
+const MU_FOR_ZERO: usize = 3;
+const PROGRAM_INPUT: usize = 65_536;
+const PROGRAM_TEXT: usize = 65_536;
+
+/// An accepted image.
+#[derive(Clone, Debug, PartialEq, Eq)]
+pub struct Site {
+    pub positions: Vec<(i64, i64)>,
+    pub ties: Vec<(usize, usize)>,
+    pub gamma_squared: u64,
+    /// Numerator and denominator.
+    pub epsilon: (u64, u64),
+    /// Never 0: what a 0 means is already put in its place.
+    pub mu: usize,
+}
+
+// ---------------------------------------------------------------- the questions put to an image
+
+/// The site, or the first question of 1 to 10 that gets a no.
+pub fn open(image: &[u8]) -> Result<Site, Refusal> {
+    ask(1, image.len() >= HEADER)?;
+    let header = Header::read(image);
+    ask(2, header.length == image.len())?;
+    ask(3, header.handsets <= MOST_HANDSETS && header.ties <= MOST_TIES)?;
+    ask(4, header.zero == 0)?;
+    ask(5, header.limits_hold())?;
+    ask(6, header.tables_fit())?;
+    let positions = header.positions(image);
+    ask_each(7, positions.iter().map(|&(x, y)| in_area(x) && in_area(y)))?;
+    let ties = header.tie_records(image);
+    let known = |handset| handset < header.handsets;
+    ask_each(8, ties.iter().map(|&(u, v)| known(u) && known(v)))?;
+    ask_each(9, ties.iter().map(|&(u, v)| u != v))?;
+    let mut seen = HashSet::new();
+    ask_each(10, ties.iter().map(|&(u, v)| seen.insert(pair(u, v))))?;
+    Ok(Site {
+        positions,
+        ties,
+        gamma_squared: header.gamma_squared,
+        epsilon: (header.p, header.q),
+        mu: if header.mu == 0 { MU_FOR_ZERO } else { header.mu },
+    })
+}
+
+/// One question that is put to the whole; its place is 0.
+fn ask(number: u64, yes: bool) -> Result<(), Refusal> {
+    ask_each(number, [yes].into_iter())
+}
+
+/// One question that is put to each of several in turn; its place is that of the first no.
+fn ask_each(number: u64, mut answers: impl Iterator<Item = bool>) -> Result<(), Refusal> {
+    match answers.position(|yes| !yes) {
+        None => Ok(()),
+        Some(place) => Err(Refusal { number, place: place as u64 }),
+    }
+}
+
+fn in_area(coordinate: i64) -> bool {
+    (-MOST_COORDINATE..=MOST_COORDINATE).contains(&coordinate)
+}
+
+/// The two ends of a tie without direction.
+fn pair(u: usize, v: usize) -> (usize, usize) {
+    (u.min(v), u.max(v))
+}
+
+/// The header's fields as they stand.
+struct Header {
+    handsets: usize,
+    ties: usize,
+    handsets_at: usize,
+    ties_at: usize,
+    length: usize,
+    gamma_squared: u64,
+    p: u64,
+    q: u64,
+    mu: usize,
+    zero: u64,
+}
+
+impl Header {
+    fn read(image: &[u8]) -> Header {
+        let field = |at: usize, width: usize| unsigned(&image[at..at + width]);
+        Header {
+            handsets: field(0, 2) as usize,
+            ties: field(2, 2) as usize,
+            handsets_at: field(4, 4) as usize,
+            ties_at: field(8, 4) as usize,
+            length: field(12, 4) as usize,
+            gamma_squared: field(16, 8),
+            p: field(24, 2),
+            q: field(26, 2),
+            mu: field(28, 2) as usize,
+            zero: field(30, 2),
+        }
+    }
+
+    fn limits_hold(&self) -> bool {
+        self.gamma_squared <= MOST_GAMMA_SQUARED
+            && 1 <= self.p
+            && self.p <= self.q
+            && self.q <= MOST_DENOMINATOR
+            && self.mu <= MOST_MU
+    }
+
+    fn handsets_end(&self) -> usize {
+        self.handsets_at + 8 * self.handsets
+    }
+
+    fn ties_end(&self) -> usize {
+        self.ties_at + 4 * self.ties
+    }
+
+    fn tables_fit(&self) -> bool {
+        self.handsets_at >= HEADER
+            && self.ties_at >= HEADER
+            && self.handsets_end() <= self.length
+            && self.ties_end() <= self.length
+            && (self.handsets_end() <= self.ties_at || self.ties_end() <= self.handsets_at)
+    }
+
+    fn positions(&self, image: &[u8]) -> Vec<(i64, i64)> {
+        image[self.handsets_at..self.handsets_end()]
+            .chunks(8)
+            .map(|record| (signed(&record[..4]), signed(&record[4..])))
+            .collect()
+    }
+
+    fn tie_records(&self, image: &[u8]) -> Vec<(usize, usize)> {
+        image[self.ties_at..self.ties_end()]
+            .chunks(4)
+            .map(|record| (unsigned(&record[..2]) as usize, unsigned(&record[2..]) as usize))
+            .collect()
+    }
+}
+
+/// Little-endian.
+fn unsigned(bytes: &[u8]) -> u64 {
+    bytes.iter().rev().fold(0, |value, &byte| 256 * value + u64::from(byte))
+}
+
+/// Two's complement in four bytes, little-endian.
+fn signed(bytes: &[u8]) -> i64 {
+    let value = unsigned(bytes) as i64;
+    if value < 1 << 31 {
+        value
+    } else {
+        value - (1 << 32)
+    }
+}
+
+// ---------------------------------------------------------------- communities and roles
+
+/// A community: its cores, and all its members, the cores among them.
+#[derive(Clone, Debug, Default, PartialEq, Eq)]
+pub struct Community {
+    pub cores: BTreeSet<usize>,
+    pub members: BTreeSet<usize>,
+}
+
+/// A site with everything that the calls ask of it.
+pub struct Findings {
+    site: Site,
+    tied: HashSet<(usize, usize)>,
+    near: Vec<HashSet<usize>>,
+    communities: Vec<Community>,
+}
+
+impl Findings {
+    pub fn of(site: Site) -> Findings {
+        let near = near_sets(&site);
+        let communities = communities(&site, &near);
+        let tied = site.ties.iter().map(|&(u, v)| pair(u, v)).collect();
+        Findings { site, tied, near, communities }
+    }
+
+    pub fn site(&self) -> &Site {
+        &self.site
+    }
+
+    /// By smallest core.
+    pub fn communities(&self) -> &[Community] {
+        &self.communities
+    }
+
+    pub fn start_table(&self) -> Vec<u32> {
+        let mut table = vec![0];
+        for community in &self.communities {
+            table.push(table[table.len() - 1] + community.members.len() as u32);
+        }
+        table
+    }
+
+    pub fn member_table(&self) -> Vec<u16> {
+        let members = self.communities.iter().flat_map(|community| &community.members);
+        members.map(|&handset| handset as u16).collect()
+    }
+
+    /// The near count and the role of a handset (3.2, 3.5, 3.11, 3.12), or refusal 13.
+    pub fn record(&self, handset: u64) -> Result<Record, Refusal> {
+        ask(13, handset < self.near.len() as u64)?;
+        let handset = handset as usize;
+        let core_in = self.communities.iter().position(|c| c.cores.contains(&handset));
+        let count = self.communities.iter().filter(|c| c.members.contains(&handset)).count();
+        let role = match core_in {
+            Some(number) => Role::Core(number as u64),
+            None if count > 0 => Role::Border(count as u64),
+            None => Role::Outlier,
+        };
+        Ok(Record { near: self.near[handset].len() as u64, role })
+    }
+
+    /// The counts behind the scores of a list (section 5.3), or refusal 13.
+    pub fn scores(&self, list: &[u16]) -> Result<Scores, Refusal> {
+        let known = |handset: u16| usize::from(handset) < self.near.len();
+        ask_each(13, list.iter().enumerate().map(|(i, &h)| known(h) && i < MOST_HANDSETS))?;
+        let mut scores = Scores { pairs: 0, tied_pairs: 0, leaving: 0 };
+        for (i, &u) in list.iter().enumerate() {
+            for &v in &list[i + 1..] {
+                scores.pairs += 1;
+                scores.tied_pairs += u64::from(self.tied.contains(&pair(u.into(), v.into())));
+            }
+        }
+        let named: HashSet<usize> = list.iter().map(|&handset| handset.into()).collect();
+        let leaving = |&&(u, v): &&(usize, usize)| named.contains(&u) != named.contains(&v);
+        scores.leaving = self.site.ties.iter().filter(leaving).count() as u64;
+        Ok(scores)
+    }
+}
+
+/// The geo-social neighbourhood of each handset, itself included (3.2).
+fn near_sets(site: &Site) -> Vec<HashSet<usize>> {
+    let mut near: Vec<HashSet<usize>> =
+        (0..site.positions.len()).map(|handset| HashSet::from([handset])).collect();
+    for &(u, v) in &site.ties {
+        if squared_distance(site.positions[u], site.positions[v]) <= site.gamma_squared {
+            near[u].insert(v);
+            near[v].insert(u);
+        }
+    }
+    near
+}
+
+fn squared_distance((x, y): (i64, i64), (other_x, other_y): (i64, i64)) -> u64 {
+    x.abs_diff(other_x).pow(2) + y.abs_diff(other_y).pow(2)
+}
+
+/// Algorithm 1. A border that an earlier community took is taken by a later one as well.
+fn communities(site: &Site, near: &[HashSet<usize>]) -> Vec<Community> {
+    let mut known = HashMap::new();
+    let mut processed = HashSet::new();
+    let mut found = Vec::new();
+    for first in 0..near.len() {
+        let mut community = Community::default();
+        let mut queue = VecDeque::from([first]);
+        while let Some(handset) = queue.pop_front() {
+            if !processed.insert(handset) {
+                continue;
+            }
+            let alike = epsilon_neighbourhood(site, near, handset, &mut known);
+            if alike.len() >= site.mu {
+                community.cores.insert(handset);
+                community.members.extend(&alike);
+                queue.extend(alike.iter().filter(|other| !processed.contains(other)));
+            }
+        }
+        if !community.cores.is_empty() {
+            found.push(community);
+        }
+    }
+    found.sort_by_key(|community| community.cores.first().copied());
+    found
+}
+
+/// Algorithm 2: those near to `handset` and alike to it, itself among them (3.4). `known` keeps the
+/// likeness of each two handsets that were tested.
+fn epsilon_neighbourhood(
+    site: &Site,
+    near: &[HashSet<usize>],
+    handset: usize,
+    known: &mut HashMap<(usize, usize), bool>,
+) -> Vec<usize> {
+    let mut alike = |other: usize| {
+        let test = || is_similar(site.epsilon, &near[handset], &near[other]);
+        *known.entry(pair(handset, other)).or_insert_with(test)
+    };
+    near[handset].iter().copied().filter(|&other| alike(other)).collect()
+}
+
+/// Similarity at least epsilon (3.3), c / sqrt(a b) >= p / q, without the root.
+fn is_similar((p, q): (u64, u64), one: &HashSet<usize>, other: &HashSet<usize>) -> bool {
+    let common = one.intersection(other).count() as u64;
+    let (a, b) = (one.len() as u64, other.len() as u64);
+    common.pow(2) * q.pow(2) >= p.pow(2) * a * b
+}
+
+// ---------------------------------------------------------------- the other calls
+
+/// The plan's questions 11 and 12, put to the lengths of the lent tables.
+pub fn ask_tables(
+    findings: &Findings,
+    starts_len: usize,
+    members_len: usize,
+) -> Result<Counts, Refusal> {
+    let (starts, members) = (findings.start_table(), findings.member_table());
+    ask(11, starts_len >= starts.len())?;
+    ask(12, members_len >= members.len())?;
+    Ok(Counts {
+        communities: starts.len() as u64 - 1,
+        memberships: members.len() as u64,
+    })
+}
+
+/// The part of the member table that holds a community, or refusal 14.
+pub fn members<'a>(
+    starts: &[u32],
+    members: &'a [u16],
+    community: u64,
+) -> Result<&'a [u16], Refusal> {
+    let place = |number: u64| {
+        let number = usize::try_from(number).ok()?;
+        starts.get(number).map(|&start| start as usize)
+    };
+    let first = place(community);
+    let end = community.checked_add(1).and_then(place);
+    let part = first.zip(end).and_then(|(first, end)| members.get(first..end));
+    part.ok_or(Refusal { number: 14, place: 0 })
+}
+
+/// The report on an accepted image.
+pub fn text(findings: &Findings) -> Vec<u8> {
+    let site = findings.site();
+    let mut text = format!(
+        "handsets {} ties {} groups {} memberships {}\n",
+        site.positions.len(),
+        site.ties.len(),
+        findings.communities().len(),
+        findings.member_table().len()
+    );
+    for (number, community) in findings.communities().iter().enumerate() {
+        let list: Vec<u16> = community.members.iter().map(|&handset| handset as u16).collect();
+        let scores = findings.scores(&list).expect("members are handsets of the site");
+        let Scores { pairs: s, tied_pairs: t, leaving: o } = scores;
+        let density = score(s.saturating_sub(t), s);
+        let conductance = score(o, 2 * t + o);
+        text += &format!("group {number} density {density} conductance {conductance}:");
+        text += &numbers(community.members.iter().copied());
+    }
+    let with_role = |wanted: fn(Role) -> bool| {
+        let handsets = 0..site.positions.len();
+        let role = |handset: usize| findings.record(handset as u64).expect("a handset").role;
+        numbers(handsets.filter(move |&handset| wanted(role(handset))))
+    };
+    text += "cores:";
+    text += &with_role(|role| matches!(role, Role::Core(_)));
+    text += "outliers:";
+    text += &with_role(|role| role == Role::Outlier);
+    text.into_bytes()
+}
+
+/// A score that is not reduced; none where the divisor is 0.
+fn score(dividend: u64, divisor: u64) -> String {
+    if divisor == 0 {
+        "-".to_string()
+    } else {
+        format!("{dividend}/{divisor}")
+    }
+}
+
+/// Each number with a space before it, and the end of the line.
+fn numbers(handsets: impl Iterator<Item = usize>) -> String {
+    let mut line: String = handsets.map(|handset| format!(" {handset}")).collect();
+    line.push('\n');
+    line
+}
+
+/// The report with its own refusals: 1 to 10, and 16 where the text is longer than the buffer.
+pub fn report(image: &[u8], buffer: usize) -> Result<Vec<u8>, Refusal> {
+    let text = text(&Findings::of(open(image)?));
+    ask(16, text.len() <= buffer)?;
+    Ok(text)
+}
+
+/// What the report program prints for its standard input.
+pub fn program(input: &[u8]) -> Vec<u8> {
+    let report = ask(15, input.len() <= PROGRAM_INPUT).and_then(|()| report(input, PROGRAM_TEXT));
+    report.unwrap_or_else(|Refusal { number, place }| {
+        format!("refused {number} {place}\n").into_bytes()
+    })
+}
+
+/// The reference behind the trait, for the benchmark.
+pub struct Reference;
+
+impl Planner for Reference {
+    fn name(&self) -> &'static str {
+        "reference"
+    }
+
+    fn open(&self, image: &[u8]) -> Result<Opened, Refusal> {
+        let site = open(image)?;
+        Ok(Opened {
+            handsets: site.positions.len() as u64,
+            ties: site.ties.len() as u64,
+        })
+    }
+
+    fn plan(
+        &self,
+        image: &[u8],
+        starts: &mut [u32],
+        members: &mut [u16],
+    ) -> Result<Counts, Refusal> {
+        let findings = Findings::of(open(image)?);
+        let counts = ask_tables(&findings, starts.len(), members.len())?;
+        let (start_table, member_table) = (findings.start_table(), findings.member_table());
+        starts[..start_table.len()].copy_from_slice(&start_table);
+        members[..member_table.len()].copy_from_slice(&member_table);
+        Ok(counts)
+    }
+
+    fn role(&self, image: &[u8], handset: u64) -> Result<Record, Refusal> {
+        Findings::of(open(image)?).record(handset)
+    }
+
+    fn scores(&self, image: &[u8], list: &[u16]) -> Result<Scores, Refusal> {
+        Findings::of(open(image)?).scores(list)
+    }
+
+    fn members(&self, starts: &[u32], table: &[u16], community: u64) -> Result<u64, Refusal> {
+        members(starts, table, community).map(|part| part.len() as u64)
+    }
+
+    fn report(&self, image: &[u8], text: &mut [u8]) -> Result<u64, u64> {
+        let whole = report(image, text.len()).map_err(|refusal| refusal.number)?;
+        text[..whole.len()].copy_from_slice(&whole);
+        Ok(whole.len() as u64)
+    }
+}
