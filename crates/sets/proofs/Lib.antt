@@ -2,3 +2,4 @@ pub mod Tests
 pub mod Counting
 pub mod Selecting
 pub mod Bits
+pub mod Writing

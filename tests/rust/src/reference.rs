@@ -357,7 +357,7 @@ pub fn text(findings: &Findings) -> Vec<u8> {
         let list: Vec<u16> = community.members.iter().map(|&handset| handset as u16).collect();
         let scores = findings.scores(&list).expect("members are handsets of the site");
         let Scores { pairs: s, tied_pairs: t, leaving: o } = scores;
-        let density = score(s.saturating_sub(t), s);
+        let density = score(s - t, s);
         let conductance = score(o, 2 * t + o);
         text += &format!("group {number} density {density} conductance {conductance}:");
         text += &numbers(community.members.iter().copied());

@@ -1,0 +1,70 @@
+-- What the calls for a plan and for a role answer, and what the lent tables hold after them (paper 01, "Questions put to an image", "Reached, and the groups").
+--
+--     planOf s a b          the answer for an image and the two tables' lengths: its refusal, 11, 12, or the counts of groups and memberships
+--     startsAfter s l b     the start table after the call, where it was l and the member table has length b
+--     membersAfter s a l    the member table after the call
+--     knownOf s v           the role call's answer: the image's refusal, 13, or the near count and the role
+use Prim.Native.Nat.{ℕ}
+use mathlib.Core.Bool.{Bool, true, false, cond}
+use mathlib.Core.List.{List, _++_}
+use lib.Dec.{leb, ltb}
+use lib.ListN.{length, drop}
+use Rattle.image.specs.Questions.{openOf}
+use Rattle.image.specs.declared.Refusal.{Refusal}
+use Rattle.image.specs.declared.Opened.{Opened}
+use Rattle.image.specs.declared.Opened.the-variants as O
+use Rattle.community.specs.Network.{neighbourhoodSize, communities, role}
+use Rattle.community.specs.Tables.{startTable, memberTable}
+use Rattle.community.specs.Site.{network}
+use Rattle.community.specs.declared.Standing.{Standing}
+use Rattle.planner.specs.declared.Planned.{Planned}
+use Rattle.planner.specs.declared.Planned.the-variants as P
+use Rattle.planner.specs.declared.Known.{Known}
+use Rattle.planner.specs.declared.Known.the-variants as K
+
+-- the image's communities
+unfoldable pub communitiesOf : List ℕ → List (List ℕ)
+communitiesOf s = communities (network s)
+
+-- an outcome by questions 11 and 12, for a start table of length a and a member table of length b
+abbrev pub byRoom : {X : Type 0} → List (List ℕ) → ℕ → ℕ → X → X → X → X
+byRoom gs a b short11 short12 made = cond (ltb (length gs) a) (cond (leb (length (memberTable gs)) b) made short12) short11
+
+abbrev pub refusal : ℕ → Refusal
+refusal k = record { number = k; place = 0 }
+
+abbrev pub planned : List (List ℕ) → ℕ → ℕ → Planned
+planned gs a b = byRoom gs a b (P.Refused (refusal 11)) (P.Refused (refusal 12)) (P.Made (length gs) (length (memberTable gs)))
+
+abbrev pub planFor : List ℕ → Opened → ℕ → ℕ → Planned
+planFor s (O.Site h) a b = planned (communitiesOf s) a b
+planFor s (O.Refused r) a b = P.Refused r
+
+unfoldable pub planOf : List ℕ → ℕ → ℕ → Planned
+planOf s a b = planFor s (openOf s) a b
+
+-- a table that begins with new entries, and past them holds what it held
+abbrev pub over : List ℕ → List ℕ → List ℕ
+over new l = new ++ drop (length new) l
+
+-- a table after the call: as before where the call is refused
+abbrev pub tableFor : List ℕ → Opened → ℕ → ℕ → List ℕ → List ℕ → List ℕ
+tableFor s (O.Site h) a b new l = byRoom (communitiesOf s) a b l l (over new l)
+tableFor s (O.Refused r) a b new l = l
+
+unfoldable pub startsAfter : List ℕ → List ℕ → ℕ → List ℕ
+startsAfter s l b = tableFor s (openOf s) (length l) b (startTable (communitiesOf s)) l
+
+unfoldable pub membersAfter : List ℕ → ℕ → List ℕ → List ℕ
+membersAfter s a l = tableFor s (openOf s) a (length l) (memberTable (communitiesOf s)) l
+
+-- the near count and the role of a handset
+unfoldable pub standing : List ℕ → ℕ → Standing
+standing s v = record { neighbours = neighbourhoodSize (network s) v; role = role (network s) v }
+
+abbrev pub knownFor : List ℕ → Opened → ℕ → Known
+knownFor s (O.Site h) v = cond (ltb v (h .n)) (K.Handset (standing s v)) (K.Refused (refusal 13))
+knownFor s (O.Refused r) v = K.Refused r
+
+unfoldable pub knownOf : List ℕ → ℕ → Known
+knownOf s v = knownFor s (openOf s) v

@@ -1,0 +1,551 @@
+//! Sites to try, their images, and renumberings of images. Everything is drawn from a small
+//! generator with a seed, so that a case can be made again from its seed alone.
+
+use std::collections::HashSet;
+
+pub const MOST_HANDSETS: usize = 512;
+pub const MOST_TIES: usize = 4096;
+pub const MOST_COORDINATE: i32 = 1_000_000;
+pub const MOST_GAMMA_SQUARED: u64 = 8_000_000_000_000;
+const HEADER: usize = 32;
+
+// ---------------------------------------------------------------- random numbers
+
+/// splitmix64.
+#[derive(Clone)]
+pub struct Rng(u64);
+
+impl Rng {
+    pub fn new(seed: u64) -> Rng {
+        Rng(seed)
+    }
+
+    pub fn word(&mut self) -> u64 {
+        self.0 = self.0.wrapping_add(0x9e37_79b9_7f4a_7c15);
+        let mut z = self.0;
+        z = (z ^ (z >> 30)).wrapping_mul(0xbf58_476d_1ce4_e5b9);
+        z = (z ^ (z >> 27)).wrapping_mul(0x94d0_49bb_1331_11eb);
+        z ^ (z >> 31)
+    }
+
+    /// From 0 up to, not including, `bound`, which is not 0.
+    pub fn below(&mut self, bound: usize) -> usize {
+        (self.word() % bound as u64) as usize
+    }
+
+    /// Both ends included.
+    pub fn between(&mut self, low: i32, high: i32) -> i32 {
+        low + self.below((high - low) as usize + 1) as i32
+    }
+
+    pub fn one_in(&mut self, count: usize) -> bool {
+        self.below(count) == 0
+    }
+
+    pub fn pick<T: Copy>(&mut self, items: &[T]) -> T {
+        items[self.below(items.len())]
+    }
+
+    pub fn shuffle<T>(&mut self, items: &mut [T]) {
+        for last in (1..items.len()).rev() {
+            items.swap(last, self.below(last + 1));
+        }
+    }
+
+    pub fn fill(&mut self, bytes: &mut [u8]) {
+        bytes.iter_mut().for_each(|byte| *byte = self.word() as u8);
+    }
+}
+
+// ---------------------------------------------------------------- a site and its image
+
+#[derive(Clone, Debug, PartialEq, Eq)]
+pub struct Site {
+    pub positions: Vec<(i32, i32)>,
+    pub ties: Vec<(u16, u16)>,
+    pub gamma_squared: u64,
+    pub epsilon: (u16, u16),
+    pub mu: u16,
+}
+
+/// Where the two tables stand: their order, and the bytes before, between and after them.
+#[derive(Clone, Copy, Debug, Default)]
+pub struct Layout {
+    pub ties_first: bool,
+    pub gaps: [usize; 3],
+}
+
+impl Layout {
+    pub fn any(rng: &mut Rng) -> Layout {
+        let mut gap = || match rng.below(8) {
+            0..=3 => 0,
+            4 | 5 => rng.below(9),
+            6 => rng.below(70),
+            _ if rng.one_in(40) => 65_536 + rng.below(70),
+            _ => rng.below(1000),
+        };
+        Layout {
+            gaps: [gap(), gap(), gap()],
+            ties_first: rng.one_in(2),
+        }
+    }
+}
+
+impl Site {
+    /// The image without gaps, handsets first.
+    pub fn plain_image(&self) -> Vec<u8> {
+        self.image(Layout::default(), &mut Rng::new(0))
+    }
+
+    /// The image in a layout; the gaps are filled with noise.
+    pub fn image(&self, layout: Layout, rng: &mut Rng) -> Vec<u8> {
+        let sizes = [8 * self.positions.len(), 4 * self.ties.len()];
+        let first = usize::from(layout.ties_first);
+        let mut offsets = [0; 2];
+        offsets[first] = HEADER + layout.gaps[0];
+        offsets[1 - first] = offsets[first] + sizes[first] + layout.gaps[1];
+        let length = offsets[1 - first] + sizes[1 - first] + layout.gaps[2];
+        let mut image = vec![0; length];
+        rng.fill(&mut image);
+        self.put_header(&mut image, offsets);
+        for (handset, &(x, y)) in self.positions.iter().enumerate() {
+            put(&mut image, offsets[0] + 8 * handset, &x.to_le_bytes());
+            put(&mut image, offsets[0] + 8 * handset + 4, &y.to_le_bytes());
+        }
+        for (tie, &(u, v)) in self.ties.iter().enumerate() {
+            put(&mut image, offsets[1] + 4 * tie, &u.to_le_bytes());
+            put(&mut image, offsets[1] + 4 * tie + 2, &v.to_le_bytes());
+        }
+        image
+    }
+
+    fn put_header(&self, image: &mut [u8], [handsets_at, ties_at]: [usize; 2]) {
+        let length = image.len() as u32;
+        put(image, 0, &(self.positions.len() as u16).to_le_bytes());
+        put(image, 2, &(self.ties.len() as u16).to_le_bytes());
+        put(image, 4, &(handsets_at as u32).to_le_bytes());
+        put(image, 8, &(ties_at as u32).to_le_bytes());
+        put(image, 12, &length.to_le_bytes());
+        put(image, 16, &self.gamma_squared.to_le_bytes());
+        put(image, 24, &self.epsilon.0.to_le_bytes());
+        put(image, 26, &self.epsilon.1.to_le_bytes());
+        put(image, 28, &self.mu.to_le_bytes());
+        put(image, 30, &[0, 0]);
+    }
+}
+
+fn put(image: &mut [u8], at: usize, bytes: &[u8]) {
+    image[at..at + bytes.len()].copy_from_slice(bytes);
+}
+
+/// Counts and offsets of both tables, as an accepted image's header has them.
+#[derive(Clone, Copy, Debug)]
+pub struct Tables {
+    pub handsets: usize,
+    pub ties: usize,
+    pub handsets_at: usize,
+    pub ties_at: usize,
+}
+
+impl Tables {
+    pub fn of(image: &[u8]) -> Tables {
+        let short = |at: usize| usize::from(u16::from_le_bytes([image[at], image[at + 1]]));
+        let long = |at: usize| short(at) + 65_536 * short(at + 2);
+        Tables {
+            handsets: short(0),
+            ties: short(2),
+            handsets_at: long(4),
+            ties_at: long(8),
+        }
+    }
+
+    pub fn handset_bytes(&self) -> std::ops::Range<usize> {
+        self.handsets_at..self.handsets_at + 8 * self.handsets
+    }
+
+    pub fn tie_bytes(&self) -> std::ops::Range<usize> {
+        self.ties_at..self.ties_at + 4 * self.ties
+    }
+}
+
+/// A renumbering of an accepted image, and the map: handset u of the first image is map[u] of the
+/// second. The tie records are in another order, ends are swapped, and gaps hold other bytes.
+pub fn renumber(image: &[u8], rng: &mut Rng) -> (Vec<u8>, Vec<u16>) {
+    let tables = Tables::of(image);
+    let mut map: Vec<u16> = (0..tables.handsets as u16).collect();
+    rng.shuffle(&mut map);
+    let mut second = vec![0; image.len()];
+    rng.fill(&mut second);
+    second[..HEADER].copy_from_slice(&image[..HEADER]);
+    for (record, &to) in image[tables.handset_bytes()].chunks(8).zip(&map) {
+        put(&mut second, tables.handsets_at + 8 * usize::from(to), record);
+    }
+    let mapped = |end: &[u8]| map[usize::from(u16::from_le_bytes([end[0], end[1]]))];
+    let mut records: Vec<(u16, u16)> = image[tables.tie_bytes()]
+        .chunks(4)
+        .map(|record| (mapped(&record[..2]), mapped(&record[2..])))
+        .collect();
+    mix_ties(&mut records, rng);
+    for (tie, &(u, v)) in records.iter().enumerate() {
+        put(&mut second, tables.ties_at + 4 * tie, &u.to_le_bytes());
+        put(&mut second, tables.ties_at + 4 * tie + 2, &v.to_le_bytes());
+    }
+    (second, map)
+}
+
+/// Another order of the ties and of each tie's ends.
+fn mix_ties(ties: &mut [(u16, u16)], rng: &mut Rng) {
+    rng.shuffle(ties);
+    for tie in ties {
+        if rng.one_in(2) {
+            *tie = (tie.1, tie.0);
+        }
+    }
+}
+
+// ---------------------------------------------------------------- named examples
+
+/// Site S of the specification: seven handsets at one place, epsilon 1/2.
+pub fn site_s(mu: u16) -> Site {
+    Site {
+        positions: vec![(0, 0); 7],
+        ties: vec![(0, 1), (0, 2), (1, 2), (2, 3), (3, 4), (4, 5), (4, 6), (5, 6)],
+        gamma_squared: 0,
+        epsilon: (1, 2),
+        mu,
+    }
+}
+
+/// `handsets` at one place and no ties.
+pub fn untied(handsets: usize, mu: u16) -> Site {
+    Site {
+        positions: vec![(0, 0); handsets],
+        ties: Vec::new(),
+        gamma_squared: 0,
+        epsilon: (1, 2),
+        mu,
+    }
+}
+
+/// Handset 0 is a border in eight communities: eight cliques of ten, each with one handset tied to
+/// it. It is alike to nine handsets, one short of mu.
+pub fn hub() -> Site {
+    let (cliques, size) = (8, 10);
+    let mut draft = Draft::new(1 + cliques * size);
+    for clique in 0..cliques {
+        let first = 1 + clique * size;
+        draft.clique(first, size);
+        draft.tie(0, first);
+    }
+    Site {
+        positions: vec![(0, 0); draft.handsets],
+        ties: draft.ties,
+        gamma_squared: 0,
+        epsilon: (1, 5),
+        mu: size as u16,
+    }
+}
+
+/// A site as hospitals have them: wards of some dozen handsets within 60 metres, most ties within a
+/// ward, gamma 200 metres, epsilon 2/5, mu 4.
+pub fn hospital(handsets: usize, ties: usize, rng: &mut Rng) -> Site {
+    let ward = ward_size(handsets, ties);
+    let mut draft = Draft::new(handsets);
+    draft.wards(ward, ties, rng);
+    Site {
+        positions: ward_positions(handsets, ward, rng),
+        ties: draft.ties,
+        gamma_squared: 200 * 200,
+        epsilon: (2, 5),
+        mu: 4,
+    }
+}
+
+/// The most memberships that we know how to make with all handsets and ties in use: cores that are
+/// tied to borders only, and borders with just too few ties to be cores.
+pub fn shared_borders() -> Site {
+    let (cores, borders) = (219, 293);
+    let mut draft = Draft::new(cores + borders);
+    (0..MOST_TIES).for_each(|step| draft.tie(step % cores, cores + step % borders));
+    Site {
+        positions: vec![(0, 0); draft.handsets],
+        ties: draft.ties,
+        gamma_squared: 0,
+        epsilon: (1, 1000),
+        mu: 16,
+    }
+}
+
+/// One community with nearly all ties: 91 handsets, each two of them tied; the others have none.
+pub fn one_clique() -> Site {
+    let mut draft = Draft::new(MOST_HANDSETS);
+    draft.clique(0, 91);
+    Site {
+        positions: vec![(0, 0); MOST_HANDSETS],
+        ties: draft.ties,
+        gamma_squared: 0,
+        epsilon: (1, 1),
+        mu: 0,
+    }
+}
+
+// ---------------------------------------------------------------- random sites
+
+/// Handsets and ties while a site is being drawn. A tie that is not allowed is left out.
+struct Draft {
+    handsets: usize,
+    ties: Vec<(u16, u16)>,
+    taken: HashSet<(usize, usize)>,
+}
+
+impl Draft {
+    fn new(handsets: usize) -> Draft {
+        Draft {
+            handsets,
+            ties: Vec::new(),
+            taken: HashSet::new(),
+        }
+    }
+
+    fn tie(&mut self, u: usize, v: usize) {
+        let allowed = u != v && u.max(v) < self.handsets && self.ties.len() < MOST_TIES;
+        if allowed && self.taken.insert((u.min(v), u.max(v))) {
+            self.ties.push((u as u16, v as u16));
+        }
+    }
+
+    fn clique(&mut self, first: usize, size: usize) {
+        for v in first..first + size {
+            (first..v).for_each(|u| self.tie(u, v));
+        }
+    }
+
+    /// Random ties until there are `ties`, or until the attempts run out.
+    fn scatter(&mut self, ties: usize, rng: &mut Rng) {
+        for _ in 0..20 * ties {
+            if self.ties.len() < ties {
+                let (u, v) = (rng.below(self.handsets), rng.below(self.handsets));
+                self.tie(u, v);
+            }
+        }
+    }
+
+    /// Four ties of five within a ward of `ward` handsets, the others anywhere.
+    fn wards(&mut self, ward: usize, ties: usize, rng: &mut Rng) {
+        for _ in 0..100 * ties {
+            if self.ties.len() < ties {
+                let u = rng.below(self.handsets);
+                let colleague = u / ward * ward + rng.below(ward);
+                let anyone = rng.below(self.handsets);
+                self.tie(u, if rng.one_in(5) { anyone } else { colleague });
+            }
+        }
+    }
+}
+
+/// A ward with room for four fifths of the ties, half of its pairs tied.
+fn ward_size(handsets: usize, ties: usize) -> usize {
+    (16 * ties / (5 * handsets.max(1))).clamp(4, 40)
+}
+
+fn ward_positions(handsets: usize, ward: usize, rng: &mut Rng) -> Vec<(i32, i32)> {
+    let mut centre = (0, 0);
+    let mut positions = Vec::new();
+    for handset in 0..handsets {
+        if handset % ward == 0 {
+            centre = (rng.between(-1000, 1000), rng.between(-1000, 1000));
+        }
+        let (dx, dy) = (rng.between(-30, 30), rng.between(-30, 30));
+        positions.push((centre.0 + dx, centre.1 + dy));
+    }
+    positions
+}
+
+/// Any site: mostly small ones, so that many can be tried, and now and then a full one.
+pub fn any(rng: &mut Rng) -> Site {
+    let draft = any_draft(rng);
+    let mut site = Site {
+        positions: any_positions(draft.handsets, rng),
+        ties: draft.ties,
+        gamma_squared: 0,
+        epsilon: any_epsilon(rng),
+        mu: any_mu(rng),
+    };
+    relabel(&mut site, rng);
+    site.gamma_squared = any_gamma_squared(&site, rng);
+    site
+}
+
+/// A site with 512 handsets and 4,096 ties, or as many as its shape has.
+pub fn full(rng: &mut Rng) -> Site {
+    let mut site = match rng.below(4) {
+        0 => shared_borders(),
+        1 => one_clique(),
+        _ => hospital(MOST_HANDSETS, MOST_TIES, rng),
+    };
+    relabel(&mut site, rng);
+    site
+}
+
+fn any_draft(rng: &mut Rng) -> Draft {
+    match rng.below(16) {
+        0 => Draft::new(rng.pick(&[0, 0, 1, 2, 64, 65, 511, 512])),
+        1..=3 => scattered(1, 6, rng),
+        4 | 5 => scattered(7, 40, rng),
+        6..=9 => cliques_with_borders(rng),
+        10 | 11 => chain(rng),
+        12 => stars(rng),
+        13 => wards(2, 60, rng),
+        14 => wards(60, 140, rng),
+        _ if rng.one_in(4) => wards(250, MOST_HANDSETS, rng),
+        _ => cores_with_borders(rng),
+    }
+}
+
+fn scattered(low: i32, high: i32, rng: &mut Rng) -> Draft {
+    let handsets = rng.between(low, high) as usize;
+    let mut draft = Draft::new(handsets);
+    let pairs = handsets * (handsets - 1) / 2;
+    draft.scatter(rng.below(pairs + 1), rng);
+    draft
+}
+
+/// Cliques, and handsets tied to one or more members of several of them.
+fn cliques_with_borders(rng: &mut Rng) -> Draft {
+    let (cliques, size) = (rng.between(1, 6) as usize, rng.between(2, 7) as usize);
+    let borders = rng.below(4);
+    let mut draft = Draft::new(cliques * size + borders);
+    for clique in 0..cliques {
+        draft.clique(clique * size, size);
+        for border in 0..borders {
+            for _ in 0..rng.below(3) {
+                draft.tie(clique * size + rng.below(size), cliques * size + border);
+            }
+        }
+    }
+    draft
+}
+
+/// A chain or a ring, each handset tied to the next one or to the next two.
+fn chain(rng: &mut Rng) -> Draft {
+    let handsets = rng.between(2, 70) as usize;
+    let (reach, ring) = (rng.between(1, 3) as usize, rng.one_in(3));
+    let mut draft = Draft::new(handsets);
+    for u in 0..handsets {
+        for v in u + 1..=u + reach {
+            draft.tie(u, if ring { v % handsets } else { v });
+        }
+    }
+    draft
+}
+
+/// Stars that may share leaves.
+fn stars(rng: &mut Rng) -> Draft {
+    let (centres, leaves) = (rng.between(1, 4) as usize, rng.between(1, 40) as usize);
+    let mut draft = Draft::new(centres + leaves);
+    for leaf in centres..centres + leaves {
+        for _ in 0..rng.between(1, 2) {
+            draft.tie(rng.below(centres), leaf);
+        }
+    }
+    draft
+}
+
+fn wards(low: i32, high: i32, rng: &mut Rng) -> Draft {
+    let mut draft = Draft::new(rng.between(low, high) as usize);
+    let ties = rng.below((10 * draft.handsets).min(MOST_TIES));
+    draft.wards(rng.between(3, 20) as usize, ties, rng);
+    draft
+}
+
+/// Few cores, tied to borders only: borders in many communities.
+fn cores_with_borders(rng: &mut Rng) -> Draft {
+    let (cores, borders) = (rng.between(2, 12) as usize, rng.between(3, 30) as usize);
+    let mut draft = Draft::new(cores + borders);
+    for core in 0..cores {
+        for _ in 0..rng.between(2, 12) {
+            draft.tie(core, cores + rng.below(borders));
+        }
+    }
+    draft
+}
+
+fn any_positions(handsets: usize, rng: &mut Rng) -> Vec<(i32, i32)> {
+    let far = MOST_COORDINATE;
+    let kind = rng.below(6);
+    let home = (rng.between(-far, far), rng.between(-far, far));
+    let (a, b) = (rng.between(0, 9), rng.between(0, 9));
+    let mut position = || match kind {
+        0 => home,
+        1 => (rng.between(-4, 4), rng.between(-4, 4)),
+        2 => rng.pick(&[(0, 0), (a, b), (-b, a), (a + 1, b), (a, b + 1), (-a, -b)]),
+        3 => (rng.pick(&[-far, far]), rng.pick(&[-far, far, 0])),
+        4 => (rng.between(-far, far), rng.between(-far, far)),
+        _ => (far - rng.below(3) as i32, rng.below(3) as i32 - far),
+    };
+    (0..handsets).map(|_| position()).collect()
+}
+
+/// Often the squared distance of a tie, or one less: at the limit exactly, and one beyond it.
+fn any_gamma_squared(site: &Site, rng: &mut Rng) -> u64 {
+    let of_a_tie = match site.ties.len() {
+        0 => 0,
+        ties => {
+            let (u, v) = site.ties[rng.below(ties)];
+            squared_distance(site.positions[usize::from(u)], site.positions[usize::from(v)])
+        }
+    };
+    match rng.below(8) {
+        0 => 0,
+        1 => MOST_GAMMA_SQUARED,
+        2 => MOST_GAMMA_SQUARED - 1,
+        3 => rng.word() % (MOST_GAMMA_SQUARED + 1),
+        4 => of_a_tie.saturating_sub(1),
+        _ => of_a_tie,
+    }
+}
+
+fn squared_distance(one: (i32, i32), other: (i32, i32)) -> u64 {
+    let square = |difference: u32| u64::from(difference) * u64::from(difference);
+    square(one.0.abs_diff(other.0)) + square(one.1.abs_diff(other.1))
+}
+
+fn any_epsilon(rng: &mut Rng) -> (u16, u16) {
+    let known = [(1, 2), (3, 5), (577, 1000), (578, 1000), (7, 10), (2, 3), (1, 3), (3, 4)];
+    match rng.below(8) {
+        0 => (1, 1000),
+        1 => rng.pick(&[(1, 1), (1000, 1000), (999, 1000)]),
+        2 => {
+            let q = rng.between(1, 1000);
+            (rng.between(1, q) as u16, q as u16)
+        }
+        3 => {
+            let q = rng.between(1, 9);
+            (rng.between(1, q) as u16, q as u16)
+        }
+        _ => rng.pick(&known),
+    }
+}
+
+fn any_mu(rng: &mut Rng) -> u16 {
+    match rng.below(16) {
+        0 => rng.below(MOST_HANDSETS + 1) as u16,
+        1 => rng.pick(&[1, 511, 512]),
+        2 => rng.between(6, 14) as u16,
+        _ => rng.below(7) as u16,
+    }
+}
+
+/// Numbers the handsets in another way, so that no number tells its place in the shape.
+fn relabel(site: &mut Site, rng: &mut Rng) {
+    let mut map: Vec<u16> = (0..site.positions.len() as u16).collect();
+    rng.shuffle(&mut map);
+    let old = site.positions.clone();
+    for (position, &to) in old.iter().zip(&map) {
+        site.positions[usize::from(to)] = *position;
+    }
+    for (u, v) in &mut site.ties {
+        (*u, *v) = (map[usize::from(*u)], map[usize::from(*v)]);
+    }
+    mix_ties(&mut site.ties, rng);
+}
