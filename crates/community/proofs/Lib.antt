@@ -1,8 +1,10 @@
 pub mod Reachability
 pub mod Similarity
 pub mod Communities
+pub mod Edges
 pub mod Renumber
 pub mod Roles
 pub mod Tables
 pub mod Site
+pub mod Bound
 pub mod Examples

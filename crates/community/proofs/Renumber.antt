@@ -14,6 +14,7 @@ use Rattle.sets.proofs.Selecting.{length-select}
 use Rattle.sets.specs.Renumbering.{Renumbering}
 use Rattle.sets.proofs.Counting.{count-cong, count-across, count-pairs, Pairs, inverse}
 use Rattle.community.specs.Network.{Network, neighbourhoodSize, commonNeighbours, meetsEpsilon, similar, isCore, step, Reachable, one, more, reachable, IsCommunity, isLeader, leaders, members, communities}
+use Rattle.community.specs.Renumbered.{NumberedBack}
 use Rattle.community.proofs.Reachability.{Reachable-trans, from-below, to-below, reachable-sound, reachable-complete}
 use Rattle.community.proofs.Similarity.{Sound, reaches-core, core-self, Reachable-back}
 use Rattle.community.proofs.Communities.{Listed, exactly, leader-of, leader-one, leader-core, length-communities}
@@ -69,10 +70,6 @@ back-moved g b r moved u v hu hv =
 Reachable-unmoved : (g : Network) (b : ℕ → ℕ → Bool) (r : Renumbering (g .n)) → Moved g b r
     → {u v : ℕ} → Reachable (withNeighbour g b) u v → Reachable g (r .back u) (r .back v)
 Reachable-unmoved g b r moved c = Reachable-moved (withNeighbour g b) (g .neighbour) (inverse r) (back-moved g b r moved) c
-
--- a set numbered back
-abbrev pub NumberedBack : {n : ℕ} → Renumbering n → (ℕ → Type 0) → ℕ → Type 0
-NumberedBack {n} r Q v = (v < n) × Q (r .to v)
 
 pub community-back : (g : Network) (b : ℕ → ℕ → Bool) (r : Renumbering (g .n)) → Moved g b r
     → (Q : ℕ → Type 0) → IsCommunity (withNeighbour g b) Q → IsCommunity g (NumberedBack r Q)

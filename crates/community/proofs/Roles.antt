@@ -9,12 +9,14 @@ use lib.Dec.{T, eqb, eqb→eq, eqb-refl, T-not}
 use lib.ListN.{length, getD}
 use Rattle.sets.specs.Below.{count, select, bit}
 use Rattle.sets.proofs.Tests.{T-ext, T-true, T-false, decide, or-left, or-right, or-cases, and-left, and-right}
-use Rattle.sets.proofs.Selecting.{mem-select, select-mem, select-yes, select-no}
+use Rattle.sets.proofs.Selecting.{map-append, mem-select, select-mem, select-yes, select-no}
 use Rattle.sets.specs.Renumbering.{Renumbering}
 use Rattle.sets.proofs.Counting.{count-cong, bit-true, bit-false}
 use Rattle.community.specs.Network.{Network, isCore, reachable, isLeader, members, communities, contains, communityNumber, membershipCount, leaders, role, borderOf}
 use Rattle.community.specs.declared.Role.{Role}
 use Rattle.community.specs.declared.Role.the-variants.{Core, Border, Outlier}
+use Rattle.community.specs.Renumbered.{SameRole}
+use Rattle.community.specs.Renumbered.SameRole.{both-core, both-border, both-outlier}
 use Rattle.community.proofs.Similarity.{Sound}
 use Rattle.community.proofs.Communities.{core-once}
 use Rattle.community.proofs.Renumber.{withNeighbour, Moved, leadersReaching, core-moved, leadersReaching-moved}
@@ -52,10 +54,6 @@ unfolding membershipCount
 times-append v [] b = omega arith
 times-append v (x ∷ a) b = ap (λ (k : ℕ). bit (contains v x) + k) (times-append v a b) ∙ omega arith
 
-map-append : {A B : Type 0} (f : A → B) (a b : List A) → map f (a ++ b) ≡ map f a ++ map f b
-map-append f [] b = refl
-map-append f (x ∷ a) b = ap (λ l. f x ∷ l) (map-append f a b)
-
 times-select : (n v : ℕ) (f : ℕ → Bool) (h : ℕ → List ℕ) → membershipCount v (map h (select n f)) ≡ count n (λ u. f u && contains v (h u))
 unfolding membershipCount select count
 times-select zero v f h = refl
@@ -87,12 +85,6 @@ times-law g v h =
 -- the number of a core's community
 pub core-place : {g : Network} (ok : Sound g) (v k : ℕ) → T (isCore g v) → k < length (communities g) → List·Memᴰ v (getD (communities g) k []) → communityNumber v (communities g) ≡ k
 core-place {g} ok v k t h m = place-law v (communities g) k h m (λ j l y. core-once ok v j k t l h y m)
-
--- the same role, but for the number of a core's community
-pub data SameRole : Role → Role → Type 0 where
-  both-core : {i j : ℕ} → SameRole (Core i) (Core j)
-  both-border : {k : ℕ} → SameRole (Border k) (Border k)
-  both-outlier : SameRole Outlier Outlier
 
 pub same-borderOf : (k : ℕ) → SameRole (borderOf k) (borderOf k)
 same-borderOf zero = both-outlier

@@ -2,4 +2,5 @@ pub mod Network
 pub mod Tables
 pub mod Scores
 pub mod Site
+pub mod Renumbered
 pub mod Examples

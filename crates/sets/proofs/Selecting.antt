@@ -77,6 +77,10 @@ map-at f [] d e k h = absurd (omega arith)
 map-at f (x ∷ l) d e zero h = refl
 map-at f (x ∷ l) d e (suc k) h = map-at f l d e k (omega arith)
 
+pub map-append : {A B : Type 0} (f : A → B) (a b : List A) → map f (a ++ b) ≡ map f a ++ map f b
+map-append f [] b = refl
+map-append f (x ∷ a) b = ap (λ l. f x ∷ l) (map-append f a b)
+
 pub select-below : (n : ℕ) (f : ℕ → Bool) (k : ℕ) → k < length (select n f) → getD (select n f) k 0 < n
 select-below n f k h = select-mem n f (getD (select n f) k 0) (at-mem (select n f) 0 k h) .0
 

@@ -37,7 +37,7 @@ fn set(image: &mut [u8], at: usize, width: usize, value: u64) {
 /// Two to four edits, so that the order of the questions matters.
 pub fn several(image: &[u8], rng: &mut Rng) -> Vec<u8> {
     let all = edits(image, rng);
-    let mut chosen: Vec<Edit> = (0..rng.between(2, 4)).map(|_| rng.pick(&all)).collect();
+    let mut chosen: Vec<Edit> = (0..rng.count(2, 4)).map(|_| rng.pick(&all)).collect();
     if rng.one_in(2) {
         chosen.push(Edit::FixLength);
     }
@@ -61,7 +61,7 @@ pub fn faults(image: &[u8]) -> [Edit; 10] {
     let tables = Tables::of(image);
     let last = tables.handsets_at + 8 * tables.handsets - 8;
     let tie = |number: usize| tables.ties_at + 4 * number;
-    let first_tie = image[tie(0)..tie(1)].iter().rev().fold(0, |sum, &b| 256 * sum + u64::from(b));
+    let (u, v) = pair_at(image, tie(0));
     let set = |at, width, value| Edit::Set { at, width, value };
     [
         Edit::Resize(31),
@@ -73,14 +73,13 @@ pub fn faults(image: &[u8]) -> [Edit; 10] {
         set(last + 4, 4, MOST_COORDINATE as u64 + 1),
         set(tie(tables.ties - 1), 2, tables.handsets as u64),
         set(tie(1), 4, 0),
-        set(tie(2), 4, first_tie.rotate_right(16) >> 32 | first_tie >> 16),
+        set(tie(2), 4, record(v, u)),
     ]
 }
 
 fn header_edits(image: &[u8], tables: &Tables) -> Vec<Edit> {
     let length = image.len() as u64;
-    let field = |at: usize| u64::from(u16::from_le_bytes([image[at], image[at + 1]]));
-    let (n, m, p, q) = (field(0), field(2), field(24), field(26));
+    let ((n, m), (p, q)) = (pair_at(image, 0), pair_at(image, 24));
     let (handsets, ties) = (tables.handset_bytes(), tables.tie_bytes());
     let offsets = offset_values(&[32, handsets.start, handsets.end, ties.start, ties.end], length);
     let most = MOST_GAMMA_SQUARED;
@@ -137,24 +136,28 @@ fn position_edits(tables: &Tables, rng: &mut Rng) -> Vec<Edit> {
 /// Bad ends, ties of a handset with itself, and ties that repeat another one either way round.
 fn tie_edits(image: &[u8], tables: &Tables, rng: &mut Rng) -> Vec<Edit> {
     let n = tables.handsets as u64;
-    let record = |tie: usize| {
-        let at = tables.ties_at + 4 * tie;
-        [0, 1, 2, 3].map(|i| u64::from(image[at + i]))
-    };
     let mut edits = Vec::new();
     for tie in places(tables.ties, rng) {
         let at = tables.ties_at + 4 * tie;
         let end = at + 2 * rng.below(2);
-        let ends = [n.wrapping_sub(1), n, n + 1, 511, 512, 0xffff, 0];
+        let ends = [n - 1, n, n + 1, 511, 512, 0xffff, 0];
         edits.extend(ends.map(|value| Edit::Set { at: end, width: 2, value }));
-        let [a, b, _, _] = record(tie);
-        edits.push(Edit::Set { at: at + 2, width: 2, value: a + 256 * b });
-        let [a, b, c, d] = record(rng.below(tables.ties));
-        let (u, v) = (a + 256 * b, c + 256 * d);
-        edits.push(Edit::Set { at, width: 4, value: u + 65_536 * v });
-        edits.push(Edit::Set { at, width: 4, value: v + 65_536 * u });
+        let (u, _) = pair_at(image, at);
+        let (v, w) = pair_at(image, tables.ties_at + 4 * rng.below(tables.ties));
+        let records = [record(u, u), record(v, w), record(w, v)];
+        edits.extend(records.map(|value| Edit::Set { at, width: 4, value }));
     }
     edits
+}
+
+/// Two numbers of two bytes each: a tie, or two fields of the header.
+fn pair_at(image: &[u8], at: usize) -> (u64, u64) {
+    let short = |at: usize| u64::from(u16::from_le_bytes([image[at], image[at + 1]]));
+    (short(at), short(at + 2))
+}
+
+fn record(u: u64, v: u64) -> u64 {
+    u + 65_536 * v
 }
 
 /// The first, the last and two random places of a table.

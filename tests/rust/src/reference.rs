@@ -453,3 +453,297 @@ impl Planner for Reference {
         Ok(whole.len() as u64)
     }
 }
+
+#[cfg(test)]
+mod tests {
+    use super::*;
+    use crate::damage;
+    use crate::sites::{self, Rng};
+
+    fn findings(site: &sites::Site) -> Findings {
+        Findings::of(open(&site.plain_image()).expect("an accepted site"))
+    }
+
+    fn groups(site: &sites::Site) -> Vec<Vec<usize>> {
+        let members = |community: &Community| community.members.iter().copied().collect();
+        findings(site).communities().iter().map(members).collect()
+    }
+
+    fn refusal(number: u64, place: u64) -> Refusal {
+        Refusal { number, place }
+    }
+
+    const S_REPORT: &str = "\
+handsets 7 ties 8 groups 2 memberships 8
+group 0 density 2/6 conductance 1/9: 0 1 2 3
+group 1 density 2/6 conductance 1/9: 3 4 5 6
+cores: 2 4
+outliers:
+";
+
+    #[test]
+    fn site_s_byte_by_byte() {
+        let mut image = vec![7, 0, 8, 0, 32, 0, 0, 0, 88, 0, 0, 0, 120, 0, 0, 0];
+        image.extend([0; 8]);
+        image.extend([1, 0, 2, 0, 4, 0, 0, 0]);
+        image.extend([0; 56]);
+        for end in [0, 1, 0, 2, 1, 2, 2, 3, 3, 4, 4, 5, 4, 6, 5, 6] {
+            image.extend([end, 0]);
+        }
+        assert_eq!(image, sites::site_s(4).plain_image());
+        assert_eq!(program(&image), S_REPORT.as_bytes());
+    }
+
+    #[test]
+    fn site_s_with_mu_4_has_two_groups_and_a_shared_border() {
+        let found = findings(&sites::site_s(4));
+        assert_eq!(groups(&sites::site_s(4)), [[0, 1, 2, 3], [3, 4, 5, 6]]);
+        assert_eq!(found.start_table(), [0, 4, 8]);
+        assert_eq!(found.member_table(), [0, 1, 2, 3, 3, 4, 5, 6]);
+        let record = |near, role| Ok(Record { near, role });
+        assert_eq!(found.record(0), record(3, Role::Border(1)));
+        assert_eq!(found.record(2), record(4, Role::Core(0)));
+        assert_eq!(found.record(3), record(3, Role::Border(2)));
+        assert_eq!(found.record(4), record(4, Role::Core(1)));
+        assert_eq!(found.record(7), Err(refusal(13, 0)));
+        assert_eq!(found.record(u64::MAX), Err(refusal(13, 0)));
+    }
+
+    #[test]
+    fn site_s_with_mu_3_or_0_is_one_group() {
+        for mu in [3, 0] {
+            assert_eq!(groups(&sites::site_s(mu)), [[0, 1, 2, 3, 4, 5, 6]]);
+            let found = findings(&sites::site_s(mu));
+            assert_eq!(found.communities()[0].cores.len(), 7);
+        }
+    }
+
+    #[test]
+    fn site_s_with_epsilon_3_5_leaves_an_outlier() {
+        let site = sites::Site { epsilon: (3, 5), ..sites::site_s(3) };
+        assert_eq!(groups(&site), [[0, 1, 2], [4, 5, 6]]);
+        let record = Record { near: 3, role: Role::Outlier };
+        assert_eq!(findings(&site).record(3), Ok(record));
+    }
+
+    #[test]
+    fn similarity_at_its_limit() {
+        let near = findings(&sites::site_s(4)).near;
+        let (a, b) = (&near[2], &near[3]);
+        assert_eq!((a.intersection(b).count(), a.len(), b.len()), (2, 4, 3));
+        assert!(is_similar((577, 1000), a, b));
+        assert!(!is_similar((578, 1000), a, b));
+    }
+
+    #[test]
+    fn nearness_at_its_limit() {
+        let near_count = |positions: Vec<(i32, i32)>, gamma_squared| {
+            let ties = vec![(1, 0)];
+            let site = sites::Site { positions, ties, gamma_squared, ..sites::site_s(1) };
+            findings(&site).record(0).expect("a handset").near
+        };
+        assert_eq!(near_count(vec![(0, 0), (1, 2)], 5), 2);
+        assert_eq!(near_count(vec![(0, 0), (1, 2)], 4), 1);
+        let corners = vec![(-1_000_000, 1_000_000), (1_000_000, -1_000_000)];
+        assert_eq!(near_count(corners.clone(), 8_000_000_000_000), 2);
+        assert_eq!(near_count(corners, 7_999_999_999_999), 1);
+    }
+
+    #[test]
+    fn sites_without_ties() {
+        let found = findings(&sites::untied(0, 0));
+        assert_eq!((found.start_table(), found.member_table()), (vec![0], vec![]));
+        let empty = b"handsets 0 ties 0 groups 0 memberships 0\ncores:\noutliers:\n";
+        assert_eq!(program(&sites::untied(0, 0).plain_image()), empty);
+        assert_eq!(groups(&sites::untied(1, 1)), [[0]]);
+        assert!(groups(&sites::untied(1, 2)).is_empty());
+        let one = "handsets 1 ties 0 groups 1 memberships 1\n\
+                   group 0 density - conductance -: 0\ncores: 0\noutliers:\n";
+        assert_eq!(program(&sites::untied(1, 1).plain_image()), one.as_bytes());
+    }
+
+    #[test]
+    fn counts_at_their_limits() {
+        let handsets = |count| open(&sites::untied(count, 1).plain_image()).map(|_| ());
+        assert_eq!(handsets(512), Ok(()));
+        assert_eq!(handsets(513), Err(refusal(3, 0)));
+        let mut site = sites::shared_borders();
+        assert!(open(&site.plain_image()).is_ok());
+        site.ties.push((0, 1));
+        assert_eq!(open(&site.plain_image()), Err(refusal(3, 0)));
+    }
+
+    /// The eleven users of the article's figure 4, as its text describes them, numbered from 0:
+    /// gamma squared 5, epsilon 0.7, mu 3. User 5 is far from its friends, user 11 unlike its own.
+    #[test]
+    fn the_articles_example() {
+        let clique = [(7, 8), (7, 9), (7, 10), (8, 9), (8, 10), (9, 10)];
+        let others = [(1, 2), (1, 4), (2, 3), (2, 4), (3, 4), (3, 6), (1, 5), (4, 5), (10, 11)];
+        let ties = others.iter().chain(&clique).map(|&(u, v)| (u - 1, v - 1)).collect();
+        let mut positions = vec![(0, 0); 11];
+        positions[4] = (3, 0);
+        let site = sites::Site { positions, ties, gamma_squared: 5, epsilon: (7, 10), mu: 3 };
+        assert_eq!(groups(&site), [vec![0, 1, 2, 3, 5], vec![6, 7, 8, 9]]);
+        let outlier = |user: u64| findings(&site).record(user - 1).map(|record| record.role);
+        assert_eq!((outlier(5), outlier(11)), (Ok(Role::Outlier), Ok(Role::Outlier)));
+    }
+
+    #[test]
+    fn groups_are_ordered_by_smallest_core() {
+        let found = findings(&sites::hub());
+        assert_eq!(found.record(0), Ok(Record { near: 9, role: Role::Border(8) }));
+        assert_eq!(found.record(11), Ok(Record { near: 11, role: Role::Core(1) }));
+        assert_eq!(found.start_table().last(), Some(&88));
+        // Handset 0 is a border of the second group only; the first has the smaller core.
+        let mut site = sites::site_s(4);
+        let swap = |handset: u16| [6, 1, 2, 3, 4, 5, 0][usize::from(handset)];
+        site.ties = site.ties.iter().map(|&(u, v)| (swap(u), swap(v))).collect();
+        assert_eq!(groups(&site), [[1, 2, 3, 6], [0, 3, 4, 5]]);
+    }
+
+    #[test]
+    fn scores_of_lists() {
+        let found = findings(&sites::site_s(4));
+        let scores = |pairs, tied_pairs, leaving| Ok(Scores { pairs, tied_pairs, leaving });
+        assert_eq!(found.scores(&[]), scores(0, 0, 0));
+        assert_eq!(found.scores(&[3]), scores(0, 0, 2));
+        assert_eq!(found.scores(&[0, 1, 2, 3]), scores(6, 4, 1));
+        assert_eq!(found.scores(&[1, 0, 1]), scores(3, 2, 2));
+        assert_eq!(found.scores(&[0; 512]), scores(130_816, 0, 2));
+        assert_eq!(found.scores(&[0; 513]), Err(refusal(13, 512)));
+        assert_eq!(found.scores(&[0, 7, 8]), Err(refusal(13, 1)));
+    }
+
+    #[test]
+    fn members_of_a_group() {
+        let (starts, table) = ([0, 2, 2, 5, 4], [10, 11, 12, 13, 14]);
+        let none = Err(refusal(14, 0));
+        assert_eq!(members(&starts, &table, 0), Ok(&table[..2]));
+        assert_eq!(members(&starts, &table, 1), Ok(&table[..0]));
+        assert_eq!(members(&starts, &table, 2), Ok(&table[2..]));
+        assert_eq!(members(&starts, &table[..4], 2), none);
+        assert_eq!(members(&starts, &table, 3), none);
+        assert_eq!(members(&starts, &table, 4), none);
+        assert_eq!(members(&starts, &table, u64::MAX), none);
+        assert_eq!(members(&[], &table, 0), none);
+        assert_eq!(members(&[0], &table, 0), none);
+    }
+
+    #[test]
+    fn table_and_buffer_lengths() {
+        let found = findings(&sites::site_s(4));
+        let counts = Counts { communities: 2, memberships: 8 };
+        assert_eq!(ask_tables(&found, 3, 8), Ok(counts));
+        assert_eq!(ask_tables(&found, 2, 8), Err(refusal(11, 0)));
+        assert_eq!(ask_tables(&found, 2, 0), Err(refusal(11, 0)));
+        assert_eq!(ask_tables(&found, 3, 7), Err(refusal(12, 0)));
+        let image = sites::site_s(4).plain_image();
+        assert_eq!(report(&image, S_REPORT.len()), Ok(S_REPORT.into()));
+        assert_eq!(report(&image, S_REPORT.len() - 1), Err(refusal(16, 0)));
+    }
+
+    #[test]
+    fn the_programs_input() {
+        let with_length = |length: usize| {
+            let gap = length - sites::untied(0, 0).plain_image().len();
+            let layout = sites::Layout { ties_first: false, gaps: [0, 0, gap] };
+            program(&sites::untied(0, 0).image(layout, &mut Rng::new(1)))
+        };
+        assert!(with_length(65_536).starts_with(b"handsets 0 "));
+        assert_eq!(with_length(65_537), b"refused 15 0\n");
+        assert_eq!(program(b""), b"refused 1 0\n");
+        let beyond = sites::Site { positions: vec![(0, 0), (0, -1_000_001)], ..sites::untied(2, 1) };
+        assert_eq!(program(&beyond.plain_image()), b"refused 7 1\n");
+    }
+
+    /// Every choice of faults: the first question decides.
+    #[test]
+    fn questions_are_put_in_order() {
+        let image = sites::site_s(4).plain_image();
+        let faults = damage::faults(&image);
+        let places = [0, 0, 0, 0, 0, 0, 6, 7, 1, 2];
+        for choice in 1..1024_u32 {
+            let chosen: Vec<_> =
+                (0..10).filter(|bit| choice >> bit & 1 == 1).map(|bit| faults[bit]).collect();
+            let first = choice.trailing_zeros() as usize;
+            let expected = refusal(first as u64 + 1, places[first]);
+            assert_eq!(open(&damage::apply(&image, &chosen)), Err(expected), "{chosen:?}");
+        }
+    }
+
+    #[test]
+    fn table_places() {
+        let opened = |handsets_at: u64, ties_at: u64| {
+            let set = |at, value| damage::Edit::Set { at, width: 4, value };
+            let image = sites::untied(0, 0).image(
+                sites::Layout { ties_first: false, gaps: [8, 0, 0] },
+                &mut Rng::new(1),
+            );
+            open(&damage::apply(&image, &[set(4, handsets_at), set(8, ties_at)])).is_ok()
+        };
+        assert!(opened(32, 40) && opened(40, 32) && opened(36, 36));
+        assert!(!opened(31, 40) && !opened(40, 31) && !opened(32, 41) && !opened(41, 32));
+        assert!(!opened(0xffff_ffff, 32) && !opened(32, 0xffff_ffff));
+        // An empty table may stand at either end of the other, and not inside it.
+        let tied_at = |at: u64| {
+            let image = sites::untied(2, 1).plain_image();
+            let edit = damage::Edit::Set { at: 8, width: 4, value: at };
+            open(&damage::apply(&image, &[edit])).is_ok()
+        };
+        assert!(tied_at(32) && tied_at(48) && !tied_at(33) && !tied_at(40) && !tied_at(49));
+    }
+
+    /// Demand 3 by trying every set of handsets of many small sites.
+    #[test]
+    fn listed_exactly_when() {
+        let mut rng = Rng::new(3);
+        for _ in 0..2000 {
+            check_every_set(&findings(&sites::tiny(&mut rng)));
+        }
+    }
+
+    fn check_every_set(found: &Findings) {
+        let n = found.near.len();
+        let reached = reached(found);
+        let listed: Vec<u32> = found
+            .communities()
+            .iter()
+            .map(|community| community.members.iter().map(|member| 1 << member).sum())
+            .collect();
+        for set in 0..1_u32 << n {
+            let members: Vec<usize> = (0..n).filter(|u| set >> u & 1 == 1).collect();
+            let has_core = members.iter().any(|&u| is_core(found, u));
+            let together = |u: usize, v: usize| {
+                (0..n).any(|from| reached[from] >> u & 1 == 1 && reached[from] >> v & 1 == 1)
+            };
+            let connected = members.iter().all(|&u| members.iter().all(|&v| together(u, v)));
+            let closed = members.iter().all(|&u| reached[u] & !set == 0);
+            let times = listed.iter().filter(|&&other| other == set).count();
+            assert_eq!(times, usize::from(has_core && connected && closed));
+        }
+    }
+
+    fn is_core(found: &Findings, u: usize) -> bool {
+        let alike = |v: &&usize| is_similar(found.site.epsilon, &found.near[u], &found.near[**v]);
+        found.near[u].iter().filter(alike).count() >= found.site.mu
+    }
+
+    /// For each handset the set of those reached from it: the transitive closure of single steps.
+    fn reached(found: &Findings) -> Vec<u32> {
+        let step = |u: usize| -> u32 {
+            let alike = |v: &&usize| is_similar(found.site.epsilon, &found.near[u], &found.near[**v]);
+            let targets = found.near[u].iter().filter(alike).map(|v| 1 << v).sum();
+            if is_core(found, u) { targets } else { 0 }
+        };
+        let n = found.near.len();
+        let mut reached: Vec<u32> = (0..n).map(step).collect();
+        for via in 0..n {
+            for from in 0..n {
+                if reached[from] >> via & 1 == 1 {
+                    reached[from] |= reached[via];
+                }
+            }
+        }
+        reached
+    }
+}

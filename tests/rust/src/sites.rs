@@ -38,6 +38,11 @@ impl Rng {
         low + self.below((high - low) as usize + 1) as i32
     }
 
+    /// A count, both ends included.
+    pub fn count(&mut self, low: usize, high: usize) -> usize {
+        low + self.below(high - low + 1)
+    }
+
     pub fn one_in(&mut self, count: usize) -> bool {
         self.below(count) == 0
     }
@@ -363,7 +368,21 @@ fn ward_positions(handsets: usize, ward: usize, rng: &mut Rng) -> Vec<(i32, i32)
 
 /// Any site: mostly small ones, so that many can be tried, and now and then a full one.
 pub fn any(rng: &mut Rng) -> Site {
+    if rng.one_in(100) {
+        return full(rng);
+    }
     let draft = any_draft(rng);
+    complete(draft, rng)
+}
+
+/// A site of at most seven handsets.
+pub fn tiny(rng: &mut Rng) -> Site {
+    let draft = scattered(1, 7, rng);
+    complete(draft, rng)
+}
+
+/// Positions and limits for the drawn ties.
+fn complete(draft: Draft, rng: &mut Rng) -> Site {
     let mut site = Site {
         positions: any_positions(draft.handsets, rng),
         ties: draft.ties,
@@ -377,7 +396,7 @@ pub fn any(rng: &mut Rng) -> Site {
 }
 
 /// A site with 512 handsets and 4,096 ties, or as many as its shape has.
-pub fn full(rng: &mut Rng) -> Site {
+fn full(rng: &mut Rng) -> Site {
     let mut site = match rng.below(4) {
         0 => shared_borders(),
         1 => one_clique(),
@@ -402,8 +421,8 @@ fn any_draft(rng: &mut Rng) -> Draft {
     }
 }
 
-fn scattered(low: i32, high: i32, rng: &mut Rng) -> Draft {
-    let handsets = rng.between(low, high) as usize;
+fn scattered(low: usize, high: usize, rng: &mut Rng) -> Draft {
+    let handsets = rng.count(low, high);
     let mut draft = Draft::new(handsets);
     let pairs = handsets * (handsets - 1) / 2;
     draft.scatter(rng.below(pairs + 1), rng);
@@ -412,7 +431,7 @@ fn scattered(low: i32, high: i32, rng: &mut Rng) -> Draft {
 
 /// Cliques, and handsets tied to one or more members of several of them.
 fn cliques_with_borders(rng: &mut Rng) -> Draft {
-    let (cliques, size) = (rng.between(1, 6) as usize, rng.between(2, 7) as usize);
+    let (cliques, size) = (rng.count(1, 6), rng.count(2, 7));
     let borders = rng.below(4);
     let mut draft = Draft::new(cliques * size + borders);
     for clique in 0..cliques {
@@ -428,8 +447,8 @@ fn cliques_with_borders(rng: &mut Rng) -> Draft {
 
 /// A chain or a ring, each handset tied to the next one or to the next two.
 fn chain(rng: &mut Rng) -> Draft {
-    let handsets = rng.between(2, 70) as usize;
-    let (reach, ring) = (rng.between(1, 3) as usize, rng.one_in(3));
+    let handsets = rng.count(2, 70);
+    let (reach, ring) = (rng.count(1, 3), rng.one_in(3));
     let mut draft = Draft::new(handsets);
     for u in 0..handsets {
         for v in u + 1..=u + reach {
@@ -441,29 +460,29 @@ fn chain(rng: &mut Rng) -> Draft {
 
 /// Stars that may share leaves.
 fn stars(rng: &mut Rng) -> Draft {
-    let (centres, leaves) = (rng.between(1, 4) as usize, rng.between(1, 40) as usize);
+    let (centres, leaves) = (rng.count(1, 4), rng.count(1, 40));
     let mut draft = Draft::new(centres + leaves);
     for leaf in centres..centres + leaves {
-        for _ in 0..rng.between(1, 2) {
+        for _ in 0..rng.count(1, 2) {
             draft.tie(rng.below(centres), leaf);
         }
     }
     draft
 }
 
-fn wards(low: i32, high: i32, rng: &mut Rng) -> Draft {
-    let mut draft = Draft::new(rng.between(low, high) as usize);
+fn wards(low: usize, high: usize, rng: &mut Rng) -> Draft {
+    let mut draft = Draft::new(rng.count(low, high));
     let ties = rng.below((10 * draft.handsets).min(MOST_TIES));
-    draft.wards(rng.between(3, 20) as usize, ties, rng);
+    draft.wards(rng.count(3, 20), ties, rng);
     draft
 }
 
 /// Few cores, tied to borders only: borders in many communities.
 fn cores_with_borders(rng: &mut Rng) -> Draft {
-    let (cores, borders) = (rng.between(2, 12) as usize, rng.between(3, 30) as usize);
+    let (cores, borders) = (rng.count(2, 12), rng.count(3, 30));
     let mut draft = Draft::new(cores + borders);
     for core in 0..cores {
-        for _ in 0..rng.between(2, 12) {
+        for _ in 0..rng.count(2, 12) {
             draft.tie(core, cores + rng.below(borders));
         }
     }

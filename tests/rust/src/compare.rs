@@ -1,0 +1,445 @@
+//! One image through every call of a planner, compared with the reference: answers, every entry of
+//! what was lent, and the image itself. Lent tables hold a pattern before a call and have guards on
+//! both sides; images stand at any address, with noise around them.
+
+use std::fmt::{Debug, Display};
+use std::io::Write;
+use std::path::Path;
+use std::process::{Command, Stdio};
+
+use crate::calls::{Counts, Opened, Planner, Refusal, Role};
+use crate::reference::{self, Findings};
+use crate::sites::{self, Rng};
+
+/// Agreement, or what differs.
+pub type Outcome = Result<(), String>;
+
+fn same<T: PartialEq + Debug>(what: impl Display, got: T, expected: T) -> Outcome {
+    if got == expected {
+        return Ok(());
+    }
+    Err(format!("{what}: got {got:?}, expected {expected:?}"))
+}
+
+fn holds(what: impl Display, fact: bool) -> Outcome {
+    if fact {
+        return Ok(());
+    }
+    Err(what.to_string())
+}
+
+// ---------------------------------------------------------------- what is lent
+
+const GUARD: usize = 16;
+
+/// A table to lend: each entry has its own value, and so have the guards on both sides.
+struct Lent<T> {
+    all: Vec<T>,
+    pattern: fn(usize) -> T,
+}
+
+impl<T: Copy + PartialEq> Lent<T> {
+    fn new(length: usize, pattern: fn(usize) -> T) -> Lent<T> {
+        Lent {
+            all: (0..length + 2 * GUARD).map(pattern).collect(),
+            pattern,
+        }
+    }
+
+    fn part(&mut self) -> &mut [T] {
+        let end = self.all.len() - GUARD;
+        &mut self.all[GUARD..end]
+    }
+
+    /// Whether it begins with `written` and holds everywhere else what it held before.
+    fn holds(&self, written: &[T]) -> bool {
+        let end = GUARD + written.len();
+        let kept = |i: usize| self.all[i] == (self.pattern)(i);
+        self.all[GUARD..end] == *written && (0..GUARD).chain(end..self.all.len()).all(kept)
+    }
+}
+
+fn lent_starts(length: usize) -> Lent<u32> {
+    Lent::new(length, |i| (i as u32).wrapping_mul(0x9e37_79b1) ^ 0xa5a5_5a5a)
+}
+
+fn lent_members(length: usize) -> Lent<u16> {
+    Lent::new(length, |i| (i as u16).wrapping_mul(0x9e37) ^ 0xa55a)
+}
+
+fn lent_text(length: usize) -> Lent<u8> {
+    Lent::new(length, |i| (i as u8).wrapping_mul(0x9d) ^ 0xa5)
+}
+
+/// An image to lend, with noise on both sides.
+struct LentImage {
+    all: Vec<u8>,
+    from: usize,
+    to: usize,
+}
+
+impl LentImage {
+    fn new(image: &[u8], rng: &mut Rng) -> LentImage {
+        let from = rng.below(16);
+        let to = from + image.len();
+        let mut all = vec![0; to + GUARD];
+        rng.fill(&mut all[..from]);
+        rng.fill(&mut all[to..]);
+        all[from..to].copy_from_slice(image);
+        LentImage { all, from, to }
+    }
+
+    fn part(&self) -> &[u8] {
+        &self.all[self.from..self.to]
+    }
+}
+
+// ---------------------------------------------------------------- one image
+
+/// Every call on one image, accepted or not.
+pub fn image(planner: &dyn Planner, image: &[u8], rng: &mut Rng) -> Outcome {
+    let lent = LentImage::new(image, rng);
+    match reference::open(image) {
+        Err(refusal) => refused(planner, lent.part(), refusal, rng)?,
+        Ok(site) => accepted(planner, lent.part(), &Findings::of(site), rng)?,
+    }
+    holds("the image was changed", lent.part() == image)
+}
+
+/// Every call on a refused image ends with its refusal and writes nothing.
+fn refused(planner: &dyn Planner, image: &[u8], refusal: Refusal, rng: &mut Rng) -> Outcome {
+    same("open", planner.open(image), Err(refusal))?;
+    let mut starts = lent_starts(rng.pick(&[0, 1, 20, 513, 514]));
+    let mut members = lent_members(rng.pick(&[0, 1, 50, 8704, 8705]));
+    same("plan", planner.plan(image, starts.part(), members.part()), Err(refusal))?;
+    holds("plan wrote before a refusal", starts.holds(&[]) && members.holds(&[]))?;
+    let handset = rng.pick(&[0, 1, 511, 512, u64::MAX]);
+    same("role", planner.role(image, handset), Err(refusal))?;
+    let mut list = vec![0; rng.pick(&[0, 1, 9, 512, 513])];
+    list.iter_mut().for_each(|entry| *entry = rng.word() as u16);
+    same("scores", planner.scores(image, &list), Err(refusal))?;
+    let mut text = lent_text(rng.pick(&[0, 1, 100, 65_536]));
+    same("report", planner.report(image, text.part()), Err(refusal.number))?;
+    holds("report wrote before a refusal", text.holds(&[]))
+}
+
+/// Every call on an accepted image.
+fn accepted(planner: &dyn Planner, image: &[u8], found: &Findings, rng: &mut Rng) -> Outcome {
+    let opened = Opened {
+        handsets: found.site().positions.len() as u64,
+        ties: found.site().ties.len() as u64,
+    };
+    same("open", planner.open(image), Ok(opened))?;
+    plans(planner, image, found, rng)?;
+    roles(planner, image, found, rng)?;
+    scores(planner, image, found, rng)?;
+    let (starts, members) = (found.start_table(), found.member_table());
+    (0..starts.len() as u64 + 2).try_for_each(|k| lookup(planner, &starts, &members, k))?;
+    hostile_lookups(planner, &members, rng)?;
+    reports(planner, image, &reference::text(found), rng)
+}
+
+/// Plans with tables of just the length needed, longer, one short, shorter and empty.
+fn plans(planner: &dyn Planner, image: &[u8], found: &Findings, rng: &mut Rng) -> Outcome {
+    let (starts, members) = (found.start_table(), found.member_table());
+    let (s, m) = (starts.len(), members.len());
+    let lengths = [
+        (s, m),
+        (s + 1, m + 1),
+        (s + rng.below(40), m + rng.below(400)),
+        (513.max(s), 8704.max(m)),
+        (s - 1, m),
+        (s, m.saturating_sub(1)),
+        (s - 1, m.saturating_sub(1)),
+        (s, rng.below(m + 1)),
+        (rng.below(s + 1), m + rng.below(9)),
+        (0, 8704),
+        (513, 0),
+        (0, 0),
+    ];
+    for (starts_len, members_len) in lengths {
+        let (mut lent_s, mut lent_m) = (lent_starts(starts_len), lent_members(members_len));
+        let got = planner.plan(image, lent_s.part(), lent_m.part());
+        let what = format_args!("plan with tables of {starts_len} and {members_len}");
+        let expected = reference::ask_tables(found, starts_len, members_len);
+        same(what, got, expected)?;
+        let kept = match expected {
+            Ok(_) => lent_s.holds(&starts) && lent_m.holds(&members),
+            Err(_) => lent_s.holds(&[]) && lent_m.holds(&[]),
+        };
+        holds(format_args!("what {what} left in them"), kept)?;
+    }
+    Ok(())
+}
+
+/// The role of every handset, and of numbers that are none.
+fn roles(planner: &dyn Planner, image: &[u8], found: &Findings, rng: &mut Rng) -> Outcome {
+    let n = found.site().positions.len() as u64;
+    let any = rng.below(513) as u64;
+    let beyond = [n, n + 1, 512, 65_536 + any, (1 << 32) + any, 1 << 63, u64::MAX];
+    for handset in (0..n).chain(beyond) {
+        let what = format_args!("role of {handset}");
+        same(what, planner.role(image, handset), found.record(handset))?;
+    }
+    Ok(())
+}
+
+fn scores(planner: &dyn Planner, image: &[u8], found: &Findings, rng: &mut Rng) -> Outcome {
+    for list in lists(found, rng) {
+        let what = format_args!("scores of {list:?}");
+        same(what, planner.scores(image, &list), found.scores(&list))?;
+    }
+    Ok(())
+}
+
+/// Lists to score: none, a community, random ones in any order with repeats, and ones that are
+/// refused for an entry, for their length, or for both.
+fn lists(found: &Findings, rng: &mut Rng) -> Vec<Vec<u16>> {
+    let n = found.site().positions.len();
+    let mut random = |length: usize| -> Vec<u16> {
+        (0..length).map(|_| rng.below(n.max(1)) as u16).collect()
+    };
+    let mut lists = vec![vec![], random(1), random(2), random(7), random(20)];
+    let mut refused = random(25);
+    let long = (n > 0).then(|| [random(512), random(513)]);
+    let mut refused_twice = random(520);
+    refused[rng.below(25)] = rng.pick(&[n as u16, n as u16 + 1, 512, 65_535]);
+    refused_twice[rng.below(520)] = n as u16;
+    lists.extend([refused, refused_twice]);
+    if let Some(community) = found.communities().last() {
+        lists.push(community.members.iter().map(|&member| member as u16).collect());
+    }
+    let mut ascending: Vec<u16> = (0..n as u16).filter(|_| rng.one_in(3)).take(60).collect();
+    lists.push(ascending.clone());
+    ascending.extend_from_within(..);
+    lists.push(ascending);
+    if rng.one_in(16) {
+        lists.extend(long.into_iter().flatten());
+    }
+    lists
+}
+
+/// The member lookup, for one community.
+fn lookup(planner: &dyn Planner, starts: &[u32], members: &[u16], k: u64) -> Outcome {
+    let expected = reference::members(starts, members, k).map(|part| part.len() as u64);
+    let what = format_args!("members of {k} in {starts:?} with {} members", members.len());
+    same(what, planner.members(starts, members, k), expected)
+}
+
+/// The member lookup on start tables that no plan wrote, and for numbers beyond them.
+fn hostile_lookups(planner: &dyn Planner, members: &[u16], rng: &mut Rng) -> Outcome {
+    let m = members.len() as u32;
+    let values = [0, 1, m / 2, m.wrapping_sub(1), m, m + 1, 1 << 31, u32::MAX - 1, u32::MAX];
+    let starts: Vec<u32> = (0..rng.below(9)).map(|_| rng.pick(&values)).collect();
+    let s = starts.len() as u64;
+    let beyond = [(1 << 32) - 1, 1 << 32, (1 << 32) + s / 2, 1 << 61, 1 << 62, 1 << 63];
+    let last = [u64::MAX - 1, u64::MAX];
+    let each = (0..s + 2).chain(beyond).chain(last);
+    for k in each {
+        lookup(planner, &starts, members, k)?;
+    }
+    Ok(())
+}
+
+/// Reports into buffers of just the text's length, longer, one short and empty.
+fn reports(planner: &dyn Planner, image: &[u8], text: &[u8], rng: &mut Rng) -> Outcome {
+    let length = text.len();
+    let lengths = [length, length + 1, length + rng.below(99), length - 1, rng.below(length), 0];
+    for buffer in lengths {
+        let mut lent = lent_text(buffer);
+        let got = planner.report(image, lent.part());
+        let expected = if buffer < length { Err(16) } else { Ok(length as u64) };
+        same(format_args!("report into {buffer} bytes"), got, expected)?;
+        let written = if buffer < length { &[] } else { text };
+        let what = format_args!("what the report left in {buffer} bytes");
+        holds(what, lent.holds(written))?;
+    }
+    Ok(())
+}
+
+// ---------------------------------------------------------------- renumberings
+
+/// A renumbering of an accepted image: the plan, numbered back, has the same sets, and each role is
+/// the same but for a core's group number. Both sides are the planner's own.
+pub fn renumbering(planner: &dyn Planner, first: &[u8], rng: &mut Rng) -> Outcome {
+    let (second, map) = sites::renumber(first, rng);
+    let mut back = vec![0; map.len()];
+    (0..).zip(&map).for_each(|(from, &to)| back[usize::from(to)] = from);
+    let plain: Vec<u16> = (0..map.len() as u16).collect();
+    let (sets, counts) = numbered_back(planner, first, &plain, (513, 8704))?;
+    let lengths = (counts.communities as usize + 1, counts.memberships as usize);
+    let (second_sets, second_counts) = numbered_back(planner, &second, &back, lengths)?;
+    same("counts after a renumbering", second_counts, counts)?;
+    same("sets after a renumbering", second_sets, sets)?;
+    for (handset, &to) in map.iter().enumerate() {
+        let role = |image: &[u8], number: u64| {
+            let record = planner.role(image, number);
+            record.map(|record| (record.near, without_number(record.role)))
+        };
+        let what = format_args!("role of {handset} after a renumbering");
+        same(what, role(&second, to.into()), role(first, handset as u64))?;
+    }
+    image(planner, &second, rng)
+}
+
+fn without_number(role: Role) -> Role {
+    match role {
+        Role::Core(_) => Role::Core(0),
+        other => other,
+    }
+}
+
+/// The sets of a plan, numbered back and sorted, with its counts.
+fn numbered_back(
+    planner: &dyn Planner,
+    image: &[u8],
+    back: &[u16],
+    (starts_len, members_len): (usize, usize),
+) -> Result<(Vec<Vec<u16>>, Counts), String> {
+    let (mut starts, mut members) = (vec![0; starts_len], vec![0; members_len]);
+    let counts = planner
+        .plan(image, &mut starts, &mut members)
+        .map_err(|refusal| format!("a renumbering was refused: {refusal:?}"))?;
+    let mut sets = Vec::new();
+    for k in 0..counts.communities {
+        let part = reference::members(&starts, &members, k)
+            .map_err(|_| format!("the plan's start table {starts:?} is not one"))?;
+        let mut set: Vec<u16> = part.iter().map(|&member| back[usize::from(member)]).collect();
+        set.sort_unstable();
+        sets.push(set);
+    }
+    sets.sort_unstable();
+    Ok((sets, counts))
+}
+
+// ---------------------------------------------------------------- the report program
+
+/// The report program's standard output for an input.
+pub fn program(path: &Path, input: &[u8]) -> Outcome {
+    let failed = |error: std::io::Error| format!("{}: {error}", path.display());
+    let mut child = Command::new(path)
+        .stdin(Stdio::piped())
+        .stdout(Stdio::piped())
+        .spawn()
+        .map_err(failed)?;
+    let mut stdin = child.stdin.take().expect("standard input is piped");
+    let output = std::thread::scope(|scope| {
+        // The program may end before it has read everything, which breaks the pipe.
+        scope.spawn(move || stdin.write_all(input).ok());
+        child.wait_with_output()
+    });
+    let got = String::from_utf8_lossy(&output.map_err(failed)?.stdout).into_owned();
+    let expected = String::from_utf8_lossy(&reference::program(input)).into_owned();
+    same("the report program", got, expected)
+}
+
+#[cfg(test)]
+mod tests {
+    use super::*;
+    use crate::calls::{Record, Scores};
+    use crate::fast::Fast;
+    use crate::sites::{site_s, Layout};
+
+    /// The optimised planner with one mistake, each of a kind that the comparison must notice.
+    #[derive(Clone, Copy, Debug, PartialEq)]
+    enum Mistake {
+        None,
+        WritesBeforeRefusing,
+        WritesPastTheEnd,
+        LosesPlace,
+        OneGroupForABorder,
+        ReportsTooShort,
+        IgnoresRepeats,
+        TestsNumberItself,
+    }
+
+    impl Planner for Mistake {
+        fn name(&self) -> &'static str {
+            "mistaken"
+        }
+
+        fn open(&self, image: &[u8]) -> Result<Opened, Refusal> {
+            Fast.open(image).map_err(|refusal| match self {
+                Mistake::LosesPlace => Refusal { place: 0, ..refusal },
+                _ => refusal,
+            })
+        }
+
+        fn plan(
+            &self,
+            image: &[u8],
+            starts: &mut [u32],
+            members: &mut [u16],
+        ) -> Result<Counts, Refusal> {
+            let answer = Fast.plan(image, starts, members);
+            match (self, answer) {
+                (Mistake::WritesBeforeRefusing, Err(_)) => starts.iter_mut().for_each(|s| *s = 0),
+                (Mistake::WritesPastTheEnd, Ok(counts)) => {
+                    let past = members.get_mut(counts.memberships as usize);
+                    past.into_iter().for_each(|entry| *entry = 0);
+                }
+                _ => {}
+            }
+            answer
+        }
+
+        fn role(&self, image: &[u8], handset: u64) -> Result<Record, Refusal> {
+            let record = Fast.role(image, handset)?;
+            let role = match record.role {
+                Role::Border(_) if *self == Mistake::OneGroupForABorder => Role::Border(1),
+                role => role,
+            };
+            Ok(Record { role, ..record })
+        }
+
+        fn scores(&self, image: &[u8], list: &[u16]) -> Result<Scores, Refusal> {
+            let mut list = list.to_vec();
+            if *self == Mistake::IgnoresRepeats {
+                list.sort_unstable();
+                list.dedup();
+            }
+            Fast.scores(image, &list)
+        }
+
+        fn members(&self, starts: &[u32], members: &[u16], k: u64) -> Result<u64, Refusal> {
+            if *self == Mistake::TestsNumberItself && k + 1 == starts.len() as u64 {
+                return Ok(0);
+            }
+            Fast.members(starts, members, k)
+        }
+
+        fn report(&self, image: &[u8], text: &mut [u8]) -> Result<u64, u64> {
+            let length = Fast.report(image, text)?;
+            Ok(length - u64::from(*self == Mistake::ReportsTooShort))
+        }
+    }
+
+    /// Site S, and the same with its last tie repeated.
+    fn outcome(planner: Mistake) -> Outcome {
+        let mut rng = Rng::new(8);
+        let good = site_s(4).image(Layout::any(&mut rng), &mut rng);
+        let mut repeated = site_s(4);
+        repeated.ties.push((6, 5));
+        image(&planner, &good, &mut rng)?;
+        renumbering(&planner, &good, &mut rng)?;
+        image(&planner, &repeated.plain_image(), &mut rng)
+    }
+
+    #[test]
+    fn every_mistake_is_noticed() {
+        use Mistake::*;
+        assert_eq!(outcome(None), Ok(()));
+        let mistakes = [
+            WritesBeforeRefusing,
+            WritesPastTheEnd,
+            LosesPlace,
+            OneGroupForABorder,
+            ReportsTooShort,
+            IgnoresRepeats,
+            TestsNumberItself,
+        ];
+        for mistake in mistakes {
+            assert!(outcome(mistake).is_err(), "{mistake:?} was not noticed");
+        }
+    }
+}

@@ -1,0 +1,756 @@
+//! An optimised planner without proofs, the benchmark's opponent. It is written to be as fast as
+//! safe, portable Rust in a default release build allows: no target-cpu flags, no detection of
+//! instruction sets at run time, no unsafe code, no heap and no state between calls.
+//!
+//! What makes it fast:
+//! - rows of bits, 1, 2, 4 or 8 words wide by the count of handsets, each width compiled apart;
+//! - one pass over the ties puts questions 8, 9 and 10, sets both bits of each tie and sorts near
+//!   ties from the others; only a fault starts the search for its number and place;
+//! - bits are cleared for the ties that are not near, then for those that are not alike, as most
+//!   ties are both, and handsets are counted the same way;
+//! - communities are joined a row at a time, and a community's set takes the row of its first core.
+//!
+//! Every pass is linear in the handsets and ties, times the words of a row.
+
+use crate::calls::{Counts, Opened, Planner, Record, Refusal, Role, Scores};
+
+const HEADER: usize = 32;
+const MOST_HANDSETS: usize = 512;
+const MOST_TIES: usize = 4096;
+const MOST_COORDINATE: i32 = 1_000_000;
+
+fn refuse<T>(number: u64, place: usize) -> Result<T, Refusal> {
+    Err(Refusal { number, place: place as u64 })
+}
+
+// ---------------------------------------------------------------- the image
+
+/// An image whose header has passed questions 1 to 6, and its two tables.
+struct Image<'a> {
+    handsets: &'a [u8],
+    ties: &'a [u8],
+    gamma_squared: u64,
+    p: u64,
+    q: u64,
+    mu: u16,
+}
+
+/// A tie record as it stands: the first end in the low half.
+type Tie = u32;
+
+fn ends(tie: Tie) -> (usize, usize) {
+    ((tie & 0xffff) as usize, (tie >> 16) as usize)
+}
+
+impl<'a> Image<'a> {
+    fn read(image: &'a [u8]) -> Result<Image<'a>, Refusal> {
+        let Some(header) = image.first_chunk::<HEADER>() else {
+            return refuse(1, 0);
+        };
+        let short = |at: usize| u16::from_le_bytes([header[at], header[at + 1]]);
+        let long = |at: usize| u64::from(short(at)) | u64::from(short(at + 2)) << 16;
+        if long(12) != image.len() as u64 {
+            return refuse(2, 0);
+        }
+        let (n, m) = (usize::from(short(0)), usize::from(short(2)));
+        if n > MOST_HANDSETS || m > MOST_TIES {
+            return refuse(3, 0);
+        }
+        if short(30) != 0 {
+            return refuse(4, 0);
+        }
+        let gamma_squared = long(16) | long(20) << 32;
+        let (p, q, mu) = (short(24), short(26), short(28));
+        if gamma_squared > 8_000_000_000_000 || p == 0 || p > q || q > 1000 || mu > 512 {
+            return refuse(5, 0);
+        }
+        let (handsets_at, ties_at) = (long(4) as usize, long(8) as usize);
+        let (handsets_end, ties_end) = (handsets_at + 8 * n, ties_at + 4 * m);
+        let apart = handsets_end <= ties_at || ties_end <= handsets_at;
+        if handsets_at < HEADER || ties_at < HEADER || !apart {
+            return refuse(6, 0);
+        }
+        let handsets = image.get(handsets_at..handsets_end);
+        let (Some(handsets), Some(ties)) = (handsets, image.get(ties_at..ties_end)) else {
+            return refuse(6, 0);
+        };
+        Ok(Image {
+            handsets,
+            ties,
+            gamma_squared,
+            p: p.into(),
+            q: q.into(),
+            mu: if mu == 0 { 3 } else { mu },
+        })
+    }
+
+    fn handset_count(&self) -> usize {
+        self.handsets.len() / 8
+    }
+
+    fn tie_count(&self) -> usize {
+        self.ties.len() / 4
+    }
+
+    fn positions(&self) -> impl Iterator<Item = [i32; 2]> + 'a {
+        self.handsets.chunks_exact(8).map(|record| {
+            let coordinate = |at: usize| {
+                i32::from_le_bytes([record[at], record[at + 1], record[at + 2], record[at + 3]])
+            };
+            [coordinate(0), coordinate(4)]
+        })
+    }
+
+    fn ties(&self) -> impl Iterator<Item = Tie> + 'a {
+        let record = |bytes: &[u8]| Tie::from_le_bytes([bytes[0], bytes[1], bytes[2], bytes[3]]);
+        self.ties.chunks_exact(4).map(record)
+    }
+
+    /// Question 7. The whole table is tested without a branch; only a fault is searched for.
+    fn check_positions(&self) -> Result<(), Refusal> {
+        let outside = |coordinate: i32| {
+            coordinate.wrapping_add(MOST_COORDINATE) as u32 > 2 * MOST_COORDINATE as u32
+        };
+        let bad = |[x, y]: [i32; 2]| outside(x) | outside(y);
+        if self.positions().fold(false, |fault, position| fault | bad(position)) {
+            return refuse(7, self.positions().position(bad).unwrap_or(0));
+        }
+        Ok(())
+    }
+
+    /// Questions 8, 9 and 10, in the same way.
+    fn check_ties<const W: usize, const R: usize>(&self) -> Result<(), Refusal> {
+        let n = self.handset_count();
+        let mut seen = [[0; W]; R];
+        let mut fault = false;
+        for tie in self.ties() {
+            let (u, v) = ends(tie);
+            let (low, high) = (u.min(v), u.max(v));
+            fault |= (high >= n) | (low == high) | set_bit::<W, R>(&mut seen, low, high);
+        }
+        if fault {
+            return Err(self.tie_fault());
+        }
+        Ok(())
+    }
+
+    /// The refusal of a tie table with a fault: questions 8, 9 and 10, one after the other.
+    #[cold]
+    fn tie_fault(&self) -> Refusal {
+        let n = self.handset_count();
+        let bad_end = |tie| ends(tie).0 >= n || ends(tie).1 >= n;
+        let to_itself = |tie| ends(tie).0 == ends(tie).1;
+        let mut seen = [[0; 8]; MOST_HANDSETS];
+        let mut repeats = |tie| {
+            let (u, v) = ends(tie);
+            set_bit(&mut seen, u.min(v), u.max(v))
+        };
+        let (number, place) = if let Some(place) = self.ties().position(bad_end) {
+            (8, place)
+        } else if let Some(place) = self.ties().position(to_itself) {
+            (9, place)
+        } else {
+            (10, self.ties().position(&mut repeats).unwrap_or(0))
+        };
+        Refusal { number, place: place as u64 }
+    }
+}
+
+// ---------------------------------------------------------------- rows of bits
+
+/// R rows of W words; R is 64 W, so that any index is cut to size with a mask.
+type Rows<const W: usize, const R: usize> = [[u64; W]; R];
+
+fn bit_of(handset: usize) -> u64 {
+    1 << (handset % 64)
+}
+
+/// Sets one bit, and says whether it was set before.
+fn set_bit<const W: usize, const R: usize>(rows: &mut Rows<W, R>, row: usize, bit: usize) -> bool {
+    let word = &mut rows[row & (R - 1)][bit / 64 & (W - 1)];
+    let before = *word & bit_of(bit) != 0;
+    *word |= bit_of(bit);
+    before
+}
+
+fn clear_bit<const W: usize, const R: usize>(rows: &mut Rows<W, R>, row: usize, bit: usize) {
+    rows[row & (R - 1)][bit / 64 & (W - 1)] &= !bit_of(bit);
+}
+
+fn count<const W: usize>(set: &[u64; W]) -> u32 {
+    set.iter().map(|word| word.count_ones()).sum()
+}
+
+fn count_common<const W: usize>(one: &[u64; W], other: &[u64; W]) -> u32 {
+    one.iter().zip(other).map(|(a, b)| (a & b).count_ones()).sum()
+}
+
+fn has<const W: usize>(set: &[u64; W], handset: usize) -> bool {
+    set[handset / 64 & (W - 1)] & bit_of(handset) != 0
+}
+
+/// Calls `each` with the members of a set, ascending.
+fn for_each<const W: usize>(set: &[u64; W], mut each: impl FnMut(usize)) {
+    for (i, &word) in set.iter().enumerate() {
+        let mut rest = word;
+        while rest != 0 {
+            each(64 * i + rest.trailing_zeros() as usize);
+            rest &= rest - 1;
+        }
+    }
+}
+
+// ---------------------------------------------------------------- the network
+
+/// The ties of a site as rows of bits, no handset in its own row. Ties are dropped from it step by
+/// step: all ties, near ties, alike ties.
+struct Network<const W: usize, const R: usize> {
+    rows: Rows<W, R>,
+    /// The ones in each row.
+    degrees: [u16; R],
+    /// The ties: the near ones from the front, the others from the back.
+    list: [Tie; MOST_TIES],
+    ties: usize,
+    near: usize,
+}
+
+impl<const W: usize, const R: usize> Network<W, R> {
+    fn new() -> Self {
+        Network {
+            rows: [[0; W]; R],
+            degrees: [0; R],
+            list: [0; MOST_TIES],
+            ties: 0,
+            near: 0,
+        }
+    }
+
+    /// All ties of the image, after questions 7 to 10.
+    fn read(&mut self, image: &Image) -> Result<(), Refusal> {
+        image.check_positions()?;
+        let n = image.handset_count();
+        let mut positions = [[0; 2]; R];
+        positions.iter_mut().zip(image.positions()).for_each(|(to, from)| *to = from);
+        self.ties = image.tie_count();
+        let mut far_from = self.ties;
+        let mut fault = false;
+        for tie in image.ties() {
+            let (u, v) = ends(tie);
+            fault |= (u >= n) | (v >= n) | (u == v);
+            fault |= set_bit(&mut self.rows, u, v);
+            set_bit(&mut self.rows, v, u);
+            self.change_degrees(tie, 1);
+            let (here, there) = (positions[u & (R - 1)], positions[v & (R - 1)]);
+            let near = squared_distance(here, there) <= image.gamma_squared;
+            self.list[self.near & (MOST_TIES - 1)] = tie;
+            self.list[(far_from - 1) & (MOST_TIES - 1)] = tie;
+            self.near += usize::from(near);
+            far_from -= usize::from(!near);
+        }
+        if fault {
+            return Err(image.tie_fault());
+        }
+        Ok(())
+    }
+
+    fn change_degrees(&mut self, tie: Tie, by: u16) {
+        let (u, v) = ends(tie);
+        let degree = &mut self.degrees[u & (R - 1)];
+        *degree = degree.wrapping_add(by);
+        let degree = &mut self.degrees[v & (R - 1)];
+        *degree = degree.wrapping_add(by);
+    }
+
+    fn drop_tie(&mut self, tie: Tie) {
+        let (u, v) = ends(tie);
+        clear_bit(&mut self.rows, u, v);
+        clear_bit(&mut self.rows, v, u);
+        self.change_degrees(tie, u16::MAX);
+    }
+
+    fn keep_near(&mut self) {
+        for i in self.near..self.ties {
+            self.drop_tie(self.list[i & (MOST_TIES - 1)]);
+        }
+    }
+
+    /// Tests each near tie once, then drops those that are not alike. Two tied handsets are in both
+    /// their near sets, and in neither of the rows.
+    fn keep_alike(&mut self, p: u64, q: u64) {
+        let size = |u: usize| u64::from(self.degrees[u & (R - 1)]) + 1;
+        let weights: [u64; R] = std::array::from_fn(|u| p * p * size(u));
+        let mut unlike = 0;
+        for i in 0..self.near {
+            let tie = self.list[i & (MOST_TIES - 1)];
+            let (u, v) = ends(tie);
+            let (row, other) = (&self.rows[u & (R - 1)], &self.rows[v & (R - 1)]);
+            let common = u64::from(count_common(row, other)) + 2;
+            let alike = common * common * q * q >= weights[u & (R - 1)] * size(v);
+            self.list[unlike & (MOST_TIES - 1)] = tie;
+            unlike += usize::from(!alike);
+        }
+        for i in 0..unlike {
+            self.drop_tie(self.list[i & (MOST_TIES - 1)]);
+        }
+    }
+
+    /// The communities of alike ties. The row of each first core is replaced by its community.
+    fn join(&mut self, handsets: usize, mu: u16) -> Communities<W, R> {
+        let mut found = Communities { cores: [0; W], first_cores: [0; R], count: 0 };
+        for (u, &degree) in self.degrees[..handsets].iter().enumerate() {
+            found.cores[u / 64 & (W - 1)] |= u64::from(degree + 1 >= mu) << (u % 64);
+        }
+        let mut waiting = found.cores;
+        for i in 0..W {
+            while waiting[i] != 0 {
+                let first = 64 * i + waiting[i].trailing_zeros() as usize;
+                waiting[i] &= waiting[i] - 1;
+                self.rows[first & (R - 1)] = self.grow(first, &mut waiting);
+                found.first_cores[found.count & (R - 1)] = first as u16;
+                found.count += 1;
+            }
+        }
+        found
+    }
+
+    /// The community of a core; its cores are taken out of those waiting.
+    fn grow(&self, first: usize, waiting: &mut [u64; W]) -> [u64; W] {
+        let mut members = [0; W];
+        members[first / 64 & (W - 1)] = bit_of(first);
+        let mut stack = [first as u16; R];
+        let mut height = 1;
+        while height > 0 {
+            height -= 1;
+            let core = usize::from(stack[height & (R - 1)]);
+            let row = &self.rows[core & (R - 1)];
+            for i in 0..W {
+                members[i] |= row[i];
+                let mut new = row[i] & waiting[i];
+                waiting[i] ^= new;
+                while new != 0 {
+                    stack[height & (R - 1)] = (64 * i) as u16 + new.trailing_zeros() as u16;
+                    height += 1;
+                    new &= new - 1;
+                }
+            }
+        }
+        members
+    }
+}
+
+fn squared_distance(here: [i32; 2], there: [i32; 2]) -> u64 {
+    let square = |i: usize| i64::from(here[i] - there[i]) * i64::from(here[i] - there[i]);
+    (square(0) + square(1)) as u64
+}
+
+/// The cores, and the smallest core of each community, ascending.
+struct Communities<const W: usize, const R: usize> {
+    cores: [u64; W],
+    first_cores: [u16; R],
+    count: usize,
+}
+
+impl<const W: usize, const R: usize> Communities<W, R> {
+    /// The member sets in the rows of the network they were joined in.
+    fn sets<'a>(&'a self, network: &'a Network<W, R>) -> impl Iterator<Item = &'a [u64; W]> {
+        let first_cores = self.first_cores[..self.count].iter();
+        first_cores.map(|&first| &network.rows[usize::from(first) & (R - 1)])
+    }
+}
+
+// ---------------------------------------------------------------- the calls
+
+/// Calls a function compiled for rows as wide as the image's handsets need.
+macro_rules! by_width {
+    ($image:expr, $function:ident($($argument:expr),*)) => {
+        match $image.handset_count() {
+            0..=64 => $function::<1, 64>($($argument),*),
+            65..=128 => $function::<2, 128>($($argument),*),
+            129..=256 => $function::<4, 256>($($argument),*),
+            _ => $function::<8, 512>($($argument),*),
+        }
+    };
+}
+
+fn check<const W: usize, const R: usize>(image: &Image) -> Result<(), Refusal> {
+    image.check_positions()?;
+    image.check_ties::<W, R>()
+}
+
+fn plan<const W: usize, const R: usize>(
+    image: &Image,
+    starts: &mut [u32],
+    members: &mut [u16],
+) -> Result<Counts, Refusal> {
+    let mut network = Network::<W, R>::new();
+    network.read(image)?;
+    network.keep_near();
+    network.keep_alike(image.p, image.q);
+    let found = network.join(image.handset_count(), image.mu);
+    let memberships = found.sets(&network).map(|set| count(set) as usize).sum();
+    if starts.len() <= found.count {
+        return refuse(11, 0);
+    }
+    if members.len() < memberships {
+        return refuse(12, 0);
+    }
+    let members = &mut members[..memberships];
+    let mut at = 0;
+    for (start, set) in starts.iter_mut().zip(found.sets(&network)) {
+        *start = at as u32;
+        for_each(set, |handset| {
+            members[at] = handset as u16;
+            at += 1;
+        });
+    }
+    starts[found.count] = memberships as u32;
+    Ok(Counts {
+        communities: found.count as u64,
+        memberships: memberships as u64,
+    })
+}
+
+fn role<const W: usize, const R: usize>(image: &Image, handset: u64) -> Result<Record, Refusal> {
+    let mut network = Network::<W, R>::new();
+    network.read(image)?;
+    if handset >= image.handset_count() as u64 {
+        return refuse(13, 0);
+    }
+    let handset = handset as usize;
+    network.keep_near();
+    let near = u64::from(network.degrees[handset & (R - 1)]) + 1;
+    network.keep_alike(image.p, image.q);
+    let found = network.join(image.handset_count(), image.mu);
+    let mut sets = found.sets(&network);
+    let role = if has(&found.cores, handset) {
+        Role::Core(sets.position(|set| has(set, handset)).unwrap_or(0) as u64)
+    } else {
+        match sets.filter(|set| has(set, handset)).count() {
+            0 => Role::Outlier,
+            communities => Role::Border(communities as u64),
+        }
+    };
+    Ok(Record { near, role })
+}
+
+/// One pass over the list, one over the ties; t is the sum over the ties of the places of one end
+/// times the places of the other.
+fn scores(image: &Image, list: &[u16]) -> Result<Scores, Refusal> {
+    let n = image.handset_count();
+    let mut places = [0_u64; MOST_HANDSETS];
+    for (i, &handset) in list.iter().enumerate() {
+        let handset = usize::from(handset);
+        if handset >= n || i >= MOST_HANDSETS {
+            return refuse(13, i);
+        }
+        places[handset & (MOST_HANDSETS - 1)] += 1;
+    }
+    let length = list.len() as u64;
+    let pairs = length * length.saturating_sub(1) / 2;
+    let mut scores = Scores { pairs, tied_pairs: 0, leaving: 0 };
+    for tie in image.ties() {
+        let (u, v) = ends(tie);
+        let (u, v) = (places[u & (MOST_HANDSETS - 1)], places[v & (MOST_HANDSETS - 1)]);
+        scores.tied_pairs += u * v;
+        scores.leaving += u64::from((u == 0) != (v == 0));
+    }
+    Ok(scores)
+}
+
+/// The scores of a community. The degrees of its members count its inner ties twice and those that
+/// leave it once; the common members of its rows and itself count its inner ties twice.
+fn community_scores<const W: usize, const R: usize>(
+    set: &[u64; W],
+    rows: &Rows<W, R>,
+    degrees: &[u16; R],
+) -> [u32; 3] {
+    let (mut volume, mut inside) = (0, 0);
+    for_each(set, |handset| {
+        volume += u32::from(degrees[handset & (R - 1)]);
+        inside += count_common(set, &rows[handset & (R - 1)]);
+    });
+    let size = count(set);
+    [size * (size - 1) / 2, inside / 2, volume - inside]
+}
+
+fn report<const W: usize, const R: usize>(
+    image: &Image,
+    text: &mut [u8],
+) -> Result<usize, Refusal> {
+    let mut network = Network::<W, R>::new();
+    network.read(image)?;
+    let (rows, degrees) = (network.rows, network.degrees);
+    network.keep_near();
+    network.keep_alike(image.p, image.q);
+    let found = network.join(image.handset_count(), image.mu);
+    let mut lines = Lines {
+        handsets: image.handset_count(),
+        ties: image.tie_count(),
+        memberships: 0,
+        network: &network,
+        found: &found,
+        scores: [[0; 3]; R],
+        outliers: [0; W],
+    };
+    let mut members = [0; W];
+    for (set, scores) in found.sets(&network).zip(&mut lines.scores) {
+        *scores = community_scores(set, &rows, &degrees);
+        lines.memberships += count(set);
+        members.iter_mut().zip(set).for_each(|(all, word)| *all |= word);
+    }
+    for u in 0..lines.handsets {
+        lines.outliers[u / 64 & (W - 1)] |= u64::from(!has(&members, u)) << (u % 64);
+    }
+    let mut length = Length(0);
+    lines.put(&mut length);
+    let Some(text) = text.get_mut(..length.0) else {
+        return refuse(16, 0);
+    };
+    lines.put(&mut Writer { text, at: 0 });
+    Ok(length.0)
+}
+
+// ---------------------------------------------------------------- the text
+
+/// All that the report says.
+struct Lines<'a, const W: usize, const R: usize> {
+    handsets: usize,
+    ties: usize,
+    memberships: u32,
+    network: &'a Network<W, R>,
+    found: &'a Communities<W, R>,
+    scores: [[u32; 3]; R],
+    outliers: [u64; W],
+}
+
+/// Where the text goes: into a count of bytes first, then into the buffer.
+trait Sink {
+    fn put(&mut self, text: &str);
+    fn number(&mut self, value: u32);
+    /// The members of a set, a space before each, and the line's end.
+    fn handsets<const W: usize>(&mut self, set: &[u64; W]);
+}
+
+impl<const W: usize, const R: usize> Lines<'_, W, R> {
+    fn put(&self, sink: &mut impl Sink) {
+        sink.put("handsets ");
+        sink.number(self.handsets as u32);
+        sink.put(" ties ");
+        sink.number(self.ties as u32);
+        sink.put(" groups ");
+        sink.number(self.found.count as u32);
+        sink.put(" memberships ");
+        sink.number(self.memberships);
+        sink.put("\n");
+        for (k, set) in self.found.sets(self.network).enumerate() {
+            let [s, t, o] = self.scores[k & (R - 1)];
+            sink.put("group ");
+            sink.number(k as u32);
+            sink.put(" density ");
+            put_score(sink, s - t, s);
+            sink.put(" conductance ");
+            put_score(sink, o, 2 * t + o);
+            sink.put(":");
+            sink.handsets(set);
+        }
+        sink.put("cores:");
+        sink.handsets(&self.found.cores);
+        sink.put("outliers:");
+        sink.handsets(&self.outliers);
+    }
+}
+
+fn put_score(sink: &mut impl Sink, dividend: u32, divisor: u32) {
+    if divisor == 0 {
+        sink.put("-");
+    } else {
+        sink.number(dividend);
+        sink.put("/");
+        sink.number(divisor);
+    }
+}
+
+/// Counts the bytes.
+struct Length(usize);
+
+impl Sink for Length {
+    fn put(&mut self, text: &str) {
+        self.0 += text.len();
+    }
+
+    fn number(&mut self, value: u32) {
+        self.0 += 1 + value.checked_ilog10().unwrap_or(0) as usize;
+    }
+
+    /// Four bytes a handset, one less below 100, one less again below 10.
+    fn handsets<const W: usize>(&mut self, set: &[u64; W]) {
+        let below_10 = (set[0] & ((1 << 10) - 1)).count_ones();
+        let next_word = set.get(1).copied().unwrap_or(0);
+        let below_100 = set[0].count_ones() + (next_word & ((1 << 36) - 1)).count_ones();
+        self.0 += 4 * count(set) as usize - below_10 as usize - below_100 as usize + 1;
+    }
+}
+
+/// Writes into a buffer that has just the text's length.
+struct Writer<'a> {
+    text: &'a mut [u8],
+    at: usize,
+}
+
+impl Sink for Writer<'_> {
+    fn put(&mut self, text: &str) {
+        self.text[self.at..self.at + text.len()].copy_from_slice(text.as_bytes());
+        self.at += text.len();
+    }
+
+    fn number(&mut self, value: u32) {
+        let mut digits = [0; 10];
+        let mut first = digits.len();
+        let mut rest = value;
+        loop {
+            first -= 1;
+            digits[first] = b'0' + (rest % 10) as u8;
+            rest /= 10;
+            if rest == 0 {
+                break;
+            }
+        }
+        let digits = &digits[first..];
+        self.text[self.at..self.at + digits.len()].copy_from_slice(digits);
+        self.at += digits.len();
+    }
+
+    fn handsets<const W: usize>(&mut self, set: &[u64; W]) {
+        for_each(set, |handset| self.handset(handset));
+        self.put("\n");
+    }
+}
+
+impl Writer<'_> {
+    /// Four bytes at once wherever they fit; those past the number are overwritten by what follows.
+    fn handset(&mut self, handset: usize) {
+        let word = &SPACED[handset & (MOST_HANDSETS - 1)];
+        let length = 2 + usize::from(handset >= 10) + usize::from(handset >= 100);
+        match self.text[self.at..].first_chunk_mut::<4>() {
+            Some(four) => *four = *word,
+            None => self.text[self.at..self.at + length].copy_from_slice(&word[..length]),
+        }
+        self.at += length;
+    }
+}
+
+/// Each handset's number in decimal after a space.
+static SPACED: [[u8; 4]; MOST_HANDSETS] = {
+    let mut table = [[b' '; 4]; MOST_HANDSETS];
+    let mut handset = 0;
+    while handset < MOST_HANDSETS {
+        let digits = [handset / 100, handset / 10 % 10, handset % 10];
+        let skipped = if handset >= 100 { 0 } else if handset >= 10 { 1 } else { 2 };
+        let mut i = skipped;
+        while i < 3 {
+            table[handset][1 + i - skipped] = b'0' + digits[i] as u8;
+            i += 1;
+        }
+        handset += 1;
+    }
+    table
+};
+
+/// The optimised planner behind the trait.
+pub struct Fast;
+
+impl Planner for Fast {
+    fn name(&self) -> &'static str {
+        "fast"
+    }
+
+    fn open(&self, image: &[u8]) -> Result<Opened, Refusal> {
+        let image = Image::read(image)?;
+        by_width!(image, check(&image))?;
+        Ok(Opened {
+            handsets: image.handset_count() as u64,
+            ties: image.tie_count() as u64,
+        })
+    }
+
+    fn plan(
+        &self,
+        image: &[u8],
+        starts: &mut [u32],
+        members: &mut [u16],
+    ) -> Result<Counts, Refusal> {
+        let image = Image::read(image)?;
+        by_width!(image, plan(&image, starts, members))
+    }
+
+    fn role(&self, image: &[u8], handset: u64) -> Result<Record, Refusal> {
+        let image = Image::read(image)?;
+        by_width!(image, role(&image, handset))
+    }
+
+    fn scores(&self, image: &[u8], list: &[u16]) -> Result<Scores, Refusal> {
+        let image = Image::read(image)?;
+        by_width!(image, check(&image))?;
+        scores(&image, list)
+    }
+
+    fn members(&self, starts: &[u32], members: &[u16], community: u64) -> Result<u64, Refusal> {
+        let refusal = refuse(14, 0);
+        let Some(end) = community.checked_add(1).filter(|&end| end < starts.len() as u64) else {
+            return refusal;
+        };
+        let (first, end) = (starts[community as usize], starts[end as usize]);
+        if first > end || end as usize > members.len() {
+            return refusal;
+        }
+        Ok(u64::from(end - first))
+    }
+
+    fn report(&self, image: &[u8], text: &mut [u8]) -> Result<u64, u64> {
+        let whole = Image::read(image).and_then(|image| by_width!(image, report(&image, text)));
+        whole.map(|length| length as u64).map_err(|refusal| refusal.number)
+    }
+}
+
+#[cfg(test)]
+mod tests {
+    use super::*;
+    use crate::reference::Reference;
+    use crate::sites::{self, Layout, Rng};
+
+    /// Site S of the specification, and one site on each side of every change of width.
+    #[test]
+    fn every_width_equals_the_reference() {
+        let mut rng = Rng::new(5);
+        agree(&sites::site_s(4).plain_image());
+        for handsets in [0, 1, 63, 64, 65, 127, 128, 129, 255, 256, 257, 511, 512] {
+            let site = sites::hospital(handsets.max(1), 6 * handsets, &mut rng);
+            agree(&site.image(Layout::any(&mut rng), &mut rng));
+        }
+        for site in [sites::untied(0, 0), sites::hub(), sites::shared_borders(), sites::one_clique()] {
+            agree(&site.plain_image());
+        }
+    }
+
+    #[test]
+    fn random_sites_equal_the_reference() {
+        let mut rng = Rng::new(6);
+        for _ in 0..300 {
+            agree(&sites::any(&mut rng).image(Layout::any(&mut rng), &mut rng));
+        }
+    }
+
+    fn agree(image: &[u8]) {
+        assert_eq!(Fast.open(image), Reference.open(image));
+        let plan = |planner: &dyn Planner| {
+            let (mut starts, mut members) = ([7; 514], [7; 8705]);
+            (planner.plan(image, &mut starts, &mut members), starts, members)
+        };
+        assert_eq!(plan(&Fast), plan(&Reference));
+        let report = |planner: &dyn Planner| {
+            let mut text = vec![7; 65_536];
+            (planner.report(image, &mut text), text)
+        };
+        assert_eq!(report(&Fast), report(&Reference));
+    }
+}
