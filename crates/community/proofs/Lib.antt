@@ -8,3 +8,4 @@ pub mod Tables
 pub mod Site
 pub mod Bound
 pub mod Examples
+pub mod RenumberSite

@@ -36,7 +36,7 @@ abbrev pub Moved : (g : Network) → (ℕ → ℕ → Bool) → Renumbering (g .
 Moved g b r = (u v : ℕ) → u < g .n → v < g .n → b (r .to u) (r .to v) ≡ g .neighbour u v
 
 module _ (g : Network) (b : ℕ → ℕ → Bool) (r : Renumbering (g .n)) (moved : Moved g b r) where
-  neighbourhoodSize-moved : (u : ℕ) → u < g .n → neighbourhoodSize (withNeighbour g b) (r .to u) ≡ neighbourhoodSize g u
+  pub neighbourhoodSize-moved : (u : ℕ) → u < g .n → neighbourhoodSize (withNeighbour g b) (r .to u) ≡ neighbourhoodSize g u
   unfolding neighbourhoodSize
   neighbourhoodSize-moved u hu = sym (count-across r (g .neighbour u) (b (r .to u)) (λ v h. moved u v hu h))
 

@@ -402,7 +402,7 @@ mod tests {
         }
 
         fn members(&self, starts: &[u32], members: &[u16], k: u64) -> Result<u64, Refusal> {
-            if *self == Mistake::TestsNumberItself && k + 1 == starts.len() as u64 {
+            if *self == Mistake::TestsNumberItself && k.wrapping_add(1) == starts.len() as u64 {
                 return Ok(0);
             }
             Fast.members(starts, members, k)

@@ -1,0 +1,305 @@
+-- A renumbered image is accepted where the first is, and its network is the first one's, renumbered. The header is the same byte by byte; a record
+-- that is moved whole reads the same; an edge of the second image comes from just one of the first, so a repeat or a loop there would be one here.
+--
+--     accepted-too      the second image is accepted
+--     network-moved     its network is the first one's with another neighbour relation
+--     moved             that relation is the first one's, renumbered
+--     image-listed      each community of the second, numbered back, is a community of the first
+--     image-roles       each handset has the same role, but for a core's number, and the same near count
+use Prim.Native.Nat.{ℕ, zero, suc, _+_, _*_, _≤_, _<_}
+use native.Mathlib.Omega.{arith}
+use mathlib.Core.Path.{_≡_, refl, sym, ap, ap₂, _∙_, subst}
+use mathlib.Core.Logic.{_⊎_, inl, inr, ⊎-elim}
+use mathlib.Core.Bool.{Bool, true, false, _&&_, _||_, not}
+use mathlib.Core.List.{List, [], _∷_, List·Memᴰ}
+use lib.Dec.{T, T-not, not-T, leb, leb→le, ltb, lt→ltb, eqb, eqb→eq}
+use lib.ListN.{length, getD, length-take, length-drop}
+use Rattle.sets.specs.Below.{any}
+use Rattle.sets.specs.Renumbering.{Renumbering}
+use Rattle.sets.proofs.Tests.{and-make, and-left, and-right, any-make, any-take, any-none, none-any, not-any, eqb-of, T-ext, three}
+use Rattle.sets.proofs.Counting.{to-apart}
+use Rattle.image.specs.Bytes.{number}
+use Rattle.image.specs.Image.{handsetCount, edgeCount, handsetOffset, edgeOffset, imageLength, limitSquared, epsilonNum, epsilonDen, muField, mu, reserved, coreSize, handsetRecords, edgeRecords, shifted, gap, xAt, yAt, distanceAt, distanceSquared, endA, endB, joins, adjacent, within, neighbour}
+use Rattle.image.specs.Questions.{headerOf, countsFit, thresholdsFit, tablesFit, inLimits, outOfLimits, badEnd, isLoop, repeatsEarlier, Accepted}
+use Rattle.image.specs.declared.Header.{Header}
+use Rattle.image.proofs.Bytes.{number-cong}
+use Rattle.image.proofs.Acceptance.{accepted-fits, length-is, ends-below}
+use Rattle.community.specs.Network.{Network, communities, role, neighbourhoodSize}
+use Rattle.community.specs.Site.{network}
+use Rattle.community.specs.Renumbered.{Renumbered, SamePair, NumberedBack, SameRole}
+use Rattle.community.proofs.Similarity.{Sound}
+use Rattle.community.proofs.Site.{network-sound, accepted-sound}
+use Rattle.community.proofs.Edges.{joins-make, joins-take, pair-sym, pair-trans, pair-map, pair-back}
+use Rattle.community.proofs.Communities.{Listed}
+use Rattle.community.proofs.Renumber.{withNeighbour, Moved, listed-back, length-communities-moved, neighbourhoodSize-moved}
+use Rattle.community.proofs.Roles.{role-moved}
+
+module _ (s t : List ℕ) (r : Renumbered s t) (ok : Accepted s) where
+  long : 32 ≤ length s
+  long = leb→le 32 (length s) (ok .q1)
+
+  -- ---- the header's numbers
+  head : (w a : ℕ) → a + w ≤ 32 → number w t a ≡ number w s a
+  head w a h = number-cong w s t a a (omega (arith, long)) (omega (arith, long, r .same-length)) (λ i l. r .header (a + i) (omega arith))
+
+  same-header : headerOf t ≡ headerOf s
+  unfolding headerOf handsetCount edgeCount handsetOffset edgeOffset imageLength limitSquared epsilonNum epsilonDen muField reserved
+  same-header = λ i. record {
+    n = head 2 0 (omega arith) i;
+    m = head 2 2 (omega arith) i;
+    handsets = head 4 4 (omega arith) i;
+    edges = head 4 8 (omega arith) i;
+    len = head 4 12 (omega arith) i;
+    limit = head 8 16 (omega arith) i;
+    p = head 2 24 (omega arith) i;
+    q = head 2 26 (omega arith) i;
+    mu = head 2 28 (omega arith) i;
+    reserved = head 2 30 (omega arith) i
+  }
+
+  same-handsets : handsetCount t ≡ handsetCount s
+  unfolding headerOf
+  same-handsets = ap (λ (h : Header). h .n) same-header
+
+  same-edges : edgeCount t ≡ edgeCount s
+  unfolding headerOf
+  same-edges = ap (λ (h : Header). h .m) same-header
+
+  same-limit : limitSquared t ≡ limitSquared s
+  unfolding headerOf
+  same-limit = ap (λ (h : Header). h .limit) same-header
+
+  same-p : epsilonNum t ≡ epsilonNum s
+  unfolding headerOf
+  same-p = ap (λ (h : Header). h .p) same-header
+
+  same-q : epsilonDen t ≡ epsilonDen s
+  unfolding headerOf
+  same-q = ap (λ (h : Header). h .q) same-header
+
+  same-mu : mu t ≡ mu s
+  unfolding headerOf mu
+  same-mu = ap (λ (h : Header). coreSize (h .mu)) same-header
+
+  -- ---- positions
+  handsets-long : (x : List ℕ) → headerOf x ≡ headerOf s → length x ≡ length s → length (handsetRecords x) ≡ 8 * handsetCount s
+  unfolding handsetRecords headerOf
+  handsets-long x e l =
+      let f = accepted-fits s ok in
+      let n : handsetCount x ≡ handsetCount s = ap (λ (h : Header). h .n) e in
+      let o : handsetOffset x ≡ handsetOffset s = ap (λ (h : Header). h .handsets) e in
+      simp (length-take, length-drop) (omega (arith, f .handsets-to, length-is s ok))
+
+  moved-number : (v i : ℕ) → v < handsetCount s → i + 4 ≤ 8 → number 4 (handsetRecords t) (8 * r .map .to v + i) ≡ number 4 (handsetRecords s) (8 * v + i)
+  moved-number v i h l =
+      number-cong 4 (handsetRecords s) (handsetRecords t) (8 * v + i) (8 * r .map .to v + i)
+      (omega (arith, handsets-long s refl refl))
+      (omega (arith, handsets-long t same-header (r .same-length), r .map .to-below v h))
+      (λ j k. ap (λ (x : ℕ). getD (handsetRecords t) x 0) (shift (r .map .to v) j) ∙ r .records v (i + j) h (omega arith)
+        ∙ ap (λ (x : ℕ). getD (handsetRecords s) x 0) (sym (shift v j)))
+    where
+      shift : (x j : ℕ) → 8 * x + i + j ≡ 8 * x + (i + j)
+      shift x j = omega arith
+
+  x-moved : (v : ℕ) → v < handsetCount s → xAt (handsetRecords t) (r .map .to v) ≡ xAt (handsetRecords s) v
+  unfolding xAt
+  x-moved v h =
+      ap shifted
+      (ap (number 4 (handsetRecords t)) (zero-more (r .map .to v)) ∙ moved-number v 0 h (omega arith) ∙ ap (number 4 (handsetRecords s)) (sym (zero-more v)))
+    where
+      zero-more : (x : ℕ) → 8 * x ≡ 8 * x + 0
+      zero-more x = omega arith
+
+  y-moved : (v : ℕ) → v < handsetCount s → yAt (handsetRecords t) (r .map .to v) ≡ yAt (handsetRecords s) v
+  unfolding yAt
+  y-moved v h = ap shifted (moved-number v 4 h (omega arith))
+
+  within-moved : (u v : ℕ) → u < handsetCount s → v < handsetCount s → within t (r .map .to u) (r .map .to v) ≡ within s u v
+  unfolding within distanceSquared distanceAt
+  within-moved u v h k = rw (x-moved u h, x-moved v k, y-moved u h, y-moved v k, same-limit)
+
+  -- ---- edges
+
+  ends : (k : ℕ) → k < edgeCount s → (endA (edgeRecords s) k < handsetCount s) × (endB (edgeRecords s) k < handsetCount s)
+  ends = ends-below s ok
+
+  -- an edge of t, and the edge of s that it comes from
+  from : (k : ℕ) → k < edgeCount t
+      → (j : ℕ) × (j < edgeCount s) × (r .order .to j ≡ k)
+      × SamePair (endA (edgeRecords t) k) (endB (edgeRecords t) k) (r .map .to (endA (edgeRecords s) j)) (r .map .to (endB (edgeRecords s) j))
+  from k h =
+      let l : k < edgeCount s = subst (λ (m : ℕ). k < m) same-edges h in
+      let j : ℕ = r .order .back k in
+      let e : r .order .to j ≡ k = r .order .to-back k l in
+      (j, r .order .back-below k l, e,
+       subst
+       (λ (x : ℕ). SamePair (endA (edgeRecords t) x) (endB (edgeRecords t) x) (r .map .to (endA (edgeRecords s) j)) (r .map .to (endB (edgeRecords s) j)))
+       e (r .ends j (r .order .back-below k l)))
+
+  adjacent-to : (u v : ℕ) → T (adjacent s u v) → T (adjacent t (r .map .to u) (r .map .to v))
+  unfolding adjacent
+  adjacent-to u v x =
+      let a = any-take (edgeCount s) (joins (edgeRecords s) u v) x in
+      let k : ℕ = a .0 in
+      any-make (edgeCount t) (joins (edgeRecords t) (r .map .to u) (r .map .to v)) (r .order .to k)
+      (subst (λ (m : ℕ). r .order .to k < m) (sym same-edges) (r .order .to-below k (a .1)))
+      (joins-make (edgeRecords t) (r .map .to u) (r .map .to v) (r .order .to k)
+      (pair-trans _ _ (r .map .to (endA (edgeRecords s) k)) (r .map .to (endB (edgeRecords s) k)) _ _ (r .ends k (a .1))
+      (pair-map (r .map .to) (endA (edgeRecords s) k) (endB (edgeRecords s) k) u v (joins-take (edgeRecords s) u v k (a .2)))))
+
+  adjacent-from : (u v : ℕ) → u < handsetCount s → v < handsetCount s → T (adjacent t (r .map .to u) (r .map .to v)) → T (adjacent s u v)
+  unfolding adjacent
+  adjacent-from u v hu hv x =
+      let a = any-take (edgeCount t) (joins (edgeRecords t) (r .map .to u) (r .map .to v)) x in
+      let f = from (a .0) (a .1) in
+      let b = ends (f .0) (f .1) in
+      any-make (edgeCount s) (joins (edgeRecords s) u v) (f .0) (f .1)
+      (joins-make (edgeRecords s) u v (f .0)
+      (pair-back (r .map) (endA (edgeRecords s) (f .0)) (endB (edgeRecords s) (f .0)) u v (b .0) (b .1) hu hv
+      (pair-trans _ _ (endA (edgeRecords t) (a .0)) (endB (edgeRecords t) (a .0)) _ _ (pair-sym _ _ _ _ (f .3))
+      (joins-take (edgeRecords t) (r .map .to u) (r .map .to v) (a .0) (a .2)))))
+
+  eqb-moved : (u v : ℕ) → u < handsetCount s → v < handsetCount s → eqb (r .map .to u) (r .map .to v) ≡ eqb u v
+  eqb-moved u v hu hv =
+      T-ext (eqb (r .map .to u) (r .map .to v)) (eqb u v)
+      (λ x. eqb-of u v (to-apart (r .map) u v hu hv (eqb→eq (r .map .to u) (r .map .to v) x)))
+      (λ x. eqb-of (r .map .to u) (r .map .to v) (ap (r .map .to) (eqb→eq u v x)))
+
+  -- ---- the network
+  pub moved : Moved (network s) (neighbour t) (r .map)
+  unfolding neighbour
+  moved u v hu hv =
+      ap₂ _||_ (eqb-moved u v hu hv)
+      (ap₂ _&&_
+      (T-ext (adjacent t (r .map .to u) (r .map .to v)) (adjacent s u v) (adjacent-from u v hu hv) (adjacent-to u v))
+      (within-moved u v hu hv))
+
+  pub network-moved : network t ≡ withNeighbour (network s) (neighbour t)
+  network-moved = λ i. record { n = same-handsets i; neighbour = neighbour t; p = same-p i; q = same-q i; mu = same-mu i }
+
+  sound-t : Sound (withNeighbour (network s) (neighbour t))
+  sound-t = subst Sound network-moved (network-sound t (omega (arith, same-p, same-q, p-q)))
+    where
+      p-q : epsilonNum s ≤ epsilonDen s
+      p-q = accepted-sound s ok .at-most-one
+
+  -- ---- questions 7 to 10
+  not-not : (b : Bool) → (T (not b) → ⊥) → T b
+  not-not true f = tt
+  not-not false f = absurd (f tt)
+
+  limits : (v : ℕ) → v < handsetCount t → T (not (outOfLimits (handsetRecords t) v))
+  unfolding outOfLimits
+  limits v h =
+      let l : v < handsetCount s = subst (λ (m : ℕ). v < m) same-handsets h in
+      let w : ℕ = r .map .back v in
+      let hw : w < handsetCount s = r .map .back-below v l in
+      let e : r .map .to w ≡ v = r .map .to-back v l in
+      subst (λ (x : ℕ). T (not (outOfLimits (handsetRecords t) x))) e
+      (subst T (sym (ap₂ (λ (p q : ℕ). not (not (inLimits p && inLimits q))) (x-moved w hw) (y-moved w hw))) (ok .q7 w hw))
+
+  good-ends : (k : ℕ) → k < edgeCount t → T (not (badEnd (edgeRecords t) (handsetCount t) k))
+  unfolding badEnd
+  good-ends k h =
+      let f = from k h in
+      let b = ends (f .0) (f .1) in
+      let n : ℕ = handsetCount t in
+      let up : (w : ℕ) → w < handsetCount s → r .map .to w < n =
+        λ w l. subst (λ (m : ℕ). r .map .to w < m) (sym same-handsets) (r .map .to-below w l) in
+      let a1 : ℕ = endA (edgeRecords t) k in
+      let b1 : ℕ = endB (edgeRecords t) k in
+      let yes : (a1 < n) × (b1 < n) =
+        ⊎-elim
+        (λ e. (subst (λ (z : ℕ). z < n) (sym (e .0)) (up _ (b .0)), subst (λ (z : ℕ). z < n) (sym (e .1)) (up _ (b .1))))
+        (λ e. (subst (λ (z : ℕ). z < n) (sym (e .0)) (up _ (b .1)), subst (λ (z : ℕ). z < n) (sym (e .1)) (up _ (b .0)))) (f .3) in
+      not-T (not (ltb a1 n && ltb b1 n)) (λ x. T-not (ltb a1 n && ltb b1 n) x (and-make (ltb a1 n) (ltb b1 n) (lt→ltb a1 n (yes .0)) (lt→ltb b1 n (yes .1))))
+
+  no-loop : (k : ℕ) → k < edgeCount t → T (not (isLoop (edgeRecords t) k))
+  unfolding isLoop
+  no-loop k h =
+      let f = from k h in
+      let b = ends (f .0) (f .1) in
+      let a1 : ℕ = endA (edgeRecords t) k in
+      let b1 : ℕ = endB (edgeRecords t) k in
+      not-T (eqb a1 b1) (λ x.
+        let e : a1 ≡ b1 = eqb→eq a1 b1 x in
+        let m : r .map .to (endA (edgeRecords s) (f .0)) ≡ r .map .to (endB (edgeRecords s) (f .0)) =
+          ⊎-elim (λ d. sym (d .0) ∙ e ∙ d .1) (λ d. sym (d .1) ∙ sym e ∙ d .0) (f .3) in
+        T-not (eqb (endA (edgeRecords s) (f .0)) (endB (edgeRecords s) (f .0))) (ok .q9 (f .0) (f .1))
+        (eqb-of (endA (edgeRecords s) (f .0)) (endB (edgeRecords s) (f .0))
+        (to-apart (r .map) (endA (edgeRecords s) (f .0)) (endB (edgeRecords s) (f .0)) (b .0) (b .1) m)))
+
+  -- two edges of s that join the same two are one
+  same-edge : (j k : ℕ) → j < edgeCount s → k < edgeCount s
+      → SamePair (endA (edgeRecords s) j) (endB (edgeRecords s) j) (endA (edgeRecords s) k) (endB (edgeRecords s) k) → j ≡ k
+  unfolding repeatsEarlier
+  same-edge j k hj hk p =
+      ⊎-elim (λ e. e)
+      (λ o. ⊎-elim (λ l. absurd (earlier j k l hk p)) (λ l. absurd (earlier k j l hj (pair-sym _ _ _ _ p))) o)
+      (three j k)
+    where
+      earlier : (i j : ℕ) → i < j → j < edgeCount s
+          → SamePair (endA (edgeRecords s) i) (endB (edgeRecords s) i) (endA (edgeRecords s) j) (endB (edgeRecords s) j) → ⊥
+      earlier i j l h q =
+          T-not (repeatsEarlier (edgeRecords s) j) (ok .q10 j h)
+          (any-make j (joins (edgeRecords s) (endA (edgeRecords s) j) (endB (edgeRecords s) j)) i l
+          (joins-make (edgeRecords s) (endA (edgeRecords s) j) (endB (edgeRecords s) j) i q))
+
+  no-repeat : (k : ℕ) → k < edgeCount t → T (not (repeatsEarlier (edgeRecords t) k))
+  unfolding repeatsEarlier
+  no-repeat k h =
+      let test : ℕ → Bool = joins (edgeRecords t) (endA (edgeRecords t) k) (endB (edgeRecords t) k) in
+      not-T (any k test) (λ x.
+        let c = any-take k test x in
+        let i : ℕ = c .0 in
+        let fk = from k h in
+        let fi = from i (omega (arith, c .1, h)) in
+        let bk = ends (fk .0) (fk .1) in
+        let bi = ends (fi .0) (fi .1) in
+        let p : SamePair (endA (edgeRecords s) (fi .0)) (endB (edgeRecords s) (fi .0)) (endA (edgeRecords s) (fk .0)) (endB (edgeRecords s) (fk .0)) =
+          pair-back (r .map) (endA (edgeRecords s) (fi .0)) (endB (edgeRecords s) (fi .0)) (endA (edgeRecords s) (fk .0)) (endB (edgeRecords s) (fk .0))
+          (bi .0) (bi .1) (bk .0) (bk .1)
+          (pair-trans _ _ (endA (edgeRecords t) i) (endB (edgeRecords t) i) _ _ (pair-sym _ _ _ _ (fi .3))
+          (pair-trans _ _ (endA (edgeRecords t) k) (endB (edgeRecords t) k) _ _ (joins-take (edgeRecords t) (endA (edgeRecords t) k) (endB (edgeRecords t) k) i (c .2)) (fk .3))) in
+        let e : i ≡ k = sym (fi .2) ∙ ap (r .order .to) (same-edge (fi .0) (fk .0) (fi .1) (fk .1) p) ∙ fk .2 in
+        differ i k (c .1) e)
+    where
+      differ : (i k : ℕ) → i < k → i ≡ k → ⊥
+      differ i k l e = omega arith
+
+  pub accepted-too : Accepted t
+  unfolding headerOf
+  accepted-too = record {
+    q1 = rw (r .same-length) (ok .q1);
+    q2 = subst T (ap₂ eqb (sym (ap (λ (h : Header). h .len) same-header)) (sym (r .same-length))) (ok .q2);
+    q3 = rw same-header (ok .q3);
+    q4 = subst T (ap (λ (x : ℕ). eqb x 0) (sym (ap (λ (h : Header). h .reserved) same-header))) (ok .q4);
+    q5 = rw same-header (ok .q5);
+    q6 = rw same-header (ok .q6);
+    q7 = limits;
+    q8 = good-ends;
+    q9 = no-loop;
+    q10 = no-repeat;
+  }
+
+  -- ---- what the calls say of the second image
+  pub image-communities : length (communities (network s)) ≡ length (communities (network t))
+  image-communities =
+      length-communities-moved (network s) (neighbour t) (r .map) moved (accepted-sound s ok) sound-t
+      ∙ ap (λ (g : Network). length (communities g)) (sym network-moved)
+
+  pub image-listed : (k : ℕ) → k < length (communities (network t))
+      → (j : ℕ) × Listed (network s) (NumberedBack (r .map) (λ v. List·Memᴰ v (getD (communities (network t)) k []))) j
+  image-listed =
+      subst
+      (λ (g : Network). (k : ℕ) → k < length (communities g) → (j : ℕ) × Listed (network s) (NumberedBack (r .map) (λ v. List·Memᴰ v (getD (communities g) k []))) j)
+      (sym network-moved) (listed-back (network s) (neighbour t) (r .map) moved (accepted-sound s ok) sound-t)
+
+  pub image-roles : (v : ℕ) → v < handsetCount s → SameRole (role (network s) v) (role (network t) (r .map .to v))
+  image-roles v h =
+      subst (λ (g : Network). SameRole (role (network s) v) (role g (r .map .to v))) (sym network-moved)
+      (role-moved (network s) (neighbour t) (r .map) moved (accepted-sound s ok) sound-t v h)
+
+  pub image-neighbours : (v : ℕ) → v < handsetCount s → neighbourhoodSize (network t) (r .map .to v) ≡ neighbourhoodSize (network s) v
+  image-neighbours v h =
+      ap (λ (g : Network). neighbourhoodSize g (r .map .to v)) network-moved ∙ neighbourhoodSize-moved (network s) (neighbour t) (r .map) moved v h
