@@ -88,16 +88,6 @@ community-back g b r moved Q d = record {
   closed = λ v w x c. (to-below c, d .closed (r .to v) (r .to w) (x .1) (Reachable-moved g b r moved c))
 }
 
--- each listed community of the renumbered network, numbered back, is a listed community
-pub listed-back : (g : Network) (b : ℕ → ℕ → Bool) (r : Renumbering (g .n)) → Moved g b r → Sound g → Sound (withNeighbour g b)
-    → (k : ℕ) → k < length (communities (withNeighbour g b))
-    → (j : ℕ) × Listed g (NumberedBack r (λ v. List·Memᴰ v (getD (communities (withNeighbour g b)) k []))) j
-listed-back g b r moved ok ok′ k h =
-    exactly ok (NumberedBack r (λ v. List·Memᴰ v (getD (communities (withNeighbour g b)) k []))) .0
-    (community-back g b r moved (λ v. List·Memᴰ v (getD (communities (withNeighbour g b)) k []))
-    (exactly ok′ (λ v. List·Memᴰ v (getD (communities (withNeighbour g b)) k [])) .1
-    (k, record { place = h; same = λ v. ((λ x. x), (λ x. x)) })))
-
 -- as many leader pass a test that depends on the community alone, before the renumbering as after
 module _ (g : Network) (b : ℕ → ℕ → Bool) (r : Renumbering (g .n)) (moved : Moved g b r) (ok : Sound g) (ok′ : Sound (withNeighbour g b)) where
   reachable-moved : (u v : ℕ) → u < g .n → v < g .n → reachable (withNeighbour g b) (r .to u) (r .to v) ≡ reachable g u v

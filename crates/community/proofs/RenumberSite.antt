@@ -4,34 +4,36 @@
 --     accepted-too      the second image is accepted
 --     network-moved     its network is the first one's with another neighbour relation
 --     moved             that relation is the first one's, renumbered
---     image-listed      each community of the second, numbered back, is a community of the first
+--     community-numbered-back, community-numbered-on     a set is a community of the one exactly when it is one of the other, renumbered
+--     image-communities, image-memberships               there are as many
 --     image-roles       each handset has the same role, but for a core's number, and the same near count
 use Prim.Native.Nat.{ℕ, zero, suc, _+_, _*_, _≤_, _<_}
 use native.Mathlib.Omega.{arith}
 use mathlib.Core.Path.{_≡_, refl, sym, ap, ap₂, _∙_, subst}
 use mathlib.Core.Logic.{_⊎_, inl, inr, ⊎-elim}
 use mathlib.Core.Bool.{Bool, true, false, _&&_, _||_, not}
-use mathlib.Core.List.{List, [], _∷_, List·Memᴰ}
+use mathlib.Core.List.{List}
 use lib.Dec.{T, T-not, not-T, leb, leb→le, ltb, lt→ltb, eqb, eqb→eq}
 use lib.ListN.{length, getD, length-take, length-drop}
 use Rattle.sets.specs.Below.{any}
 use Rattle.sets.specs.Renumbering.{Renumbering}
 use Rattle.sets.proofs.Tests.{and-make, and-left, and-right, any-make, any-take, any-none, none-any, not-any, eqb-of, T-ext, three}
-use Rattle.sets.proofs.Counting.{to-apart}
+use Rattle.sets.proofs.Counting.{to-apart, inverse, count-le, sum-across}
 use Rattle.image.specs.Bytes.{number}
 use Rattle.image.specs.Image.{handsetCount, edgeCount, handsetOffset, edgeOffset, imageLength, limitSquared, epsilonNum, epsilonDen, muField, mu, reserved, coreSize, handsetRecords, edgeRecords, shifted, gap, xAt, yAt, distanceAt, distanceSquared, endA, endB, joins, adjacent, within, neighbour}
 use Rattle.image.specs.Questions.{headerOf, countsFit, thresholdsFit, tablesFit, inLimits, outOfLimits, badEnd, isLoop, repeatsEarlier, Accepted}
 use Rattle.image.specs.declared.Header.{Header}
 use Rattle.image.proofs.Bytes.{number-cong}
 use Rattle.image.proofs.Acceptance.{accepted-fits, length-is, ends-below}
-use Rattle.community.specs.Network.{Network, communities, role, neighbourhoodSize}
+use Rattle.community.specs.Network.{Network, IsCommunity, isLeader, reachable, communities, role, neighbourhoodSize}
+use Rattle.community.specs.Tables.{memberTable}
 use Rattle.community.specs.Site.{network}
 use Rattle.community.specs.Renumbered.{Renumbered, SamePair, NumberedBack, SameRole}
 use Rattle.community.proofs.Similarity.{Sound}
 use Rattle.community.proofs.Site.{network-sound, accepted-sound}
 use Rattle.community.proofs.Edges.{joins-make, joins-take, pair-sym, pair-trans, pair-map, pair-back}
-use Rattle.community.proofs.Communities.{Listed}
-use Rattle.community.proofs.Renumber.{withNeighbour, Moved, listed-back, length-communities-moved, neighbourhoodSize-moved}
+use Rattle.community.proofs.Bound.{memberships}
+use Rattle.community.proofs.Renumber.{withNeighbour, Moved, back-moved, community-back, leadersReaching, leadersReaching-moved, length-communities-moved, neighbourhoodSize-moved}
 use Rattle.community.proofs.Roles.{role-moved}
 
 module _ (s t : List ℕ) (r : Renumbered s t) (ok : Accepted s) where
@@ -57,7 +59,7 @@ module _ (s t : List ℕ) (r : Renumbered s t) (ok : Accepted s) where
     reserved = head 2 30 (omega arith) i
   }
 
-  same-handsets : handsetCount t ≡ handsetCount s
+  pub same-handsets : handsetCount t ≡ handsetCount s
   unfolding headerOf
   same-handsets = ap (λ (h : Header). h .n) same-header
 
@@ -288,12 +290,24 @@ module _ (s t : List ℕ) (r : Renumbered s t) (ok : Accepted s) where
       length-communities-moved (network s) (neighbour t) (r .map) moved (accepted-sound s ok) sound-t
       ∙ ap (λ (g : Network). length (communities g)) (sym network-moved)
 
-  pub image-listed : (k : ℕ) → k < length (communities (network t))
-      → (j : ℕ) × Listed (network s) (NumberedBack (r .map) (λ v. List·Memᴰ v (getD (communities (network t)) k []))) j
-  image-listed =
-      subst
-      (λ (g : Network). (k : ℕ) → k < length (communities g) → (j : ℕ) × Listed (network s) (NumberedBack (r .map) (λ v. List·Memᴰ v (getD (communities g) k []))) j)
-      (sym network-moved) (listed-back (network s) (neighbour t) (r .map) moved (accepted-sound s ok) sound-t)
+  pub image-memberships : length (memberTable (communities (network s))) ≡ length (memberTable (communities (network t)))
+  unfolding leadersReaching
+  image-memberships =
+      memberships (network s)
+      ∙ sum-across (r .map) (leadersReaching (network s)) (leadersReaching (withNeighbour (network s) (neighbour t))) (handsetCount s)
+        (λ v h. count-le (handsetCount s) (λ u. isLeader (network s) u && reachable (network s) u v))
+        (λ v h. sym (leadersReaching-moved (network s) (neighbour t) (r .map) moved (accepted-sound s ok) sound-t v h))
+      ∙ sym (memberships (withNeighbour (network s) (neighbour t)))
+      ∙ ap (λ (g : Network). length (memberTable (communities g))) (sym network-moved)
+
+  -- a community of one image is one of the other, numbered back or on
+  pub community-numbered-back : (Q : ℕ → Type 0) → IsCommunity (network t) Q → IsCommunity (network s) (NumberedBack (r .map) Q)
+  community-numbered-back Q d = community-back (network s) (neighbour t) (r .map) moved Q (subst (λ (g : Network). IsCommunity g Q) network-moved d)
+
+  pub community-numbered-on : (P : ℕ → Type 0) → IsCommunity (network s) P → IsCommunity (network t) (NumberedBack (inverse (r .map)) P)
+  community-numbered-on P d =
+      subst (λ (g : Network). IsCommunity g (NumberedBack (inverse (r .map)) P)) (sym network-moved)
+      (community-back (withNeighbour (network s) (neighbour t)) (neighbour s) (inverse (r .map)) (back-moved (network s) (neighbour t) (r .map) moved) P d)
 
   pub image-roles : (v : ℕ) → v < handsetCount s → SameRole (role (network s) v) (role (network t) (r .map .to v))
   image-roles v h =

@@ -3,8 +3,10 @@
 --     planOf s a b          the answer for an image and the two tables' lengths: its refusal, 11, 12, or the counts of groups and memberships
 --     startsAfter s l b     the start table after the call, where it was l and the member table has length b
 --     membersAfter s a l    the member table after the call
+--     PlanCall              the outcome of a call for a plan: its answer and both tables
 --     knownOf s v           the role call's answer: the image's refusal, 13, or the near count and the role
 use Prim.Native.Nat.{ℕ}
+use mathlib.Core.Path.{_≡_}
 use mathlib.Core.Bool.{Bool, true, false, cond}
 use mathlib.Core.List.{List, _++_}
 use lib.Dec.{leb, ltb}
@@ -57,6 +59,12 @@ startsAfter s l b = tableFor s (openOf s) (length l) b (startTable (communitiesO
 
 unfoldable pub membersAfter : List ℕ → ℕ → List ℕ → List ℕ
 membersAfter s a l = tableFor s (openOf s) a (length l) (memberTable (communitiesOf s)) l
+
+-- of the image s, the tables ss and ms as lent, the answer r, and the tables ss′ and ms′ after the call
+pub record PlanCall (s ss ms : List ℕ) (r : Planned) (ss′ ms′ : List ℕ) : Type 0 where
+  pub answer : r ≡ planOf s (length ss) (length ms)
+  pub starts : ss′ ≡ startsAfter s ss (length ms)
+  pub members : ms′ ≡ membersAfter s (length ss) ms
 
 -- the near count and the role of a handset
 unfoldable pub standing : List ℕ → ℕ → Standing

@@ -7,7 +7,7 @@ use native.Mathlib.Nat.{le-antisymm, le-trans}
 use mathlib.Core.Path.{_≡_, refl, sym, ap, ap₂, _∙_, subst}
 use mathlib.Core.Logic.{_⊎_, inl, inr, ⊎-elim, _≢_}
 use mathlib.Core.Bool.{Bool, true, false, _&&_, _||_, not}
-use lib.Dec.{T, eqb, eqb→eq, eqb-refl, T-not, not-T}
+use lib.Dec.{T, eqb, eqb→eq, eqb-refl, T-not, not-T, ltb, lt→ltb, ltb→lt}
 use Rattle.sets.specs.Below.{any, count, bit, sum}
 use Rattle.sets.specs.Renumbering.{Renumbering}
 use Rattle.sets.proofs.Tests.{and-make, and-left, and-right, or-left, or-right, decide, T-true, T-false, T-ext, below}
@@ -223,3 +223,30 @@ unfolding count
 count-wide n zero f h = count-at (0 + n) n f (omega arith)
 count-wide n (suc d) f h =
     count-at (suc d + n) (suc (d + n)) f (omega arith) ∙ omega (arith, bit-false (f (d + n)) (h (d + n) (omega arith)), count-wide n d f h)
+
+-- ---- a sum is the same where its terms are renumbered: it counts the pairs of a v and a number below its term
+
+count-below : (b k : ℕ) → k ≤ b → count b (λ i. ltb i k) ≡ k
+unfolding count
+count-below zero k h = omega arith
+count-below (suc b) k h =
+    let top : k < suc (suc b) = omega arith in
+    ⊎-elim
+    (λ e. let l : T (ltb b k) = lt→ltb b k (omega arith) in omega (arith, bit-true (ltb b k) l, count-cong b (λ i. ltb i k) (λ i. true) (λ i q. T-true (ltb i k) (lt→ltb i k (omega arith))), count-all b))
+    (λ l. omega (arith, bit-false (ltb b k) (not-T (ltb b k) (λ t. omega (arith, ltb→lt b k t))), count-below b k (omega arith)))
+    (below top)
+  where
+    count-all : (n : ℕ) → count n (λ i. true) ≡ n
+    count-all zero = refl
+    count-all (suc n) = omega (arith, count-all n)
+
+sum-by-level : (n b : ℕ) (f : ℕ → ℕ) → ((v : ℕ) → v < n → f v ≤ b) → sum n f ≡ sum b (λ i. count n (λ v. ltb i (f v)))
+sum-by-level n b f h =
+    sum-cong n f (λ v. count b (λ i. ltb i (f v))) (λ v l. sym (count-below b (f v) (h v l))) ∙ count-swap n b (λ v i. ltb i (f v))
+
+pub sum-across : {n : ℕ} (r : Renumbering n) (f g : ℕ → ℕ) (b : ℕ) → ((v : ℕ) → v < n → f v ≤ b) → ((v : ℕ) → v < n → g (r .to v) ≡ f v) → sum n f ≡ sum n g
+sum-across {n} r f g b h e =
+    sum-by-level n b f h
+    ∙ sum-cong b (λ i. count n (λ v. ltb i (f v))) (λ i. count n (λ v. ltb i (g v)))
+      (λ i l. count-across r (λ v. ltb i (f v)) (λ v. ltb i (g v)) (λ v q. ap (ltb i) (e v q)))
+    ∙ sym (sum-by-level n b g (λ v l. rw (← r .to-back v l, e (r .back v) (r .back-below v l)) (h (r .back v) (r .back-below v l))))

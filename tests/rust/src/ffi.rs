@@ -1,0 +1,167 @@
+//! The proved planner through its C interface, include/divanegret.h: the declarations, and safe
+//! functions that decode the answers. Nothing checks these declarations against the library, so they
+//! are kept beside the header, in its order.
+
+use crate::calls::{Counts, Opened, Planner, Record, Refusal, Role, Scores};
+
+/// The header's functions.
+mod c {
+    extern "C" {
+        pub fn dvg_report(image: *const u8, image_len: usize, text: *mut u8, text_len: usize)
+            -> i64;
+        pub fn dvg_open(image: *const u8, image_len: usize) -> i64;
+        pub fn dvg_plan(
+            image: *const u8,
+            image_len: usize,
+            starts: *mut u32,
+            starts_len: usize,
+            members: *mut u16,
+            members_len: usize,
+        ) -> i64;
+        pub fn dvg_role(image: *const u8, image_len: usize, handset: u64) -> i64;
+        pub fn dvg_scores(
+            image: *const u8,
+            image_len: usize,
+            list: *const u16,
+            list_len: usize,
+        ) -> i64;
+        pub fn dvg_members(
+            starts: *const u32,
+            starts_len: usize,
+            members: *const u16,
+            members_len: usize,
+            k: u64,
+        ) -> i64;
+    }
+}
+
+/// The answer of any function but dvg_report: 0 or more, or -(number + 256 * place).
+fn decode(answer: i64) -> Result<u64, Refusal> {
+    u64::try_from(answer).map_err(|_| Refusal {
+        number: answer.unsigned_abs() % 256,
+        place: answer.unsigned_abs() / 256,
+    })
+}
+
+/// The low 16 bits, and the rest.
+fn split(answer: u64) -> (u64, u64) {
+    (answer % 65_536, answer / 65_536)
+}
+
+/// Kind, value and near count. A kind or a value that the header does not have is an error.
+fn decode_record(answer: u64) -> Record {
+    let (kind, rest) = split(answer);
+    let (value, near) = split(rest);
+    let role = match (kind, value) {
+        (0, number) => Role::Core(number),
+        (1, communities) => Role::Border(communities),
+        (2, 0) => Role::Outlier,
+        _ => panic!("role of kind {kind} with value {value}"),
+    };
+    Record { near, role }
+}
+
+fn decode_scores(answer: u64) -> Scores {
+    let (leaving, rest) = split(answer);
+    Scores {
+        pairs: rest / 1_048_576,
+        tied_pairs: rest % 1_048_576,
+        leaving,
+    }
+}
+
+/// The proved planner behind the trait.
+pub struct Proved;
+
+// SAFETY, for every call below: a slice's pointer is valid for its length, aligned and never null; a
+// table that is written is lent mutably, so that it overlaps nothing else.
+impl Planner for Proved {
+    fn name(&self) -> &'static str {
+        "proved"
+    }
+
+    fn open(&self, image: &[u8]) -> Result<Opened, Refusal> {
+        let answer = unsafe { c::dvg_open(image.as_ptr(), image.len()) };
+        let (handsets, ties) = split(decode(answer)?);
+        Ok(Opened { handsets, ties })
+    }
+
+    fn plan(
+        &self,
+        image: &[u8],
+        starts: &mut [u32],
+        members: &mut [u16],
+    ) -> Result<Counts, Refusal> {
+        let answer = unsafe {
+            c::dvg_plan(
+                image.as_ptr(),
+                image.len(),
+                starts.as_mut_ptr(),
+                starts.len(),
+                members.as_mut_ptr(),
+                members.len(),
+            )
+        };
+        let (communities, memberships) = split(decode(answer)?);
+        Ok(Counts { communities, memberships })
+    }
+
+    fn role(&self, image: &[u8], handset: u64) -> Result<Record, Refusal> {
+        let answer = unsafe { c::dvg_role(image.as_ptr(), image.len(), handset) };
+        decode(answer).map(decode_record)
+    }
+
+    fn scores(&self, image: &[u8], list: &[u16]) -> Result<Scores, Refusal> {
+        let answer =
+            unsafe { c::dvg_scores(image.as_ptr(), image.len(), list.as_ptr(), list.len()) };
+        decode(answer).map(decode_scores)
+    }
+
+    fn members(&self, starts: &[u32], members: &[u16], community: u64) -> Result<u64, Refusal> {
+        decode(unsafe {
+            c::dvg_members(
+                starts.as_ptr(),
+                starts.len(),
+                members.as_ptr(),
+                members.len(),
+                community,
+            )
+        })
+    }
+
+    fn report(&self, image: &[u8], text: &mut [u8]) -> Result<u64, u64> {
+        let answer = unsafe {
+            c::dvg_report(image.as_ptr(), image.len(), text.as_mut_ptr(), text.len())
+        };
+        u64::try_from(answer).map_err(|_| answer.unsigned_abs())
+    }
+}
+
+#[cfg(test)]
+mod tests {
+    use super::*;
+    use crate::compare;
+    use crate::sites::{self, Rng};
+
+    #[test]
+    fn named_sites_equal_the_reference() {
+        let sites = [sites::site_s(4), sites::untied(0, 0), sites::untied(1, 1), sites::hub()];
+        for site in sites {
+            let image = site.plain_image();
+            assert_eq!(compare::image(&Proved, &image, &mut Rng::new(1)), Ok(()));
+            assert_eq!(compare::renumbering(&Proved, &image, &mut Rng::new(1)), Ok(()));
+        }
+    }
+
+    #[test]
+    fn answers_are_decoded_as_the_header_encodes_them() {
+        assert_eq!(decode(7 + 65_536 * 8).map(split), Ok((7, 8)));
+        assert_eq!(decode(-(10 + 256 * 4095)), Err(Refusal { number: 10, place: 4095 }));
+        let near = 4 << 32;
+        assert_eq!(decode_record(near), Record { near: 4, role: Role::Core(0) });
+        assert_eq!(decode_record(near + 65_537), Record { near: 4, role: Role::Border(1) });
+        assert_eq!(decode_record(near + 2), Record { near: 4, role: Role::Outlier });
+        let scores = Scores { pairs: 130_816, tied_pairs: 4000, leaving: 4096 };
+        assert_eq!(decode_scores(4096 + 65_536 * 4000 + 68_719_476_736 * 130_816), scores);
+    }
+}
