@@ -20,7 +20,8 @@ use Rattle.community.specs.Tables.{memberTable}
 use Rattle.community.specs.Renumbered.{SamePair}
 use Rattle.community.specs.Site.{network}
 use Rattle.community.proofs.Reachability.{reachable-sound, from-below, to-below}
-use Rattle.community.proofs.Similarity.{Sound, step-core, step-similar, core-self}
+use Rattle.community.specs.Network.{Sound}
+use Rattle.community.proofs.Similarity.{step-core, step-similar, core-self}
 use Rattle.community.proofs.Communities.{leader-one}
 use Rattle.community.proofs.Site.{accepted-sound}
 use Rattle.community.proofs.Edges.{joins-take}

@@ -12,7 +12,8 @@ use Rattle.sets.proofs.Tests.{and-make, and-left, and-right, any-make, any-take
 use Rattle.sets.proofs.Selecting.{mem-select, select-mem, mem-at, at-mem, map-at, select-passes, select-below, select-ascends}
 use Rattle.community.specs.Network.{Network, isCore, Reachable, IsCommunity, reachable, isLeader, leaders, members, communities}
 use Rattle.community.proofs.Reachability.{Reachable-trans, from-below, to-below, reachable-sound, reachable-complete}
-use Rattle.community.proofs.Similarity.{Sound, reaches-core, core-self, Reachable-back}
+use Rattle.community.specs.Network.{Sound}
+use Rattle.community.proofs.Similarity.{reaches-core, core-self, Reachable-back}
 
 -- P has just the members of the k-th listed community
 pub record Listed (g : Network) (P : ℕ → Type 0) (k : ℕ) : Type 0 where

@@ -16,7 +16,8 @@ use Rattle.sets.proofs.Counting.{count-cong, count-across, count-pairs, Pairs, 
 use Rattle.community.specs.Network.{Network, neighbourhoodSize, commonNeighbours, meetsEpsilon, similar, isCore, step, Reachable, one, more, reachable, IsCommunity, isLeader, leaders, members, communities}
 use Rattle.community.specs.Renumbered.{NumberedBack}
 use Rattle.community.proofs.Reachability.{Reachable-trans, from-below, to-below, reachable-sound, reachable-complete}
-use Rattle.community.proofs.Similarity.{Sound, reaches-core, core-self, Reachable-back}
+use Rattle.community.specs.Network.{Sound}
+use Rattle.community.proofs.Similarity.{reaches-core, core-self, Reachable-back}
 use Rattle.community.proofs.Communities.{Listed, exactly, leader-of, leader-one, leader-core, length-communities}
 
 -- how many leaders reach v: the count of its communities (proofs/Roles)

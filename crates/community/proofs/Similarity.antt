@@ -8,15 +8,8 @@ use lib.Dec.{T, leb, le→leb, leb→le}
 use Rattle.sets.proofs.Tests.{and-make, and-left, and-right, and-comm, any-take}
 use Rattle.sets.proofs.Counting.{count-cong, count-some}
 use Rattle.sets.specs.Below.{count}
-use Rattle.community.specs.Network.{Network, neighbourhoodSize, commonNeighbours, meetsEpsilon, similar, isCore, step, Reachable, one, more, reachable}
+use Rattle.community.specs.Network.{Network, Sound, neighbourhoodSize, commonNeighbours, meetsEpsilon, similar, isCore, step, Reachable, one, more, reachable}
 use Rattle.community.proofs.Reachability.{Reachable-trans, to-below, from-below}
-
--- what an accepted image ensures of its network: the paper's neighbour relation is reflexive and symmetric, p ≤ q, and mu is not 0
-pub record Sound (g : Network) : Type 0 where
-  pub neighbour-self : (u v : ℕ) → T (g .neighbour u v) → T (g .neighbour u u)
-  pub neighbour-sym : (u v : ℕ) → g .neighbour u v ≡ g .neighbour v u
-  pub at-most-one : g .p ≤ g .q
-  pub mu-some : 1 ≤ g .mu
 
 and-same : (a : Bool) → (a && a) ≡ a
 and-same true = refl

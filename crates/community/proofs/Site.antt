@@ -10,7 +10,7 @@ use Rattle.image.specs.Image.{gap, xAt, yAt, distanceAt, distanceSquared, hands
 use Rattle.image.specs.Questions.{Accepted, headerOf}
 use Rattle.image.proofs.Acceptance.{accepted-fits}
 use Rattle.community.specs.Site.{network}
-use Rattle.community.proofs.Similarity.{Sound}
+use Rattle.community.specs.Network.{Sound}
 
 gap-comm : (a b : ℕ) → gap a b ≡ gap b a
 gap-comm a b = omega arith

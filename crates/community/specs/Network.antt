@@ -1,5 +1,6 @@
 -- The density-based communities of a network (source document 003, 3.2 to 3.12; paper 01, "Near, alike, core" and "Reached, and the groups").
 --
+--     Sound g                   what holds of the network of an accepted image
 --     neighbourhoodSize g u     the size of u's neighbourhood, u included (paper 01: of its near set)
 --     commonNeighbours g u v    how many are in both neighbourhoods
 --     similar g u v             neighbours with c² q² ≥ p² a b (paper 01: alike)
@@ -9,7 +10,8 @@
 --     IsCommunity g P           P is a community: it has a core, each two members are reachable from some one handset, and it is closed (paper 01: a group)
 --     communities g             the communities by their smallest core, the members of each ascending (proofs/Communities: listed exactly when IsCommunity)
 --     role g v                  core with its community's number, border with the count of its communities, or outlier
-use Prim.Native.Nat.{ℕ, zero, suc, _+_, _*_, _<_}
+use Prim.Native.Nat.{ℕ, zero, suc, _+_, _*_, _≤_, _<_}
+use mathlib.Core.Path.{_≡_}
 use mathlib.Core.Bool.{Bool, true, false, _&&_, _||_, not, cond}
 use mathlib.Core.List.{List, [], _∷_, map}
 use lib.Dec.{leb, eqb, T}
@@ -24,6 +26,13 @@ pub record Network : Type 0 where
   pub p : ℕ
   pub q : ℕ
   pub mu : ℕ
+
+-- what an accepted image makes sure of: whoever has a neighbour is its own neighbour, the relation is symmetric, epsilon is at most 1, mu is not 0
+pub record Sound (g : Network) : Type 0 where
+  pub neighbour-self : (u v : ℕ) → T (g .neighbour u v) → T (g .neighbour u u)
+  pub neighbour-sym : (u v : ℕ) → g .neighbour u v ≡ g .neighbour v u
+  pub at-most-one : g .p ≤ g .q
+  pub mu-some : 1 ≤ g .mu
 
 unfoldable pub neighbourhoodSize : Network → ℕ → ℕ
 unfolding count

@@ -3,17 +3,20 @@
 --
 --     accepted            openOf s ≡ Site h gives Accepted s, and h is headerOf s
 --     opened              Accepted s gives openOf s ≡ Site (headerOf s)
---     Limits, limits      what an accepted image's numbers keep to, for the proofs of the calls
+--     Fits, fits          what a header's numbers keep to, for the proofs of the calls; x-limits, y-limits, ends-below: what the records do
+--     open-short, open-other, open-on     how questions 1 and 2 go, with the header in hand
+--     header-yes          where questions 3 to 6 get a yes, asking goes on; header-no: where one does not, it ends there, whatever follows
 use Prim.Native.Nat.{ℕ, _+_, _*_, _≤_, _<_}
 use native.Mathlib.Omega.{arith}
 use mathlib.Core.Path.{_≡_, refl, sym, ap, _∙_, subst}
+use borrow.Author.Tests.{lt-leb, ne-eqb}
 use mathlib.Core.Logic.{_⊎_, inl, inr, ⊎-elim}
 use mathlib.Core.Bool.{Bool, true, false, _&&_, _||_, not}
 use mathlib.Core.List.{List}
-use lib.Dec.{T, leb, ltb, eqb, leb→le, ltb→lt, eqb→eq, T-not, not-T}
-use lib.ListN.{length}
+use lib.Dec.{T, leb, ltb, eqb, leb→le, le→leb, ltb→lt, eqb→eq, T-not, not-T}
+use lib.ListN.{length, take, drop}
 use Rattle.sets.specs.Below.{any, find}
-use Rattle.sets.proofs.Tests.{and-left, and-right, any-none, none-any, T-true}
+use Rattle.sets.proofs.Tests.{and-left, and-right, any-none, none-any, T-true, eqb-of}
 use Rattle.image.specs.Image.{handsetCount, edgeCount, handsetOffset, edgeOffset, imageLength, limitSquared, epsilonNum, epsilonDen, muField, reserved, handsetRecords, edgeRecords, xAt, yAt, endA, endB}
 use Rattle.image.specs.Questions.{headerOf, countsFit, thresholdsFit, tablesFit, inLimits, outOfLimits, badEnd, isLoop, repeatsEarlier, ask, askEach, askRecords, askHeader, openOf, Accepted}
 use Rattle.image.specs.declared.Header.{Header}
@@ -28,7 +31,7 @@ pass false k p next e = let z : _≡_ {A = ℕ} 0 1 = cc in absurd (omega arith)
 
 pass-each : {h : Header} (n : ℕ) (bad : ℕ → Bool) (k : ℕ) (next : Opened) → askEach n bad k next ≡ Site h → T (not (any n bad)) × (next ≡ Site h)
 unfolding askEach
-pass-each n bad k next e = pass (not (any n bad)) k (find n bad) next e
+pass-each n bad k next e = pass (not (any n bad)) k _ next e
 
 go-on : (b : Bool) (k p : ℕ) (next : Opened) → T b → ask b k p next ≡ next
 unfolding ask
@@ -115,6 +118,70 @@ fits h c t f =
       edges-to = leb→le (h .edges + 4 * h .m) (h .len) (and-left (leb (h .edges + 4 * h .m) (h .len)) _ f3);
     }
 
+yes-of : (c : Bool) → T (not (not c)) → T c
+yes-of true t = tt
+yes-of false t = t
+
+-- an edge that passes question 8
+pub good-ends : (part : List ℕ) (n k : ℕ) → T (not (badEnd part n k)) → (endA part k < n) × (endB part k < n)
+unfolding badEnd
+good-ends part n k bad =
+    let x : Bool = ltb (endA part k) n in
+    let y : Bool = ltb (endB part k) n in
+    let t : T (x && y) = yes-of (x && y) bad in
+    (ltb→lt (endA part k) n (and-left x y t), ltb→lt (endB part k) n (and-right x y t))
+
+refuse : (b : Bool) (k p : ℕ) (next : Opened) → b ≡ false → ask b k p next ≡ Refused (record { number = k; place = p })
+unfolding ask
+refuse true k p next e = let z : _≡_ {A = ℕ} 0 1 = cc in absurd (omega arith)
+refuse false k p next e = refl
+
+pub open-short : (s : List ℕ) → length s < 32 → openOf s ≡ Refused (record { number = 1; place = 0 })
+unfolding openOf
+open-short s l = refuse (leb 32 (length s)) _ _ _ (lt-leb 32 (length s) l)
+
+module _ (s : List ℕ) (l : 32 ≤ length s) where
+  pub open-other : (headerOf s .len ≡ length s → ⊥) → openOf s ≡ Refused (record { number = 2; place = 0 })
+  unfolding openOf
+  open-other d =
+      go-on (leb 32 (length s)) _ _ _ (le→leb 32 (length s) l)
+      ∙ refuse (eqb (headerOf s .len) (length s)) _ _ _ (ne-eqb (headerOf s .len) (length s) d)
+
+  pub open-on : (h : Header) → h ≡ headerOf s → h .len ≡ length s
+      → openOf s ≡ askHeader h (askRecords (take (8 * h .n) (drop (h .handsets) s)) (take (4 * h .m) (drop (h .edges) s)) h)
+  unfolding openOf headerOf handsetRecords edgeRecords
+  open-on h e d =
+      go-on (leb 32 (length s)) _ _ _ (le→leb 32 (length s) l)
+      ∙ go-on (eqb (headerOf s .len) (length s)) _ _ _ (eqb-of (headerOf s .len) (length s) (ap (λ (x : Header). x .len) (sym e) ∙ d))
+      ∙ ap (λ (x : Header). askHeader x (askRecords (take (8 * x .n) (drop (x .handsets) s)) (take (4 * x .m) (drop (x .edges) s)) x)) (sym e)
+
+-- questions 3 to 6 with nothing after them tell how they go with more
+pub header-yes : (h g : Header) → askHeader h (Site h) ≡ Site g → Fits h × ((next : Opened) → askHeader h next ≡ next)
+unfolding askHeader
+header-yes h g e =
+    let a3 = pass (countsFit h) _ _ _ e in
+    let a4 = pass (eqb (h .reserved) 0) _ _ _ (a3 .1) in
+    let a5 = pass (thresholdsFit h) _ _ _ (a4 .1) in
+    let a6 = pass (tablesFit h) _ _ _ (a5 .1) in
+    (fits h (a3 .0) (a5 .0) (a6 .0), λ next.
+      go-on (countsFit h) _ _ _ (a3 .0)
+      ∙ go-on (eqb (h .reserved) 0) _ _ _ (a4 .0)
+      ∙ go-on (thresholdsFit h) _ _ _ (a5 .0)
+      ∙ go-on (tablesFit h) _ _ _ (a6 .0))
+
+stop : {r : Refusal} (b : Bool) (k p : ℕ) (x y : Opened) → (x ≡ Refused r → y ≡ Refused r) → ask b k p x ≡ Refused r → ask b k p y ≡ Refused r
+unfolding ask
+stop true k p x y f e = f e
+stop false k p x y f e = e
+
+pub header-no : (h : Header) (r : Refusal) → askHeader h (Site h) ≡ Refused r → (next : Opened) → askHeader h next ≡ Refused r
+unfolding askHeader
+header-no h r e next =
+    stop (countsFit h) _ _ _ _
+    (stop (eqb (h .reserved) 0) _ _ _ _
+    (stop (thresholdsFit h) _ _ _ _
+    (stop (tablesFit h) _ _ (Site h) next (λ z. let w : _≡_ {A = ℕ} 0 1 = cc in absurd (omega arith))))) e
+
 module _ (s : List ℕ) (a : Accepted s) where
   pub accepted-fits : Fits (headerOf s)
   accepted-fits = fits (headerOf s) (a .q3) (a .q5) (a .q6)
@@ -122,18 +189,9 @@ module _ (s : List ℕ) (a : Accepted s) where
   pub length-is : imageLength s ≡ length s
   length-is = eqb→eq (imageLength s) (length s) (a .q2)
 
-  yes-of : (c : Bool) → T (not (not c)) → T c
-  yes-of true t = tt
-  yes-of false t = t
-
   -- the ends of every edge are handsets
   pub ends-below : (k : ℕ) → k < edgeCount s → (endA (edgeRecords s) k < handsetCount s) × (endB (edgeRecords s) k < handsetCount s)
-  unfolding badEnd
-  ends-below k h =
-      let x : Bool = ltb (endA (edgeRecords s) k) (handsetCount s) in
-      let y : Bool = ltb (endB (edgeRecords s) k) (handsetCount s) in
-      let t : T (x && y) = yes-of (x && y) (a .q8 k h) in
-      (ltb→lt (endA (edgeRecords s) k) (handsetCount s) (and-left x y t), ltb→lt (endB (edgeRecords s) k) (handsetCount s) (and-right x y t))
+  ends-below k h = good-ends (edgeRecords s) (handsetCount s) k (a .q8 k h)
 
   -- every coordinate, shifted by 2 ^ 31, keeps its limits
   in-limits : (x : ℕ) → T (inLimits x) → (2146483648 ≤ x) × (x ≤ 2148483648)

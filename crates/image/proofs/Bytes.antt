@@ -1,12 +1,17 @@
--- Laws of numbers in bytes: equal bytes make equal numbers, a number of a + b bytes is made of two, and w bytes hold less than 256 ^ w.
+-- Laws of numbers in bytes.
+--
+--     le-cong, number-cong       equal bytes make equal numbers
+--     le-split                   a number of a + b bytes is made of two: how the reader makes four bytes of two, and eight of four
+--     number-le, number-none     a number whose bytes are all there, and one that lacks some
 use Prim.Native.Nat.{ℕ, zero, suc, _+_, _*_, _^_, _≤_, _<_}
 use native.Mathlib.Omega.{arith}
-use native.Mathlib.Nat.{add-zero}
+use native.Mathlib.Nat.{add-zero, zero-add, suc-add, mul-assoc, pow-succ'}
 use mathlib.Core.Path.{_≡_, refl, sym, ap, ap₂, _∙_, subst}
 use mathlib.Core.Bool.{Bool, true, false, cond}
 use mathlib.Core.List.{List}
 use lib.Dec.{T, leb, le→leb}
 use lib.ListN.{length, getD}
+use borrow.Author.Tests.{lt-leb}
 use Rattle.sets.proofs.Tests.{T-true}
 use Rattle.image.specs.Bytes.{le, number}
 
@@ -21,10 +26,22 @@ le-cong (suc w) s t a b e =
     (le-cong w s t (a + 1) (b + 1)
     (λ i h. ap (λ (x : ℕ). getD t x 0) (shift b i) ∙ e (suc i) (omega arith) ∙ ap (λ (x : ℕ). getD s x 0) (sym (shift a i))))
 
+pub le-split : (a b : ℕ) (s : List ℕ) (at : ℕ) → le (a + b) s at ≡ le a s at + 256 ^ a * le b s (at + a)
+le-split zero b s at = ap (λ (w : ℕ). le w s at) (zero-add b) ∙ omega (arith, ap (le b s) (add-zero at))
+le-split (suc a) b s at =
+    let high : 256 ^ suc a * le b s (at + suc a) ≡ 256 * (256 ^ a * le b s (at + 1 + a)) =
+    ap₂ (λ (x y : ℕ). x * le b s y) (pow-succ' 256 a) (sym (shift at a)) ∙ mul-assoc 256 (256 ^ a) (le b s (at + 1 + a)) in
+    ap (λ (w : ℕ). le w s at) (suc-add a b) ∙ omega (arith, le-split a b s (at + 1))
+
 -- where all of its bytes are there
 pub number-le : (w : ℕ) (s : List ℕ) (at : ℕ) → at + w ≤ length s → number w s at ≡ le w s at
 unfolding number
 number-le w s at h = ap (λ (b : Bool). cond b (le w s at) 0) (T-true (leb (at + w) (length s)) (le→leb (at + w) (length s) h))
+
+-- where some are not
+pub number-none : (w : ℕ) (s : List ℕ) (at : ℕ) → leb (at + w) (length s) ≡ false → number w s at ≡ 0
+unfolding number
+number-none w s at e = ap (λ (b : Bool). cond b (le w s at) 0) e
 
 -- the same bytes at two places of two lists that both have them
 pub number-cong : (w : ℕ) (s t : List ℕ) (a b : ℕ) → a + w ≤ length s → b + w ≤ length t

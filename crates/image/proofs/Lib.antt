@@ -1,3 +1,5 @@
 pub mod Bytes
 pub mod Acceptance
 pub mod Signed
+pub mod Scanning
+pub mod Repeats

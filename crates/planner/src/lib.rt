@@ -1,4 +1,7 @@
 // The planner: the communities of a site, written into two lent tables, and the role of each handset.
+mod groups;
+mod tables;
+
 use community::Standing;
 use image::Refusal;
 

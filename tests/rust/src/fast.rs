@@ -27,8 +27,8 @@ fn refuse<T>(number: u64, place: usize) -> Result<T, Refusal> {
 
 /// An image whose header has passed questions 1 to 6, and its two tables.
 struct Image<'a> {
-    handsets: &'a [u8],
-    ties: &'a [u8],
+    handsets: &'a [[u8; 8]],
+    ties: &'a [[u8; 4]],
     gamma_squared: u64,
     p: u64,
     q: u64,
@@ -75,8 +75,8 @@ impl<'a> Image<'a> {
             return refuse(6, 0);
         };
         Ok(Image {
-            handsets,
-            ties,
+            handsets: handsets.as_chunks().0,
+            ties: ties.as_chunks().0,
             gamma_squared,
             p: p.into(),
             q: q.into(),
@@ -85,25 +85,22 @@ impl<'a> Image<'a> {
     }
 
     fn handset_count(&self) -> usize {
-        self.handsets.len() / 8
+        self.handsets.len()
     }
 
     fn tie_count(&self) -> usize {
-        self.ties.len() / 4
+        self.ties.len()
     }
 
     fn positions(&self) -> impl Iterator<Item = [i32; 2]> + 'a {
-        self.handsets.chunks_exact(8).map(|record| {
-            let coordinate = |at: usize| {
-                i32::from_le_bytes([record[at], record[at + 1], record[at + 2], record[at + 3]])
-            };
-            [coordinate(0), coordinate(4)]
+        self.handsets.iter().map(|record| {
+            let both = u64::from_le_bytes(*record);
+            [both as i32, (both >> 32) as i32]
         })
     }
 
     fn ties(&self) -> impl Iterator<Item = Tie> + 'a {
-        let record = |bytes: &[u8]| Tie::from_le_bytes([bytes[0], bytes[1], bytes[2], bytes[3]]);
-        self.ties.chunks_exact(4).map(record)
+        self.ties.iter().map(|record| Tie::from_le_bytes(*record))
     }
 
     /// Question 7. The whole table is tested without a branch; only a fault is searched for.
@@ -118,17 +115,25 @@ impl<'a> Image<'a> {
         Ok(())
     }
 
-    /// Questions 8, 9 and 10, in the same way.
+    /// Whether questions 8 and 9 get a yes, without a branch.
+    fn ends_are_good(&self) -> bool {
+        let n = self.handset_count() as u32;
+        let bad = |tie: Tie| {
+            let (u, v) = (tie & 0xffff, tie >> 16);
+            (u >= n) | (v >= n) | (u == v)
+        };
+        !self.ties().fold(false, |fault, tie| fault | bad(tie))
+    }
+
+    /// Questions 8, 9 and 10.
     fn check_ties<const W: usize, const R: usize>(&self) -> Result<(), Refusal> {
-        let n = self.handset_count();
         let mut seen = [[0; W]; R];
-        let mut fault = false;
+        let mut repeated = false;
         for tie in self.ties() {
             let (u, v) = ends(tie);
-            let (low, high) = (u.min(v), u.max(v));
-            fault |= (high >= n) | (low == high) | set_bit::<W, R>(&mut seen, low, high);
+            repeated |= set_bit::<W, R>(&mut seen, u.min(v), u.max(v));
         }
-        if fault {
+        if repeated | !self.ends_are_good() {
             return Err(self.tie_fault());
         }
         Ok(())
@@ -182,7 +187,18 @@ fn count<const W: usize>(set: &[u64; W]) -> u32 {
 }
 
 fn count_common<const W: usize>(one: &[u64; W], other: &[u64; W]) -> u32 {
-    one.iter().zip(other).map(|(a, b)| (a & b).count_ones()).sum()
+    if W < 8 {
+        return one.iter().zip(other).map(|(a, b)| (a & b).count_ones()).sum();
+    }
+    let common: [u64; W] = std::array::from_fn(|i| one[i] & other[i]);
+    let pairs = common.map(|x| x - (x >> 1 & 0x5555_5555_5555_5555));
+    let fours = pairs.map(|x| (x & 0x3333_3333_3333_3333) + (x >> 2 & 0x3333_3333_3333_3333));
+    let half: [u64; 4] = std::array::from_fn(|i| fours[i] + fours[i + 4]);
+    let bytes = half.map(|x| (x & 0x0f0f_0f0f_0f0f_0f0f) + (x >> 4 & 0x0f0f_0f0f_0f0f_0f0f));
+    let quarter = [bytes[0] + bytes[2], bytes[1] + bytes[3]];
+    let sum = quarter[0] + quarter[1];
+    let shorts = (sum & 0x00ff_00ff_00ff_00ff) + (sum >> 8 & 0x00ff_00ff_00ff_00ff);
+    (shorts.wrapping_mul(0x0001_0001_0001_0001) >> 48) as u32
 }
 
 fn has<const W: usize>(set: &[u64; W], handset: usize) -> bool {
@@ -204,6 +220,7 @@ fn for_each<const W: usize>(set: &[u64; W], mut each: impl FnMut(usize)) {
 
 /// The ties of a site as rows of bits, no handset in its own row. Ties are dropped from it step by
 /// step: all ties, near ties, alike ties.
+#[repr(align(64))]
 struct Network<const W: usize, const R: usize> {
     rows: Rows<W, R>,
     /// The ones in each row.
@@ -228,29 +245,38 @@ impl<const W: usize, const R: usize> Network<W, R> {
     /// All ties of the image, after questions 7 to 10.
     fn read(&mut self, image: &Image) -> Result<(), Refusal> {
         image.check_positions()?;
-        let n = image.handset_count();
-        let mut positions = [[0; 2]; R];
-        positions.iter_mut().zip(image.positions()).for_each(|(to, from)| *to = from);
-        self.ties = image.tie_count();
-        let mut far_from = self.ties;
-        let mut fault = false;
+        let mut repeated = false;
         for tie in image.ties() {
             let (u, v) = ends(tie);
-            fault |= (u >= n) | (v >= n) | (u == v);
-            fault |= set_bit(&mut self.rows, u, v);
+            repeated |= set_bit(&mut self.rows, u, v);
             set_bit(&mut self.rows, v, u);
             self.change_degrees(tie, 1);
-            let (here, there) = (positions[u & (R - 1)], positions[v & (R - 1)]);
-            let near = squared_distance(here, there) <= image.gamma_squared;
-            self.list[self.near & (MOST_TIES - 1)] = tie;
-            self.list[(far_from - 1) & (MOST_TIES - 1)] = tie;
-            self.near += usize::from(near);
-            far_from -= usize::from(!near);
         }
-        if fault {
+        if repeated | !image.ends_are_good() {
             return Err(image.tie_fault());
         }
+        self.split(image);
         Ok(())
+    }
+
+    fn split(&mut self, image: &Image) {
+        let mut positions = [[0.0; 2]; R];
+        positions.iter_mut().zip(image.positions()).for_each(|(to, from)| *to = from.map(f64::from));
+        let gamma_squared = image.gamma_squared as f64;
+        self.ties = image.tie_count();
+        let mut near_to = 0;
+        let mut far_from = self.ties;
+        for tie in image.ties() {
+            let (u, v) = ends(tie);
+            let (here, there) = (positions[u & (R - 1)], positions[v & (R - 1)]);
+            let (dx, dy) = (here[0] - there[0], here[1] - there[1]);
+            let near = dx * dx + dy * dy <= gamma_squared;
+            self.list[near_to & (MOST_TIES - 1)] = tie;
+            self.list[(far_from - 1) & (MOST_TIES - 1)] = tie;
+            near_to += usize::from(near);
+            far_from -= usize::from(!near);
+        }
+        self.near = near_to;
     }
 
     fn change_degrees(&mut self, tie: Tie, by: u16) {
@@ -336,11 +362,6 @@ impl<const W: usize, const R: usize> Network<W, R> {
         }
         members
     }
-}
-
-fn squared_distance(here: [i32; 2], there: [i32; 2]) -> u64 {
-    let square = |i: usize| i64::from(here[i] - there[i]) * i64::from(here[i] - there[i]);
-    (square(0) + square(1)) as u64
 }
 
 /// The cores, and the smallest core of each community, ascending.

@@ -1,0 +1,29 @@
+-- `image::four` meets its contract. A number of four bytes is made of two of two bytes.
+use native.Mathlib.Omega.{arith}
+use denote.Ref.{now}
+use Rattle.image.proofs.Bytes.{le-split}
+use Rattle.image.proofs.four.Statement.{statement}
+use Rattle.image.proofs.four.Tie as tie
+
+two-requires : tie.Need-two-requires
+two-requires c κs = omega arith
+
+add-two : tie.Need-add-two
+add-two c = omega arith
+
+two-requires-2 : tie.Need-two-requires-2
+two-requires-2 c κs = omega arith
+
+mul-result : tie.Need-mul-result
+mul-result c = omega arith
+
+add-result : tie.Need-add-result
+add-result c = omega arith
+
+returns : tie.Need-returns
+returns c = 
+    let a = c .before .before .before .args in
+    (omega (arith, le-split 2 2 (now (a .s)) (a .at)), omega arith)
+
+pub four-spec : {M : Type 1} → statement M
+four-spec = tie.close (tie.spec two-requires add-two two-requires-2 mul-result add-result returns)

@@ -1,0 +1,53 @@
+-- `image::read8` meets its contract. Where all bytes are there the number is made of two of four bytes, else it is 0.
+use Prim.Native.Nat.{_+_, _≤_}
+use native.Mathlib.Omega.{arith}
+use mathlib.Core.Path.{sym, _∙_}
+use lib.ListN.{length}
+use borrow.Author.Tests.{leb-true}
+use denote.Ref.{now}
+use Rattle.image.proofs.Bytes.{number-le, number-none, le-split}
+use Rattle.image.proofs.read8.Statement.{statement}
+use Rattle.image.proofs.read8.Tie as tie
+
+-- the test that was taken says that the bytes are there
+room : (c : tie.Then1) → c .before .before .before .args .at + 8 ≤ length (now (c .before .before .before .args .s))
+room c = leb-true _ _ (sym (c .before .stands .ensures) ∙ c .if1 .taken)
+
+stands-requires : tie.Need-stands-requires
+stands-requires c κs = tt
+
+four-requires : tie.Need-four-requires
+four-requires c κs = omega (arith, room c)
+
+add-four : tie.Need-add-four
+add-four c = omega (arith, room (c .before))
+
+four-requires-2 : tie.Need-four-requires-2
+four-requires-2 c κs = omega (arith, room (c .before))
+
+mul-result : tie.Need-mul-result
+mul-result c = omega arith
+
+add-result : tie.Need-add-result
+add-result c = omega arith
+
+returns : tie.Need-returns
+returns c = 
+    let a = c .before .before .before .before .before .args in
+    omega (arith, le-split 4 4 (now (a .s)) (a .at), number-le 8 (now (a .s)) (a .at) (room (c .before .before)))
+
+returns-2 : tie.Need-returns-2
+returns-2 c = let a = c .before .before .before .args in sym (number-none 8 (now (a .s)) (a .at) (sym (c .before .stands .ensures) ∙ c .if1 .left))
+
+pub read8-spec : {M : Type 1} → statement M
+read8-spec =
+    tie.close
+    (tie.spec
+    stands-requires
+    four-requires
+    add-four
+    four-requires-2
+    mul-result
+    add-result
+    returns
+    returns-2)

@@ -1,0 +1,4 @@
+pub mod Lowest
+pub mod Growth
+pub mod Grouping
+pub mod Listing

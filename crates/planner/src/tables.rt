@@ -1,0 +1,153 @@
+// The tables of a plan, from the rows of its communities: a table of 512 rows of eight words, whose first `count` rows are sets of handsets.
+// Counting comes first, so that a refusal writes nothing; a row's members are found word by word, by the lowest set bit.
+use crate::Planned;
+use image::Refusal;
+ghost use mathlib.Core.Path.{_≡_};
+ghost use mathlib.Core.List.{map};
+ghost use Prim.Native.Nat.{ℕ, _+_, _≤_, _<_};
+ghost use lib.Dec.{eqb};
+ghost use lib.ListN.{length};
+ghost use lib.Seq.{sets};
+ghost use Rattle.sets.specs.Below.{select};
+ghost use Rattle.sets.specs.Bits.{bitOf};
+ghost use Rattle.community.specs.Network.{communityNumber, membershipCount};
+ghost use Rattle.community.specs.Tables.{startTable, memberTable};
+ghost use Rattle.planner.specs.Held.{rowMembers, rowsOf};
+ghost use Rattle.planner.specs.Plan.{byRoom, over, planned};
+
+// How many members row k has: the ones of its eight words.
+fn row_size(rows: &[u64], k: usize) -> u32
+    requires { ⌜ (length (now rows) ≡ 4096) × (k < 512) ⌝ }
+    ensures { λ r. ⌜ r ≡ length (rowMembers (now (rows .entry)) k) ⌝ }
+{
+    let mut n: u32 = 0;
+    let mut j: usize = 0;
+    while j < 8 {
+        n += u64::count_ones(rows[k * 8 + j]);
+        j += 1;
+    }
+    n
+}
+
+// How many memberships the first `count` rows have.
+fn count_members(rows: &[u64], count: usize) -> usize
+    requires { ⌜ (length (now rows) ≡ 4096) × (count ≤ 512) ⌝ }
+    ensures { λ r. ⌜ r ≡ length (memberTable (rowsOf (now (rows .entry)) count)) ⌝ }
+{
+    let mut n: usize = 0;
+    let mut k: usize = 0;
+    while k < count {
+        let size = row_size(rows, k);
+        n += size as usize;
+        k += 1;
+    }
+    n
+}
+
+// Writes base + k for each set bit k of the word, ascending, from the place `at` on, and gives the place after them. A zero word writes nothing.
+fn write_word(word: u64, base: usize, members: &mut [u16], at: usize) -> usize
+    requires { ⌜ (base ≤ 448) × (at + length (map (λ (k : ℕ). base + k) (select 64 (λ (k : ℕ). eqb (bitOf word k) 1))) ≤ length (now members)) ⌝ }
+    ensures next { λ r. ⌜ r ≡ at + length (map (λ (k : ℕ). base + k) (select 64 (λ (k : ℕ). eqb (bitOf word k) 1))) ⌝ }
+    ensures written { λ r. ⌜ now (members .exit) ≡ sets (now (members .entry)) at (map (λ (k : ℕ). base + k) (select 64 (λ (k : ℕ). eqb (bitOf word k) 1))) ⌝ }
+{
+    let mut w = word;
+    let mut place = at;
+    while w != 0 {
+        let k = u64::trailing_zeros(w);
+        members[place] = (base + k as usize) as u16;
+        place += 1;
+        w = w ^ (w & (1u64 << k));
+    }
+    place
+}
+
+// Writes the members of row k, ascending, from the place `at` on, and gives the place after them. An empty row writes nothing.
+fn write_row(rows: &[u64], k: usize, members: &mut [u16], at: usize) -> usize
+    requires { ⌜ (length (now rows) ≡ 4096) × (k < 512) × (at + length (rowMembers (now rows) k) ≤ length (now members)) ⌝ }
+    ensures next { λ r. ⌜ r ≡ at + length (rowMembers (now (rows .entry)) k) ⌝ }
+    ensures written { λ r. ⌜ now (members .exit) ≡ sets (now (members .entry)) at (rowMembers (now (rows .entry)) k) ⌝ }
+{
+    let mut place = at;
+    let mut j: usize = 0;
+    while j < 8 {
+        place = write_word(rows[k * 8 + j], j * 64, members, place);
+        j += 1;
+    }
+    place
+}
+
+// Writes both tables of the first `count` rows, from their first places on, and leaves the places after them alone. With no rows the start table gets a 0.
+fn write_tables(rows: &[u64], count: usize, starts: &mut [u32], members: &mut [u16])
+    requires { ⌜ (length (now rows) ≡ 4096) × (count ≤ 512) × (count < length (now starts)) × (length (memberTable (rowsOf (now rows) count)) ≤ length (now members)) ⌝ }
+    ensures started { λ _. ⌜ now (starts .exit) ≡ over (startTable (rowsOf (now (rows .entry)) count)) (now (starts .entry)) ⌝ }
+    ensures written { λ _. ⌜ now (members .exit) ≡ over (memberTable (rowsOf (now (rows .entry)) count)) (now (members .entry)) ⌝ }
+{
+    let mut place: usize = 0;
+    let mut k: usize = 0;
+    while k < count {
+        starts[k] = place as u32;
+        place = write_row(rows, k, members, place);
+        k += 1;
+    }
+    starts[count] = place as u32;
+}
+
+// How many of the first `count` rows contain v.
+pub(crate) fn count_containing(rows: &[u64], count: usize, v: usize) -> usize
+    requires { ⌜ (count ≤ 512) × (v < 512) ⌝ }
+    ensures { λ r. ⌜ r ≡ membershipCount v (rowsOf (now (rows .entry)) count) ⌝ }
+{
+    let mut n: usize = 0;
+    let mut k: usize = 0;
+    while k < count {
+        if sets::has(rows, k * 512 + v) {
+            n += 1;
+        }
+        k += 1;
+    }
+    n
+}
+
+// The number of the first of the first `count` rows that contains v, or `count` where none does.
+pub(crate) fn first_containing(rows: &[u64], count: usize, v: usize) -> usize
+    requires { ⌜ (count ≤ 512) × (v < 512) ⌝ }
+    ensures { λ r. ⌜ r ≡ communityNumber v (rowsOf (now (rows .entry)) count) ⌝ }
+{
+    let mut k: usize = 0;
+    while k < count {
+        if sets::has(rows, k * 512 + v) {
+            return k;
+        }
+        k += 1;
+    }
+    k
+}
+
+// The plan of the first `count` rows in both tables, with its counts; or question 11 or 12, which writes nothing.
+pub(crate) fn make_plan(
+    rows: &[u64],
+    count: usize,
+    starts: &mut [u32],
+    members: &mut [u16],
+) -> Planned
+    requires { ⌜ (length (now rows) ≡ 4096) × (count ≤ 512) ⌝ }
+    ensures answer { λ r. ⌜ r ≡ planned (rowsOf (now (rows .entry)) count) (length (now (starts .entry))) (length (now (members .entry))) ⌝ }
+    ensures started { λ _. ⌜ now (starts .exit) ≡ byRoom (rowsOf (now (rows .entry)) count) (length (now (starts .entry))) (length (now (members .entry))) (now (starts .entry)) (now (starts .entry)) (over (startTable (rowsOf (now (rows .entry)) count)) (now (starts .entry))) ⌝ }
+    ensures written { λ _. ⌜ now (members .exit) ≡ byRoom (rowsOf (now (rows .entry)) count) (length (now (starts .entry))) (length (now (members .entry))) (now (members .entry)) (now (members .entry)) (over (memberTable (rowsOf (now (rows .entry)) count)) (now (members .entry))) ⌝ }
+{
+    let total = count_members(rows, count);
+    if starts.len() <= count {
+        return Planned::Refused(Refusal {
+            number: 11,
+            place: 0,
+        });
+    }
+    if members.len() < total {
+        return Planned::Refused(Refusal {
+            number: 12,
+            place: 0,
+        });
+    }
+    write_tables(rows, count, starts, members);
+    Planned::Made(count, total)
+}
