@@ -26,8 +26,5 @@ fn link(archive: &Path) {
     let name = archive.file_name().expect("an archive has a name");
     println!("cargo:rerun-if-changed={}", archive.display());
     println!("cargo:rustc-link-search=native={}", directory.display());
-    println!(
-        "cargo:rustc-link-lib=static:+verbatim={}",
-        name.to_string_lossy()
-    );
+    println!("cargo:rustc-link-lib=static:+verbatim={}", name.to_string_lossy());
 }

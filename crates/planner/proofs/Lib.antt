@@ -2,3 +2,5 @@ pub mod Lowest
 pub mod Growth
 pub mod Grouping
 pub mod Listing
+pub mod GraphLaws
+pub mod Calls

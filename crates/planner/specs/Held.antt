@@ -6,16 +6,19 @@
 --     coreIn              its cores
 --     Survey g ..         the tables of a network: neighbours, similarity, cores
 --     Grouped g ws k      the first k rows are the communities of the network, in their order
+--     Found g ..          all that a call works out of an accepted site
 --     rowMembers ws k     the members of row k, ascending; rowsOf ws k: those of the first k rows
 use Prim.Native.Nat.{ℕ, zero, suc, _≤_, _<_}
 use mathlib.Core.Path.{_≡_}
-use mathlib.Core.Bool.{Bool, _&&_}
+use mathlib.Core.Bool.{Bool, _&&_, cond}
 use mathlib.Core.List.{List, [], _∷_, _++_}
 use lib.Dec.{ltb, eqb}
 use lib.ListN.{length, getD}
 use Rattle.sets.specs.Below.{bit, select}
 use Rattle.sets.specs.Bits.{bitAt, cell}
-use Rattle.community.specs.Network.{Network, similar, isCore, reachable, leaders}
+use Rattle.community.specs.Network.{Network, similar, isCore, reachable, leaders, communityNumber, membershipCount, borderOf}
+use Rattle.community.specs.declared.Role.{Role}
+use Rattle.community.specs.declared.Role.the-variants.{Core}
 
 pub record SetOf (ws : List ℕ) (f : ℕ → Bool) : Type 0 where
   pub size : length ws ≡ 8
@@ -62,3 +65,16 @@ unfoldable pub rowsOf : List ℕ → ℕ → List (List ℕ)
 unfolding rowMembers
 rowsOf ws zero = []
 rowsOf ws (suc k) = rowsOf ws k ++ (rowMembers ws k ∷ [])
+
+-- what is found of an accepted site: the neighbour table, the set of cores, and its communities as the first k rows
+pub record Found (g : Network) (near cores rows : List ℕ) (k : ℕ) : Type 0 where
+  pub near-table : Table near (nearIn g)
+  pub core-set : SetOf cores (coreIn g)
+  pub most : k ≤ 512
+  pub grouped : Grouped g rows k
+
+-- a handset's role, from the set of cores and the communities as the first k rows
+unfoldable pub roleFor : List ℕ → List ℕ → ℕ → ℕ → Role
+unfolding rowsOf
+roleFor cores rows k v =
+    cond (eqb (bitAt cores v) 1) (Core (communityNumber v (rowsOf rows k))) (borderOf (membershipCount v (rowsOf rows k)))

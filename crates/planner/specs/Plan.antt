@@ -4,18 +4,21 @@
 --     startsAfter s l b     the start table after the call, where it was l and the member table has length b
 --     membersAfter s a l    the member table after the call
 --     PlanCall              the outcome of a call for a plan: its answer and both tables
+--     CoreWords s ws        the set of cores that comes with a plan's answer
 --     knownOf s v           the role call's answer: the image's refusal, 13, or the near count and the role
-use Prim.Native.Nat.{ℕ}
+use Prim.Native.Nat.{ℕ, _<_}
 use mathlib.Core.Path.{_≡_}
-use mathlib.Core.Bool.{Bool, true, false, cond}
+use mathlib.Core.Bool.{Bool, true, false, _&&_, cond}
 use mathlib.Core.List.{List, _++_}
 use lib.Dec.{leb, ltb}
 use lib.ListN.{length, drop}
+use Rattle.sets.specs.Below.{bit}
+use Rattle.sets.specs.Bits.{bitAt}
 use Rattle.image.specs.Questions.{openOf}
 use Rattle.image.specs.declared.Refusal.{Refusal}
 use Rattle.image.specs.declared.Opened.{Opened}
 use Rattle.image.specs.declared.Opened.the-variants as O
-use Rattle.community.specs.Network.{neighbourhoodSize, communities, role}
+use Rattle.community.specs.Network.{neighbourhoodSize, isCore, communities, role}
 use Rattle.community.specs.Tables.{startTable, memberTable}
 use Rattle.community.specs.Site.{network}
 use Rattle.community.specs.declared.Standing.{Standing}
@@ -65,6 +68,15 @@ pub record PlanCall (s ss ms : List ℕ) (r : Planned) (ss′ ms′ : List ℕ) 
   pub answer : r ≡ planOf s (length ss) (length ms)
   pub starts : ss′ ≡ startsAfter s ss (length ms)
   pub members : ms′ ≡ membersAfter s (length ss) ms
+
+-- eight words that hold the set of cores; empty where the image is refused
+abbrev pub coreFor : List ℕ → Opened → ℕ → Bool
+coreFor s (O.Site h) v = ltb v (h .n) && isCore (network s) v
+coreFor s (O.Refused r) v = false
+
+pub record CoreWords (s ws : List ℕ) : Type 0 where
+  pub size : length ws ≡ 8
+  pub bits : (v : ℕ) → v < 512 → bitAt ws v ≡ bit (coreFor s (openOf s) v)
 
 -- the near count and the role of a handset
 unfoldable pub standing : List ℕ → ℕ → Standing

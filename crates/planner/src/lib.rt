@@ -1,8 +1,24 @@
 // The planner: the communities of a site, written into two lent tables, and the role of each handset.
+//
+// `graph` makes the tables of neighbours and of similarity and the set of cores, `groups` the communities as rows of bits, `tables` counts and
+// writes them. The calls open the image first, work everything out on the stack, and write only when nothing is left to refuse.
+mod graph;
 mod groups;
 mod tables;
 
+ghost use mathlib.Core.Path.{_≡_};
+ghost use Prim.Native.Nat.{_<_, _≤_};
+ghost use lib.ListN.{length, replicate};
+ghost use Rattle.image.specs.Questions.{Accepted, headerOf, openOf};
+ghost use Rattle.community.specs.Network.{role, neighbourhoodSize};
+ghost use Rattle.community.specs.Site.{network};
+ghost use Rattle.planner.specs.Plan.{PlanCall, CoreWords, knownOf, standing};
+ghost use Rattle.planner.specs.Held.{Found, roleFor};
+
+use community::Role;
 use community::Standing;
+use image::Header;
+use image::Opened;
 use image::Refusal;
 
 // What a call for a plan answers: the counts of groups and memberships, or the refusal.
@@ -11,8 +27,92 @@ pub enum Planned {
     Refused(Refusal),
 }
 
+// A plan's answer with the set of cores beside it.
+pub struct Outcome {
+    pub answer: Planned,
+    pub cores: [u64; 8],
+}
+
 // What a call for a role answers.
 pub enum Known {
     Handset(Standing),
     Refused(Refusal),
+}
+
+// Works out an accepted site: its neighbourhoods, its cores, and its communities as the first rows; their number is the answer.
+fn find_communities(image: &[u8], h: Header, near: &mut [u64], cores: &mut [u64], rows: &mut [u64]) -> usize
+    requires { ⌜ (Accepted (now image)) × (h ≡ headerOf (now image)) × (now near ≡ replicate 4096 0) × (now cores ≡ replicate 8 0) × (length (now rows) ≡ 4096) ⌝ }
+    ensures { λ r. ⌜ Found (network (now (image .entry))) (now (near .exit)) (now (cores .exit)) (now (rows .exit)) r ⌝ }
+{
+    let mut alike = [0u64; 4096];
+    graph::survey(image, h, near, &mut alike, cores);
+    groups::find_groups(&alike, cores, rows)
+}
+
+// The plan of an image in both tables, and the set of its cores. A refusal writes nothing.
+pub fn plan_and_cores(image: &[u8], starts: &mut [u32], members: &mut [u16]) -> Outcome
+    ensures { λ r. ⌜ (PlanCall (now (image .entry)) (now (starts .entry)) (now (members .entry)) (r .answer) (now (starts .exit)) (now (members .exit))) × (CoreWords (now (image .entry)) (r .cores)) ⌝ }
+{
+    let mut cores = [0u64; 8];
+    let opened = image::open(image);
+    let Opened::Site(h) = opened else {
+        return Outcome {
+            answer: Planned::Refused(image::refusal_of(opened)),
+            cores,
+        };
+    };
+    let mut near = [0u64; 4096];
+    let mut rows = [0u64; 4096];
+    let count = find_communities(image, h, &mut near, &mut cores, &mut rows);
+    let answer = tables::make_plan(&rows, count, starts, members);
+    Outcome { answer, cores }
+}
+
+// The plan of an image in both tables. A refusal writes nothing.
+pub fn plan(image: &[u8], starts: &mut [u32], members: &mut [u16]) -> Planned
+    ensures { λ r. ⌜ PlanCall (now (image .entry)) (now (starts .entry)) (now (members .entry)) r (now (starts .exit)) (now (members .exit)) ⌝ }
+{
+    let outcome = plan_and_cores(image, starts, members);
+    outcome.answer
+}
+
+// The role of a handset, from the set of cores and the communities as rows.
+fn role_in(cores: &[u64], rows: &[u64], count: usize, v: usize) -> Role
+    requires { ⌜ (count ≤ 512) × (v < 512) ⌝ }
+    ensures { λ r. ⌜ r ≡ roleFor (now (cores .entry)) (now (rows .entry)) count v ⌝ }
+{
+    if sets::has(cores, v) {
+        return Role::Core(tables::first_containing(rows, count, v));
+    }
+    let times = tables::count_containing(rows, count, v);
+    if times == 0 {
+        Role::Outlier
+    } else {
+        Role::Border(times)
+    }
+}
+
+// The near count and the role of handset v.
+pub fn role(image: &[u8], v: usize) -> Known
+    ensures { λ r. ⌜ r ≡ knownOf (now (image .entry)) v ⌝ }
+{
+    let opened = image::open(image);
+    let Opened::Site(h) = opened else {
+        return Known::Refused(image::refusal_of(opened));
+    };
+    if h.n as usize <= v {
+        return Known::Refused(Refusal {
+            number: 13,
+            place: 0,
+        });
+    }
+    let mut near = [0u64; 4096];
+    let mut cores = [0u64; 8];
+    let mut rows = [0u64; 4096];
+    let count = find_communities(image, h, &mut near, &mut cores, &mut rows);
+    let role = role_in(&cores, &rows, count, v);
+    Known::Handset(Standing {
+        neighbours: graph::row_size(&near, v),
+        role,
+    })
 }

@@ -40,10 +40,7 @@ struct Lent<T> {
 
 impl<T: Copy + PartialEq> Lent<T> {
     fn new(length: usize, pattern: fn(usize) -> T) -> Lent<T> {
-        Lent {
-            all: (0..length + 2 * GUARD).map(pattern).collect(),
-            pattern,
-        }
+        Lent { all: (0..length + 2 * GUARD).map(pattern).collect(), pattern }
     }
 
     fn part(&mut self) -> &mut [T] {
@@ -196,9 +193,8 @@ fn scores(planner: &dyn Planner, image: &[u8], found: &Findings, rng: &mut Rng) 
 /// refused for an entry, for their length, or for both.
 fn lists(found: &Findings, rng: &mut Rng) -> Vec<Vec<u16>> {
     let n = found.site().positions.len();
-    let mut random = |length: usize| -> Vec<u16> {
-        (0..length).map(|_| rng.below(n.max(1)) as u16).collect()
-    };
+    let mut random =
+        |length: usize| -> Vec<u16> { (0..length).map(|_| rng.below(n.max(1)) as u16).collect() };
     let mut lists = vec![vec![], random(1), random(2), random(7), random(20)];
     let mut refused = random(25);
     let long = (n > 0).then(|| [random(512), random(513)]);
@@ -317,11 +313,8 @@ fn numbered_back(
 /// The report program's standard output for an input.
 pub fn program(path: &Path, input: &[u8]) -> Outcome {
     let failed = |error: std::io::Error| format!("{}: {error}", path.display());
-    let mut child = Command::new(path)
-        .stdin(Stdio::piped())
-        .stdout(Stdio::piped())
-        .spawn()
-        .map_err(failed)?;
+    let mut child =
+        Command::new(path).stdin(Stdio::piped()).stdout(Stdio::piped()).spawn().map_err(failed)?;
     let mut stdin = child.stdin.take().expect("standard input is piped");
     let output = std::thread::scope(|scope| {
         // The program may end before it has read everything, which breaks the pipe.

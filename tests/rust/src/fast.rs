@@ -4,8 +4,8 @@
 //!
 //! What makes it fast:
 //! - rows of bits, 1, 2, 4 or 8 words wide by the count of handsets, each width compiled apart;
-//! - one pass over the ties puts questions 8, 9 and 10, sets both bits of each tie and sorts near
-//!   ties from the others; only a fault starts the search for its number and place;
+//! - records are tested without branches, and one pass over the ties both sets their bits and finds
+//!   whether one repeats another; only a fault starts the search for its number and place;
 //! - bits are cleared for the ties that are not near, then for those that are not alike, as most
 //!   ties are both, and handsets are counted the same way;
 //! - communities are joined a row at a time, and a community's set takes the row of its first core.
@@ -166,20 +166,25 @@ impl<'a> Image<'a> {
 /// R rows of W words; R is 64 W, so that any index is cut to size with a mask.
 type Rows<const W: usize, const R: usize> = [[u64; W]; R];
 
+/// The word of a row that has a handset's bit.
+fn word_of<const W: usize>(handset: usize) -> usize {
+    (handset / 64) & (W - 1)
+}
+
 fn bit_of(handset: usize) -> u64 {
     1 << (handset % 64)
 }
 
 /// Sets one bit, and says whether it was set before.
 fn set_bit<const W: usize, const R: usize>(rows: &mut Rows<W, R>, row: usize, bit: usize) -> bool {
-    let word = &mut rows[row & (R - 1)][bit / 64 & (W - 1)];
+    let word = &mut rows[row & (R - 1)][word_of::<W>(bit)];
     let before = *word & bit_of(bit) != 0;
     *word |= bit_of(bit);
     before
 }
 
 fn clear_bit<const W: usize, const R: usize>(rows: &mut Rows<W, R>, row: usize, bit: usize) {
-    rows[row & (R - 1)][bit / 64 & (W - 1)] &= !bit_of(bit);
+    rows[row & (R - 1)][word_of::<W>(bit)] &= !bit_of(bit);
 }
 
 fn count<const W: usize>(set: &[u64; W]) -> u32 {
@@ -187,22 +192,11 @@ fn count<const W: usize>(set: &[u64; W]) -> u32 {
 }
 
 fn count_common<const W: usize>(one: &[u64; W], other: &[u64; W]) -> u32 {
-    if W < 8 {
-        return one.iter().zip(other).map(|(a, b)| (a & b).count_ones()).sum();
-    }
-    let common: [u64; W] = std::array::from_fn(|i| one[i] & other[i]);
-    let pairs = common.map(|x| x - (x >> 1 & 0x5555_5555_5555_5555));
-    let fours = pairs.map(|x| (x & 0x3333_3333_3333_3333) + (x >> 2 & 0x3333_3333_3333_3333));
-    let half: [u64; 4] = std::array::from_fn(|i| fours[i] + fours[i + 4]);
-    let bytes = half.map(|x| (x & 0x0f0f_0f0f_0f0f_0f0f) + (x >> 4 & 0x0f0f_0f0f_0f0f_0f0f));
-    let quarter = [bytes[0] + bytes[2], bytes[1] + bytes[3]];
-    let sum = quarter[0] + quarter[1];
-    let shorts = (sum & 0x00ff_00ff_00ff_00ff) + (sum >> 8 & 0x00ff_00ff_00ff_00ff);
-    (shorts.wrapping_mul(0x0001_0001_0001_0001) >> 48) as u32
+    one.iter().zip(other).map(|(a, b)| (a & b).count_ones()).sum()
 }
 
 fn has<const W: usize>(set: &[u64; W], handset: usize) -> bool {
-    set[handset / 64 & (W - 1)] & bit_of(handset) != 0
+    set[word_of::<W>(handset)] & bit_of(handset) != 0
 }
 
 /// Calls `each` with the members of a set, ascending.
@@ -220,7 +214,6 @@ fn for_each<const W: usize>(set: &[u64; W], mut each: impl FnMut(usize)) {
 
 /// The ties of a site as rows of bits, no handset in its own row. Ties are dropped from it step by
 /// step: all ties, near ties, alike ties.
-#[repr(align(64))]
 struct Network<const W: usize, const R: usize> {
     rows: Rows<W, R>,
     /// The ones in each row.
@@ -233,13 +226,7 @@ struct Network<const W: usize, const R: usize> {
 
 impl<const W: usize, const R: usize> Network<W, R> {
     fn new() -> Self {
-        Network {
-            rows: [[0; W]; R],
-            degrees: [0; R],
-            list: [0; MOST_TIES],
-            ties: 0,
-            near: 0,
-        }
+        Network { rows: [[0; W]; R], degrees: [0; R], list: [0; MOST_TIES], ties: 0, near: 0 }
     }
 
     /// All ties of the image, after questions 7 to 10.
@@ -255,28 +242,31 @@ impl<const W: usize, const R: usize> Network<W, R> {
         if repeated | !image.ends_are_good() {
             return Err(image.tie_fault());
         }
-        self.split(image);
+        self.list_ties(image);
         Ok(())
     }
 
-    fn split(&mut self, image: &Image) {
+    /// Lists the ties by nearness. Coordinates fit in 21 bits, so the squares and their sum are
+    /// exact in f64, and two of them are computed at once.
+    fn list_ties(&mut self, image: &Image) {
         let mut positions = [[0.0; 2]; R];
-        positions.iter_mut().zip(image.positions()).for_each(|(to, from)| *to = from.map(f64::from));
+        for (to, from) in positions.iter_mut().zip(image.positions()) {
+            *to = from.map(f64::from);
+        }
         let gamma_squared = image.gamma_squared as f64;
         self.ties = image.tie_count();
-        let mut near_to = 0;
-        let mut far_from = self.ties;
+        let (mut near_end, mut far_start) = (0, self.ties);
         for tie in image.ties() {
             let (u, v) = ends(tie);
             let (here, there) = (positions[u & (R - 1)], positions[v & (R - 1)]);
             let (dx, dy) = (here[0] - there[0], here[1] - there[1]);
             let near = dx * dx + dy * dy <= gamma_squared;
-            self.list[near_to & (MOST_TIES - 1)] = tie;
-            self.list[(far_from - 1) & (MOST_TIES - 1)] = tie;
-            near_to += usize::from(near);
-            far_from -= usize::from(!near);
+            self.list[near_end & (MOST_TIES - 1)] = tie;
+            self.list[(far_start - 1) & (MOST_TIES - 1)] = tie;
+            near_end += usize::from(near);
+            far_start -= usize::from(!near);
         }
-        self.near = near_to;
+        self.near = near_end;
     }
 
     fn change_degrees(&mut self, tie: Tie, by: u16) {
@@ -324,7 +314,7 @@ impl<const W: usize, const R: usize> Network<W, R> {
     fn join(&mut self, handsets: usize, mu: u16) -> Communities<W, R> {
         let mut found = Communities { cores: [0; W], first_cores: [0; R], count: 0 };
         for (u, &degree) in self.degrees[..handsets].iter().enumerate() {
-            found.cores[u / 64 & (W - 1)] |= u64::from(degree + 1 >= mu) << (u % 64);
+            found.cores[word_of::<W>(u)] |= u64::from(degree + 1 >= mu) << (u % 64);
         }
         let mut waiting = found.cores;
         for i in 0..W {
@@ -342,7 +332,7 @@ impl<const W: usize, const R: usize> Network<W, R> {
     /// The community of a core; its cores are taken out of those waiting.
     fn grow(&self, first: usize, waiting: &mut [u64; W]) -> [u64; W] {
         let mut members = [0; W];
-        members[first / 64 & (W - 1)] = bit_of(first);
+        members[word_of::<W>(first)] = bit_of(first);
         let mut stack = [first as u16; R];
         let mut height = 1;
         while height > 0 {
@@ -425,10 +415,7 @@ fn plan<const W: usize, const R: usize>(
         });
     }
     starts[found.count] = memberships as u32;
-    Ok(Counts {
-        communities: found.count as u64,
-        memberships: memberships as u64,
-    })
+    Ok(Counts { communities: found.count as u64, memberships: memberships as u64 })
 }
 
 fn role<const W: usize, const R: usize>(image: &Image, handset: u64) -> Result<Record, Refusal> {
@@ -520,7 +507,7 @@ fn report<const W: usize, const R: usize>(
         members.iter_mut().zip(set).for_each(|(all, word)| *all |= word);
     }
     for u in 0..lines.handsets {
-        lines.outliers[u / 64 & (W - 1)] |= u64::from(!has(&members, u)) << (u % 64);
+        lines.outliers[word_of::<W>(u)] |= u64::from(!has(&members, u)) << (u % 64);
     }
     let mut length = Length(0);
     lines.put(&mut length);
@@ -666,7 +653,13 @@ static SPACED: [[u8; 4]; MOST_HANDSETS] = {
     let mut handset = 0;
     while handset < MOST_HANDSETS {
         let digits = [handset / 100, handset / 10 % 10, handset % 10];
-        let skipped = if handset >= 100 { 0 } else if handset >= 10 { 1 } else { 2 };
+        let skipped = if handset >= 100 {
+            0
+        } else if handset >= 10 {
+            1
+        } else {
+            2
+        };
         let mut i = skipped;
         while i < 3 {
             table[handset][1 + i - skipped] = b'0' + digits[i] as u8;
@@ -688,10 +681,7 @@ impl Planner for Fast {
     fn open(&self, image: &[u8]) -> Result<Opened, Refusal> {
         let image = Image::read(image)?;
         by_width!(image, check(&image))?;
-        Ok(Opened {
-            handsets: image.handset_count() as u64,
-            ties: image.tie_count() as u64,
-        })
+        Ok(Opened { handsets: image.handset_count() as u64, ties: image.tie_count() as u64 })
     }
 
     fn plan(
@@ -748,7 +738,8 @@ mod tests {
             let site = sites::hospital(handsets.max(1), 6 * handsets, &mut rng);
             agree(&site.image(Layout::any(&mut rng), &mut rng));
         }
-        for site in [sites::untied(0, 0), sites::hub(), sites::shared_borders(), sites::one_clique()] {
+        for site in [sites::hub(), sites::two_hubs(), sites::shared_borders(), sites::one_clique()]
+        {
             agree(&site.plain_image());
         }
     }

@@ -7,8 +7,12 @@ use crate::calls::{Counts, Opened, Planner, Record, Refusal, Role, Scores};
 /// The header's functions.
 mod c {
     extern "C" {
-        pub fn dvg_report(image: *const u8, image_len: usize, text: *mut u8, text_len: usize)
-            -> i64;
+        pub fn dvg_report(
+            image: *const u8,
+            image_len: usize,
+            text: *mut u8,
+            text_len: usize,
+        ) -> i64;
         pub fn dvg_open(image: *const u8, image_len: usize) -> i64;
         pub fn dvg_plan(
             image: *const u8,
@@ -63,11 +67,7 @@ fn decode_record(answer: u64) -> Record {
 
 fn decode_scores(answer: u64) -> Scores {
     let (leaving, rest) = split(answer);
-    Scores {
-        pairs: rest / 1_048_576,
-        tied_pairs: rest % 1_048_576,
-        leaving,
-    }
+    Scores { pairs: rest / 1_048_576, tied_pairs: rest % 1_048_576, leaving }
 }
 
 /// The proved planner behind the trait.
@@ -130,9 +130,8 @@ impl Planner for Proved {
     }
 
     fn report(&self, image: &[u8], text: &mut [u8]) -> Result<u64, u64> {
-        let answer = unsafe {
-            c::dvg_report(image.as_ptr(), image.len(), text.as_mut_ptr(), text.len())
-        };
+        let answer =
+            unsafe { c::dvg_report(image.as_ptr(), image.len(), text.as_mut_ptr(), text.len()) };
         u64::try_from(answer).map_err(|_| answer.unsigned_abs())
     }
 }

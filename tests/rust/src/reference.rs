@@ -321,10 +321,7 @@ pub fn ask_tables(
     let (starts, members) = (findings.start_table(), findings.member_table());
     ask(11, starts_len >= starts.len())?;
     ask(12, members_len >= members.len())?;
-    Ok(Counts {
-        communities: starts.len() as u64 - 1,
-        memberships: members.len() as u64,
-    })
+    Ok(Counts { communities: starts.len() as u64 - 1, memberships: members.len() as u64 })
 }
 
 /// The part of the member table that holds a community, or refusal 14.
@@ -415,10 +412,7 @@ impl Planner for Reference {
 
     fn open(&self, image: &[u8]) -> Result<Opened, Refusal> {
         let site = open(image)?;
-        Ok(Opened {
-            handsets: site.positions.len() as u64,
-            ties: site.ties.len() as u64,
-        })
+        Ok(Opened { handsets: site.positions.len() as u64, ties: site.ties.len() as u64 })
     }
 
     fn plan(
@@ -652,7 +646,8 @@ outliers:
         assert!(with_length(65_536).starts_with(b"handsets 0 "));
         assert_eq!(with_length(65_537), b"refused 15 0\n");
         assert_eq!(program(b""), b"refused 1 0\n");
-        let beyond = sites::Site { positions: vec![(0, 0), (0, -1_000_001)], ..sites::untied(2, 1) };
+        let beyond =
+            sites::Site { positions: vec![(0, 0), (0, -1_000_001)], ..sites::untied(2, 1) };
         assert_eq!(program(&beyond.plain_image()), b"refused 7 1\n");
     }
 
@@ -675,10 +670,8 @@ outliers:
     fn table_places() {
         let opened = |handsets_at: u64, ties_at: u64| {
             let set = |at, value| damage::Edit::Set { at, width: 4, value };
-            let image = sites::untied(0, 0).image(
-                sites::Layout { ties_first: false, gaps: [8, 0, 0] },
-                &mut Rng::new(1),
-            );
+            let image = sites::untied(0, 0)
+                .image(sites::Layout { ties_first: false, gaps: [8, 0, 0] }, &mut Rng::new(1));
             open(&damage::apply(&image, &[set(4, handsets_at), set(8, ties_at)])).is_ok()
         };
         assert!(opened(32, 40) && opened(40, 32) && opened(36, 36));
@@ -731,9 +724,14 @@ outliers:
     /// For each handset the set of those reached from it: the transitive closure of single steps.
     fn reached(found: &Findings) -> Vec<u32> {
         let step = |u: usize| -> u32 {
-            let alike = |v: &&usize| is_similar(found.site.epsilon, &found.near[u], &found.near[**v]);
+            let alike =
+                |v: &&usize| is_similar(found.site.epsilon, &found.near[u], &found.near[**v]);
             let targets = found.near[u].iter().filter(alike).map(|v| 1 << v).sum();
-            if is_core(found, u) { targets } else { 0 }
+            if is_core(found, u) {
+                targets
+            } else {
+                0
+            }
         };
         let n = found.near.len();
         let mut reached: Vec<u32> = (0..n).map(step).collect();

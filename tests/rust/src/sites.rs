@@ -89,10 +89,7 @@ impl Layout {
             _ if rng.one_in(40) => 65_536 + rng.below(70),
             _ => rng.below(1000),
         };
-        Layout {
-            gaps: [gap(), gap(), gap()],
-            ties_first: rng.one_in(2),
-        }
+        Layout { gaps: [gap(), gap(), gap()], ties_first: rng.one_in(2) }
     }
 }
 
@@ -156,12 +153,7 @@ impl Tables {
     pub fn of(image: &[u8]) -> Tables {
         let short = |at: usize| usize::from(u16::from_le_bytes([image[at], image[at + 1]]));
         let long = |at: usize| short(at) + 65_536 * short(at + 2);
-        Tables {
-            handsets: short(0),
-            ties: short(2),
-            handsets_at: long(4),
-            ties_at: long(8),
-        }
+        Tables { handsets: short(0), ties: short(2), handsets_at: long(4), ties_at: long(8) }
     }
 
     pub fn handset_bytes(&self) -> std::ops::Range<usize> {
@@ -281,6 +273,22 @@ pub fn shared_borders() -> Site {
     }
 }
 
+/// Two handsets that are tied to each other and to all others: 512 common members.
+pub fn two_hubs() -> Site {
+    let mut draft = Draft::new(MOST_HANDSETS);
+    for handset in 1..MOST_HANDSETS {
+        draft.tie(0, handset);
+        draft.tie(handset, 1);
+    }
+    Site {
+        positions: vec![(0, 0); MOST_HANDSETS],
+        ties: draft.ties,
+        gamma_squared: 0,
+        epsilon: (1, 1),
+        mu: 2,
+    }
+}
+
 /// One community with nearly all ties: 91 handsets, each two of them tied; the others have none.
 pub fn one_clique() -> Site {
     let mut draft = Draft::new(MOST_HANDSETS);
@@ -301,15 +309,13 @@ struct Draft {
     handsets: usize,
     ties: Vec<(u16, u16)>,
     taken: HashSet<(usize, usize)>,
+    /// A mu that makes cores and borders of this shape where epsilon is small and all are near.
+    mu: Option<usize>,
 }
 
 impl Draft {
     fn new(handsets: usize) -> Draft {
-        Draft {
-            handsets,
-            ties: Vec::new(),
-            taken: HashSet::new(),
-        }
+        Draft { handsets, ties: Vec::new(), taken: HashSet::new(), mu: None }
     }
 
     fn tie(&mut self, u: usize, v: usize) {
@@ -388,18 +394,25 @@ fn complete(draft: Draft, rng: &mut Rng) -> Site {
         ties: draft.ties,
         gamma_squared: 0,
         epsilon: any_epsilon(rng),
-        mu: any_mu(rng),
+        mu: 0,
     };
     relabel(&mut site, rng);
     site.gamma_squared = any_gamma_squared(&site, rng);
+    site.mu = any_mu(&site, rng);
+    if let Some(mu) = draft.mu.filter(|_| !rng.one_in(4)) {
+        site.gamma_squared = MOST_GAMMA_SQUARED;
+        site.epsilon = rng.pick(&[(1, 1000), (1, 20), (1, 5), (1, 4)]);
+        site.mu = mu as u16;
+    }
     site
 }
 
 /// A site with 512 handsets and 4,096 ties, or as many as its shape has.
 fn full(rng: &mut Rng) -> Site {
-    let mut site = match rng.below(4) {
+    let mut site = match rng.below(6) {
         0 => shared_borders(),
         1 => one_clique(),
+        2 => two_hubs(),
         _ => hospital(MOST_HANDSETS, MOST_TIES, rng),
     };
     relabel(&mut site, rng);
@@ -407,16 +420,16 @@ fn full(rng: &mut Rng) -> Site {
 }
 
 fn any_draft(rng: &mut Rng) -> Draft {
-    match rng.below(16) {
-        0 => Draft::new(rng.pick(&[0, 0, 1, 2, 64, 65, 511, 512])),
-        1..=3 => scattered(1, 6, rng),
-        4 | 5 => scattered(7, 40, rng),
-        6..=9 => cliques_with_borders(rng),
-        10 | 11 => chain(rng),
-        12 => stars(rng),
-        13 => wards(2, 60, rng),
-        14 => wards(60, 140, rng),
-        _ if rng.one_in(4) => wards(250, MOST_HANDSETS, rng),
+    match rng.below(40) {
+        0 | 1 => Draft::new(rng.pick(&[0, 0, 1, 2, 64, 65, 511, 512])),
+        2..=7 => scattered(1, 6, rng),
+        8..=12 => scattered(7, 40, rng),
+        13..=22 => cliques_with_borders(rng),
+        23..=26 => chain(rng),
+        27 | 28 => stars(rng),
+        29..=31 => wards(2, 60, rng),
+        32 | 33 => wards(60, 140, rng),
+        34 => wards(140, MOST_HANDSETS, rng),
         _ => cores_with_borders(rng),
     }
 }
@@ -434,6 +447,7 @@ fn cliques_with_borders(rng: &mut Rng) -> Draft {
     let (cliques, size) = (rng.count(1, 6), rng.count(2, 7));
     let borders = rng.below(4);
     let mut draft = Draft::new(cliques * size + borders);
+    draft.mu = Some(size);
     for clique in 0..cliques {
         draft.clique(clique * size, size);
         for border in 0..borders {
@@ -479,10 +493,12 @@ fn wards(low: usize, high: usize, rng: &mut Rng) -> Draft {
 
 /// Few cores, tied to borders only: borders in many communities.
 fn cores_with_borders(rng: &mut Rng) -> Draft {
-    let (cores, borders) = (rng.count(2, 12), rng.count(3, 30));
+    let (cores, borders) = (rng.count(2, 12), rng.count(4, 40));
+    let mu = rng.count(3, 8);
     let mut draft = Draft::new(cores + borders);
+    draft.mu = Some(mu);
     for core in 0..cores {
-        for _ in 0..rng.count(2, 12) {
+        for _ in 0..mu + rng.below(3) {
             draft.tie(core, cores + rng.below(borders));
         }
     }
@@ -514,12 +530,12 @@ fn any_gamma_squared(site: &Site, rng: &mut Rng) -> u64 {
             squared_distance(site.positions[usize::from(u)], site.positions[usize::from(v)])
         }
     };
-    match rng.below(8) {
+    match rng.below(10) {
         0 => 0,
-        1 => MOST_GAMMA_SQUARED,
-        2 => MOST_GAMMA_SQUARED - 1,
-        3 => rng.word() % (MOST_GAMMA_SQUARED + 1),
-        4 => of_a_tie.saturating_sub(1),
+        1..=3 => MOST_GAMMA_SQUARED,
+        4 => MOST_GAMMA_SQUARED - 1,
+        5 => rng.word() % (MOST_GAMMA_SQUARED + 1),
+        6 => of_a_tie.saturating_sub(1),
         _ => of_a_tie,
     }
 }
@@ -531,14 +547,14 @@ fn squared_distance(one: (i32, i32), other: (i32, i32)) -> u64 {
 
 fn any_epsilon(rng: &mut Rng) -> (u16, u16) {
     let known = [(1, 2), (3, 5), (577, 1000), (578, 1000), (7, 10), (2, 3), (1, 3), (3, 4)];
-    match rng.below(8) {
-        0 => (1, 1000),
-        1 => rng.pick(&[(1, 1), (1000, 1000), (999, 1000)]),
-        2 => {
+    match rng.below(10) {
+        0..=2 => rng.pick(&[(1, 1000), (1, 20), (1, 5)]),
+        3 => rng.pick(&[(1, 1), (1000, 1000), (999, 1000)]),
+        4 => {
             let q = rng.between(1, 1000);
             (rng.between(1, q) as u16, q as u16)
         }
-        3 => {
+        5 => {
             let q = rng.between(1, 9);
             (rng.between(1, q) as u16, q as u16)
         }
@@ -546,12 +562,15 @@ fn any_epsilon(rng: &mut Rng) -> (u16, u16) {
     }
 }
 
-fn any_mu(rng: &mut Rng) -> u16 {
+/// Half of the time one more than the ties of some handset, so that some are cores and some are not.
+fn any_mu(site: &Site, rng: &mut Rng) -> u16 {
+    let handset = rng.below(site.positions.len().max(1)) as u16;
+    let ends_here = |&&(u, v): &&(u16, u16)| u == handset || v == handset;
     match rng.below(16) {
         0 => rng.below(MOST_HANDSETS + 1) as u16,
         1 => rng.pick(&[1, 511, 512]),
-        2 => rng.between(6, 14) as u16,
-        _ => rng.below(7) as u16,
+        2..=7 => rng.below(7) as u16,
+        _ => site.ties.iter().filter(ends_here).count() as u16 + 1,
     }
 }
 
@@ -567,4 +586,73 @@ fn relabel(site: &mut Site, rng: &mut Rng) {
         (*u, *v) = (map[usize::from(*u)], map[usize::from(*v)]);
     }
     mix_ties(&mut site.ties, rng);
+}
+
+#[cfg(test)]
+mod tests {
+    use super::*;
+    use crate::calls::Role;
+    use crate::compare;
+    use crate::reference::{self, Findings, Reference};
+
+    fn any_sites(count: u64) -> impl Iterator<Item = (Site, Vec<u8>)> {
+        (0..count).map(|seed| {
+            let mut rng = Rng::new(seed);
+            let site = any(&mut rng);
+            let image = site.image(Layout::any(&mut rng), &mut rng);
+            (site, image)
+        })
+    }
+
+    #[test]
+    fn every_image_is_accepted_and_says_its_site() {
+        for (site, image) in any_sites(300) {
+            let opened = reference::open(&image).expect("accepted");
+            let positions = site.positions.iter().map(|&(x, y)| (x.into(), y.into()));
+            let ties = site.ties.iter().map(|&(u, v)| (u.into(), v.into()));
+            assert_eq!(opened.positions, positions.collect::<Vec<(i64, i64)>>());
+            assert_eq!(opened.ties, ties.collect::<Vec<(usize, usize)>>());
+            assert_eq!(opened.gamma_squared, site.gamma_squared);
+        }
+    }
+
+    #[test]
+    fn renumbered_images_are_renumberings() {
+        for (seed, (site, image)) in any_sites(100).enumerate() {
+            if site.positions.len() < 50 {
+                let outcome = compare::renumbering(&Reference, &image, &mut Rng::new(seed as u64));
+                assert_eq!(outcome, Ok(()));
+            }
+        }
+    }
+
+    /// The generated sites have every trait that the tests are for.
+    #[test]
+    fn sites_are_of_every_kind() {
+        let mut seen = [0; 8];
+        for (site, image) in any_sites(400) {
+            let found = Findings::of(reference::open(&image).expect("accepted"));
+            let handsets = 0..site.positions.len() as u64;
+            let roles: Vec<Role> =
+                handsets.map(|u| found.record(u).expect("a handset").role).collect();
+            let communities = found.communities();
+            let limit = site.gamma_squared;
+            let distances = site.ties.iter().map(|&(u, v)| {
+                squared_distance(site.positions[usize::from(u)], site.positions[usize::from(v)])
+            });
+            let distances: Vec<u64> = distances.collect();
+            let traits = [
+                roles.is_empty(),
+                site.ties.len() == MOST_TIES,
+                distances.iter().any(|&distance| distance > 0 && distance == limit),
+                distances.contains(&(limit + 1)),
+                roles.iter().any(|role| matches!(role, Role::Border(count) if *count > 1)),
+                roles.contains(&Role::Outlier) && !communities.is_empty(),
+                communities.len() > 20,
+                communities.iter().any(|c| c.members.first() < c.cores.first()),
+            ];
+            seen.iter_mut().zip(traits).for_each(|(count, has)| *count += usize::from(has));
+        }
+        assert!(seen.iter().all(|&count| count > 0), "{seen:?}");
+    }
 }

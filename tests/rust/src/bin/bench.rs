@@ -53,10 +53,7 @@ struct Case {
 
 fn case(name: &str, site: &Site) -> Case {
     let (n, m) = (site.positions.len(), site.ties.len());
-    Case {
-        name: format!("{name} {n}/{m}"),
-        image: site.plain_image(),
-    }
+    Case { name: format!("{name} {n}/{m}"), image: site.plain_image() }
 }
 
 fn named_sites() -> Vec<Case> {
@@ -94,11 +91,7 @@ struct Tables {
 
 impl Tables {
     fn new() -> Tables {
-        Tables {
-            starts: vec![0; 513],
-            members: vec![0; 8704],
-            text: vec![0; 65_536],
-        }
+        Tables { starts: vec![0; 513], members: vec![0; 8704], text: vec![0; 65_536] }
     }
 }
 
@@ -196,13 +189,7 @@ impl Bench<'_> {
 }
 
 /// Seconds a call, over a number of calls.
-fn time(
-    planner: &dyn Planner,
-    call: Call,
-    image: &[u8],
-    tables: &mut Tables,
-    repeats: u32,
-) -> f64 {
+fn time(planner: &dyn Planner, call: Call, image: &[u8], tables: &mut Tables, repeats: u32) -> f64 {
     let started = Instant::now();
     (0..repeats).for_each(|_| run(planner, call, image, tables));
     started.elapsed().as_secs_f64() / f64::from(repeats)

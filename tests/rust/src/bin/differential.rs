@@ -65,13 +65,8 @@ struct Options {
 
 impl Options {
     fn read(mut words: impl Iterator<Item = String>) -> Result<Options, String> {
-        let mut options = Options {
-            seed: 1,
-            count: 2000,
-            time: None,
-            program: None,
-            save: PathBuf::from("."),
-        };
+        let mut options =
+            Options { seed: 1, count: 2000, time: None, program: None, save: PathBuf::from(".") };
         while let Some(name) = words.next() {
             let value = words.next().ok_or_else(|| format!("{name} has no value"))?;
             let number = || value.parse::<u64>().map_err(|error| format!("{name}: {error}"));
@@ -180,12 +175,12 @@ impl<'a> Run<'a> {
             self.check(case, compare::image, &damage::several(&image, &mut rng), &mut rng)?;
         }
         for edit in damage::edits(&image, &mut rng) {
-            if seed % EVERY_EDIT == 0 || rng.one_in(40) {
+            if seed.is_multiple_of(EVERY_EDIT) || rng.one_in(40) {
                 let damaged = damage::apply(&image, &[edit]);
                 self.check(case, compare::image, &damaged, &mut rng)?;
             }
         }
-        if seed % EVERY_PROGRAM == 0 {
+        if seed.is_multiple_of(EVERY_PROGRAM) {
             self.program(case, &image)?;
             self.program(case, &damage::several(&image, &mut rng))?;
         }
@@ -241,7 +236,7 @@ impl<'a> Run<'a> {
 fn named_sites() -> Vec<Site> {
     let mut sites: Vec<Site> = (0..=8).map(sites::site_s).collect();
     sites.extend([0, 1, 2, 511, 512].map(|handsets| sites::untied(handsets, 1)));
-    sites.extend([sites::hub(), sites::shared_borders(), sites::one_clique()]);
+    sites.extend([sites::hub(), sites::two_hubs(), sites::shared_borders(), sites::one_clique()]);
     sites.push(sites::hospital(512, 4096, &mut Rng::new(0)));
     sites
 }

@@ -25,7 +25,9 @@ fn main() -> ExitCode {
     let words: Vec<String> = std::env::args().skip(1).collect();
     let examples = examples();
     let chosen = match words.as_slice() {
-        [name, path] => examples.iter().find(|(known, _)| known == name).map(|(_, image)| (image, path)),
+        [name, path] => {
+            examples.iter().find(|(known, _)| known == name).map(|(_, image)| (image, path))
+        }
         _ => None,
     };
     let Some((image, path)) = chosen else {

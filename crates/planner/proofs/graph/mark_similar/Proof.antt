@@ -1,0 +1,221 @@
+use Prim.Native.Nat.{ℕ, _+_, _*_, _-_, _≤_, _<_}
+use native.Mathlib.Omega.{arith}
+use mathlib.Core.Path.{_≡_, sym, ap, _∙_, subst}
+use mathlib.Core.Logic.{⊎-elim}
+use mathlib.Core.Bool.{Bool, _&&_, not}
+use borrow.Author.Needs.{needs}
+use lib.Dec.{T, ltb, eqb}
+use lib.ListN.{length, getD}
+use Rattle.image.specs.Image.{handsetCount, edgeCount, edgeRecords, endA, endB}
+use Rattle.community.specs.Network.{neighbourhoodSize, similar}
+use Rattle.community.specs.Site.{network}
+use Rattle.planner.specs.Held.{Table}
+use Rattle.planner.proofs.GraphLaws.{marked, marked-none, similar-table, similar-test, size-le, edge-yes, edge-no, header-is, end-a, end-b, ends-read, selves-none}
+use Rattle.planner.proofs.graph.mark_similar.Statement.{statement}
+use Rattle.planner.proofs.graph.mark_similar.Tie as tie
+use Rattle.planner.proofs.graph.mark_similar.Reads as reads
+use Rattle.planner.proofs.graph.mark_similar.Lts as lts
+use Rattle.image.proofs.read2.Reads as read2-reads
+use Rattle.planner.proofs.graph.are_similar.Reads as are-similar-reads
+use Rattle.planner.proofs.graph.mark_both.Reads as mark-both-reads
+use Rattle.planner.proofs.graph.mark_selves.Reads as mark-selves-reads
+
+abbrev Inv-loop : tie.InvT-loop
+Inv-loop image h near sizes alike₀ n m a b edges k₀ alike k =
+    (k ≤ m) × Table alike (marked (handsetCount image) (edgeRecords image) (similar (network image)) k)
+
+abbrev μ-loop : tie.MeasureT-loop
+μ-loop image h near sizes alike₀ n m a b edges k₀ alike k = m - k
+
+-- src/graph.rt:154:13
+cast-n : tie.Need-cast-n Inv-loop μ-loop
+cast-n c = search needs
+
+-- src/graph.rt:155:13
+cast-m : tie.Need-cast-m Inv-loop μ-loop
+cast-m c = search needs
+
+-- src/graph.rt:156:13
+cast-a : tie.Need-cast-a Inv-loop μ-loop
+cast-a c = search needs
+
+-- src/graph.rt:157:17
+mul-b : tie.Need-mul-b Inv-loop μ-loop
+mul-b c = search needs
+
+-- src/graph.rt:157:13
+add-b : tie.Need-add-b Inv-loop μ-loop
+add-b c = search needs
+
+-- src/graph.rt:158:17
+sub-edges : tie.Need-sub-edges Inv-loop μ-loop
+sub-edges c = search needs
+
+-- src/graph.rt:158:17
+part-edges-start : tie.Need-part-edges-start Inv-loop μ-loop
+part-edges-start c = search needs
+
+-- src/graph.rt:158:17
+part-edges-end : tie.Need-part-edges-end Inv-loop μ-loop
+part-edges-end c = let r = header-is (c .before .before .before .before .before .before .before .args .image .now) (c .before .before .before .before .before .before .before .args .h) (c .before .before .before .before .before .before .before .pre .0 .0) (c .before .before .before .before .before .before .before .pre .0 .1) in omega (arith, r .length-of, r .fits .edges-to)
+
+-- src/graph.rt:159:5
+mark-selves-requires : tie.Need-mark-selves-requires Inv-loop μ-loop
+mark-selves-requires c κs = let r = header-is (c .before .before .before .before .before .before .before .before .before .args .image .now) (c .before .before .before .before .before .before .before .before .before .args .h) (c .before .before .before .before .before .before .before .before .before .pre .0 .0) (c .before .before .before .before .before .before .before .before .before .pre .0 .1) in (c .before .before .before .before .before .before .before .before .before .pre .0 .3, r .fits .n-limit)
+
+-- src/graph.rt:161:5
+loop-holds : tie.Need-loop-holds Inv-loop μ-loop
+loop-holds c =
+    let a = c .before .before .before .before .before .before .before .before .before .before .before .before .args in
+    let r = header-is (c .before .before .before .before .before .before .before .before .before .before .before .before .args .image .now) (c .before .before .before .before .before .before .before .before .before .before .before .before .args .h) (c .before .before .before .before .before .before .before .before .before .before .before .before .pre .0 .0) (c .before .before .before .before .before .before .before .before .before .before .before .before .pre .0 .1) in
+    (
+      omega arith,
+      marked-none (handsetCount (a .image .now)) (edgeRecords (a .image .now)) (similar (network (a .image .now)))
+      (subst (λ (n : ℕ). Table (c .before .before .mark-selves .last .0) (λ u v. ltb u n && eqb u v)) (r .n-is) (c .before .before .mark-selves .ensures)),
+    )
+
+-- src/graph.rt:162:37
+mul-read2 : tie.Need-mul-read2 Inv-loop μ-loop
+mul-read2 c = let r = header-is (c .before .before .before .before .before .before .before .before .before .before .before .before .before .before .args .image .now) (c .before .before .before .before .before .before .before .before .before .before .before .before .before .before .args .h) (c .before .before .before .before .before .before .before .before .before .before .before .before .before .before .pre .0 .0) (c .before .before .before .before .before .before .before .before .before .before .before .before .before .before .pre .0 .1) in omega (arith, r .fits .m-limit)
+
+-- src/graph.rt:162:17
+read2-requires : tie.Need-read2-requires Inv-loop μ-loop
+read2-requires c κs = tt
+
+-- src/graph.rt:162:17
+cast-u : tie.Need-cast-u Inv-loop μ-loop
+cast-u c = search needs
+
+-- src/graph.rt:163:37
+mul-read2-2 : tie.Need-mul-read2-2 Inv-loop μ-loop
+mul-read2-2 c = let r = header-is (c .before .before .before .before .before .before .before .before .before .before .before .before .before .before .before .args .image .now) (c .before .before .before .before .before .before .before .before .before .before .before .before .before .before .before .args .h) (c .before .before .before .before .before .before .before .before .before .before .before .before .before .before .before .pre .0 .0) (c .before .before .before .before .before .before .before .before .before .before .before .before .before .before .before .pre .0 .1) in omega (arith, r .fits .m-limit)
+
+-- src/graph.rt:163:37
+add-read2 : tie.Need-add-read2 Inv-loop μ-loop
+add-read2 c = let r = header-is (c .before .before .before .before .before .before .before .before .before .before .before .before .before .before .before .args .image .now) (c .before .before .before .before .before .before .before .before .before .before .before .before .before .before .before .args .h) (c .before .before .before .before .before .before .before .before .before .before .before .before .before .before .before .pre .0 .0) (c .before .before .before .before .before .before .before .before .before .before .before .before .before .before .before .pre .0 .1) in omega (arith, r .fits .m-limit)
+
+-- src/graph.rt:163:17
+read2-requires-2 : tie.Need-read2-requires-2 Inv-loop μ-loop
+read2-requires-2 c κs = tt
+
+-- src/graph.rt:163:17
+cast-v : tie.Need-cast-v Inv-loop μ-loop
+cast-v c = search needs
+
+-- src/graph.rt:164:12
+-- what was read are the ends of the edge
+first-end : (c : tie.After-read22 Inv-loop μ-loop) → c .before .read2 .result ≡ endA (edgeRecords (c .before .before .before .before .before .before .before .before .before .before .before .before .before .before .before .before .args .image .now)) (c .before .before .before .loop .k)
+first-end c = let s = c .before .before .before .before .before .before .before .before .before .before .before .before .before .before .before .before in end-a (s .args .image .now) (s .args .h) (s .pre .0 .1) (c .before .read2 .result) (c .before .before .before .loop .k) (c .before .read2 .ensures)
+
+second-end : (c : tie.After-read22 Inv-loop μ-loop) → c .read22 .result ≡ endB (edgeRecords (c .before .before .before .before .before .before .before .before .before .before .before .before .before .before .before .before .args .image .now)) (c .before .before .before .loop .k)
+second-end c = let s = c .before .before .before .before .before .before .before .before .before .before .before .before .before .before .before .before in end-b (s .args .image .now) (s .args .h) (s .pre .0 .1) (c .read22 .result) (c .before .before .before .loop .k) (c .read22 .ensures)
+
+edge-below : (c : tie.After-read22 Inv-loop μ-loop) → c .before .before .before .loop .k < edgeCount (c .before .before .before .before .before .before .before .before .before .before .before .before .before .before .before .before .args .image .now)
+edge-below c = let r = header-is (c .before .before .before .before .before .before .before .before .before .before .before .before .before .before .before .before .args .image .now) (c .before .before .before .before .before .before .before .before .before .before .before .before .before .before .before .before .args .h) (c .before .before .before .before .before .before .before .before .before .before .before .before .before .before .before .before .pre .0 .0) (c .before .before .before .before .before .before .before .before .before .before .before .before .before .before .before .before .pre .0 .1) in omega (arith, r .m-is, c .before .before .loop-test .taken)
+
+ends : (c : tie.After-read22 Inv-loop μ-loop) → (let u = c .before .read2 .result in let v = c .read22 .result in let n = handsetCount (c .before .before .before .before .before .before .before .before .before .before .before .before .before .before .before .before .args .image .now) in (u < n) × (v < n) × (u < 512) × (v < 512))
+ends c = let s = c .before .before .before .before .before .before .before .before .before .before .before .before .before .before .before .before in ends-read (s .args .image .now) (s .pre .0 .0) (c .before .before .before .loop .k) (c .before .read2 .result) (c .read22 .result) (edge-below c) (first-end c) (second-end c)
+
+small : (c : tie.After-read22 Inv-loop μ-loop) → handsetCount (c .before .before .before .before .before .before .before .before .before .before .before .before .before .before .before .before .args .image .now) ≤ 512
+small c = let r = header-is (c .before .before .before .before .before .before .before .before .before .before .before .before .before .before .before .before .args .image .now) (c .before .before .before .before .before .before .before .before .before .before .before .before .before .before .before .before .args .h) (c .before .before .before .before .before .before .before .before .before .before .before .before .before .before .before .before .pre .0 .0) (c .before .before .before .before .before .before .before .before .before .before .before .before .before .before .before .before .pre .0 .1) in omega (arith, r .n-is, r .fits .n-limit)
+
+-- the sizes of the neighbourhoods
+first-size : (c : tie.After-read22 Inv-loop μ-loop) → getD (c .before .before .before .before .before .before .before .before .before .before .before .before .before .before .before .before .args .sizes .now) (c .before .read2 .result) 0 ≡ neighbourhoodSize (network (c .before .before .before .before .before .before .before .before .before .before .before .before .before .before .before .before .args .image .now)) (c .before .read2 .result)
+first-size c = let r = header-is (c .before .before .before .before .before .before .before .before .before .before .before .before .before .before .before .before .args .image .now) (c .before .before .before .before .before .before .before .before .before .before .before .before .before .before .before .before .args .h) (c .before .before .before .before .before .before .before .before .before .before .before .before .before .before .before .before .pre .0 .0) (c .before .before .before .before .before .before .before .before .before .before .before .before .before .before .before .before .pre .0 .1) in c .before .before .before .before .before .before .before .before .before .before .before .before .before .before .before .before .pre .1 .1 (c .before .read2 .result) (omega (arith, r .n-is, ends c .0))
+
+second-size : (c : tie.After-read22 Inv-loop μ-loop) → getD (c .before .before .before .before .before .before .before .before .before .before .before .before .before .before .before .before .args .sizes .now) (c .read22 .result) 0 ≡ neighbourhoodSize (network (c .before .before .before .before .before .before .before .before .before .before .before .before .before .before .before .before .args .image .now)) (c .read22 .result)
+second-size c = let r = header-is (c .before .before .before .before .before .before .before .before .before .before .before .before .before .before .before .before .args .image .now) (c .before .before .before .before .before .before .before .before .before .before .before .before .before .before .before .before .args .h) (c .before .before .before .before .before .before .before .before .before .before .before .before .before .before .before .before .pre .0 .0) (c .before .before .before .before .before .before .before .before .before .before .before .before .before .before .before .before .pre .0 .1) in c .before .before .before .before .before .before .before .before .before .before .before .before .before .before .before .before .pre .1 .1 (c .read22 .result) (omega (arith, r .n-is, ends c .1))
+
+are-similar-requires : tie.Need-are-similar-requires Inv-loop μ-loop
+are-similar-requires c κs =
+    let s = c .before .before .before .before .before .before .before .before .before .before .before .before .before .before .before .before in
+    let e = ends c in
+    let r = header-is (c .before .before .before .before .before .before .before .before .before .before .before .before .before .before .before .before .args .image .now) (c .before .before .before .before .before .before .before .before .before .before .before .before .before .before .before .before .args .h) (c .before .before .before .before .before .before .before .before .before .before .before .before .before .before .before .before .pre .0 .0) (c .before .before .before .before .before .before .before .before .before .before .before .before .before .before .before .before .pre .0 .1) in
+    let g = network (s .args .image .now) in
+    (
+      (e .2, e .3, s .pre .0 .2 .size, s .pre .1 .0, omega (arith, r .fits .p-q, r .fits .q-limit), r .fits .q-limit),
+      (
+        omega (arith, first-size c, size-le g (small c) (c .before .read2 .result)),
+        omega (arith, second-size c, size-le g (small c) (c .read22 .result)),
+      ),
+    )
+
+-- src/graph.rt:165:13
+mark-both-requires : tie.Need-mark-both-requires Inv-loop μ-loop
+mark-both-requires c κs = let e = ends (c .before .before .before) in (e .2, e .3)
+
+-- src/graph.rt:167:9
+add-k : tie.Need-add-k Inv-loop μ-loop
+add-k c = let r = header-is (c .before .before .before .before .before .before .before .before .before .before .before .before .before .before .before .before .before .before .args .image .now) (c .before .before .before .before .before .before .before .before .before .before .before .before .before .before .before .before .before .before .args .h) (c .before .before .before .before .before .before .before .before .before .before .before .before .before .before .before .before .before .before .pre .0 .0) (c .before .before .before .before .before .before .before .before .before .before .before .before .before .before .before .before .before .before .pre .0 .1) in omega (arith, r .fits .m-limit)
+
+-- src/graph.rt:161:5
+loop-less : tie.Need-loop-less Inv-loop μ-loop
+loop-less c = omega arith
+
+-- src/graph.rt:161:5
+loop-again : tie.Need-loop-again Inv-loop μ-loop
+loop-again c =
+    let r = c .before .before in
+    let l = c .before .before .before .before .before .loop in
+    let s = c .before .before .before .before .before .before .before .before .before .before .before .before .before .before .before .before .before .before in
+    let g = s .args .image .now in
+    let h = header-is (c .before .before .before .before .before .before .before .before .before .before .before .before .before .before .before .before .before .before .args .image .now) (c .before .before .before .before .before .before .before .before .before .before .before .before .before .before .before .before .before .before .args .h) (c .before .before .before .before .before .before .before .before .before .before .before .before .before .before .before .before .before .before .pre .0 .0) (c .before .before .before .before .before .before .before .before .before .before .before .before .before .before .before .before .before .before .pre .0 .1) in
+    let u = r .before .read2 .result in
+    let v = r .read22 .result in
+    let test = c .before .are-similar .ensures
+      ∙ similar-test (network g) (small r) u v _ _ (s .args .h .p) (s .args .h .q) (s .pre .0 .2) (ends r .0) (ends r .1) (first-size r) (second-size r) (h .p-is) (h .q-is) in
+    (
+      omega arith,
+      ⊎-elim
+      (λ w.
+        edge-yes g (s .pre .0 .0) (similar (network g)) (l .k) u v (edge-below r) (first-end r) (second-end r) (l .alike) (c .if1 .alike)
+        (subst (λ (x : Bool). T x) (sym (w .0 .taken) ∙ test) tt) (w .5 ∙ w .2 .ensures) (l .inv .1))
+      (λ w.
+        edge-no g (s .pre .0 .0) (similar (network g)) (l .k) u v (edge-below r) (first-end r) (second-end r) (l .alike) (c .if1 .alike)
+        (subst (λ (x : Bool). T (not x)) (sym (w .0 .left) ∙ test) tt) (w .1) (l .inv .1))
+      (c .if1 .came),
+    )
+
+-- src/graph.rt:149:1
+same-length : tie.Need-same-length Inv-loop μ-loop
+same-length c = c .before .loop .inv .1 .size ∙ sym (ap length (c .before .before .before .before .before .before .before .before .before .before .before .before .before .before .pre .0 .3) ∙ selves-none .size)
+
+-- src/graph.rt:149:1
+returns : tie.Need-returns Inv-loop μ-loop
+returns c =
+    let l = c .before .loop in
+    let s = c .before .before .before .before .before .before .before .before .before .before .before .before .before .before in
+    let g = s .args .image .now in
+    let e : l .k ≡ edgeCount g = let r = header-is (c .before .before .before .before .before .before .before .before .before .before .before .before .before .before .args .image .now) (c .before .before .before .before .before .before .before .before .before .before .before .before .before .before .args .h) (c .before .before .before .before .before .before .before .before .before .before .before .before .before .before .pre .0 .0) (c .before .before .before .before .before .before .before .before .before .before .before .before .before .before .pre .0 .1) in omega (arith, r .m-is, c .loop-test .left) in
+    similar-table g (s .pre .0 .0) (subst (λ (k : ℕ). Table (l .alike) (marked (handsetCount g) (edgeRecords g) (similar (network g)) k)) e (l .inv .1))
+
+pub mark-similar-spec : {M : Type 1} → statement M
+mark-similar-spec =
+    tie.close
+    (tie.spec
+    Inv-loop
+    μ-loop
+    cast-n
+    cast-m
+    cast-a
+    mul-b
+    add-b
+    sub-edges
+    part-edges-start
+    part-edges-end
+    mark-selves-requires
+    loop-holds
+    mul-read2
+    read2-requires
+    cast-u
+    mul-read2-2
+    add-read2
+    read2-requires-2
+    cast-v
+    are-similar-requires
+    mark-both-requires
+    add-k
+    loop-less
+    loop-again
+    same-length
+    returns)

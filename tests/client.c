@@ -1,0 +1,218 @@
+/* A client in C, as firmware would call the planner: site S of the specification with mu 4, built
+ * byte by byte, through every function of divanegret.h. Prints a line for each check; the exit
+ * status is 1 if one failed. */
+#include "../include/divanegret.h"
+
+#include <stdio.h>
+#include <string.h>
+
+#define HANDSETS 7
+#define TIES 8
+#define HANDSETS_AT 32
+#define TIES_AT (HANDSETS_AT + 8 * HANDSETS)
+#define LENGTH (TIES_AT + 4 * TIES)
+
+static const char report_of_s[] = "handsets 7 ties 8 groups 2 memberships 8\n"
+                                  "group 0 density 2/6 conductance 1/9: 0 1 2 3\n"
+                                  "group 1 density 2/6 conductance 1/9: 3 4 5 6\n"
+                                  "cores: 2 4\n"
+                                  "outliers:\n";
+#define REPORT_LENGTH (sizeof report_of_s - 1)
+
+static int failures = 0;
+
+static void check(const char *what, int holds)
+{
+    printf("%s: %s\n", holds ? "ok" : "FAILED", what);
+    failures += !holds;
+}
+
+/* Whether all bytes still have the value they were filled with. */
+static int untouched(const void *bytes, size_t length, unsigned char fill)
+{
+    const unsigned char *byte = bytes;
+    size_t i;
+    for (i = 0; i < length; i++) {
+        if (byte[i] != fill) {
+            return 0;
+        }
+    }
+    return 1;
+}
+
+/* Writes a little-endian number. */
+static void put(uint8_t *at, int width, uint64_t value)
+{
+    int i;
+    for (i = 0; i < width; i++) {
+        at[i] = (uint8_t)(value >> (8 * i));
+    }
+}
+
+/* Seven handsets at one place, gamma 0, epsilon 1/2, mu 4. */
+static void build_site(uint8_t image[LENGTH])
+{
+    static const uint16_t ties[TIES][2] = {{0, 1}, {0, 2}, {1, 2}, {2, 3},
+                                           {3, 4}, {4, 5}, {4, 6}, {5, 6}};
+    int i;
+    memset(image, 0, LENGTH);
+    put(image + 0, 2, HANDSETS);
+    put(image + 2, 2, TIES);
+    put(image + 4, 4, HANDSETS_AT);
+    put(image + 8, 4, TIES_AT);
+    put(image + 12, 4, LENGTH);
+    put(image + 16, 8, 0);
+    put(image + 24, 2, 1);
+    put(image + 26, 2, 2);
+    put(image + 28, 2, 4);
+    for (i = 0; i < TIES; i++) {
+        put(image + TIES_AT + 4 * i, 2, ties[i][0]);
+        put(image + TIES_AT + 4 * i + 2, 2, ties[i][1]);
+    }
+}
+
+static void check_open(const uint8_t *image)
+{
+    int64_t opened = dvg_open(image, LENGTH);
+    check("open accepts site S", opened >= 0);
+    check("open counts handsets and ties",
+          DVG_HANDSETS(opened) == HANDSETS && DVG_TIES(opened) == TIES);
+}
+
+static void check_report(const uint8_t *image)
+{
+    uint8_t text[256];
+    int64_t length;
+    memset(text, 0xa5, sizeof text);
+    length = dvg_report(image, LENGTH, text, sizeof text);
+    check("report answers the text's length", length == (int64_t)REPORT_LENGTH);
+    check("report writes the text", memcmp(text, report_of_s, REPORT_LENGTH) == 0);
+    check("report keeps what is past the text",
+          untouched(text + REPORT_LENGTH, sizeof text - REPORT_LENGTH, 0xa5));
+    memset(text, 0xa5, sizeof text);
+    length = dvg_report(image, LENGTH, text, REPORT_LENGTH);
+    check("report fits a buffer of just its length",
+          length == (int64_t)REPORT_LENGTH && memcmp(text, report_of_s, REPORT_LENGTH) == 0);
+    memset(text, 0xa5, sizeof text);
+    length = dvg_report(image, LENGTH, text, REPORT_LENGTH - 1);
+    check("report refuses a buffer one byte short", length == -16);
+    check("report leaves a short buffer as it was", untouched(text, sizeof text, 0xa5));
+}
+
+static void check_refused(const uint8_t *image)
+{
+    uint8_t bad[LENGTH];
+    uint8_t text[256];
+    uint32_t starts[DVG_STARTS];
+    uint16_t members[DVG_MEMBERS];
+    int64_t refused;
+    memcpy(bad, image, LENGTH);
+    put(bad + TIES_AT + 4 * 5, 2, 1); /* tie 5 is now 1-0, as tie 0 the other way round */
+    put(bad + TIES_AT + 4 * 5 + 2, 2, 0);
+    refused = dvg_open(bad, LENGTH);
+    check("open refuses a repeated tie", DVG_NUMBER(refused) == 10 && DVG_PLACE(refused) == 5);
+    memset(starts, 0xa5, sizeof starts);
+    memset(members, 0xa5, sizeof members);
+    check("plan refuses it too",
+          dvg_plan(bad, LENGTH, starts, DVG_STARTS, members, DVG_MEMBERS) == refused);
+    check("plan leaves both tables as they were",
+          untouched(starts, sizeof starts, 0xa5) && untouched(members, sizeof members, 0xa5));
+    memset(text, 0xa5, sizeof text);
+    check("report answers the number alone", dvg_report(bad, LENGTH, text, sizeof text) == -10);
+    check("report leaves the buffer as it was", untouched(text, sizeof text, 0xa5));
+    check("open refuses a length that is not the image's", dvg_open(image, LENGTH - 1) == -2);
+    check("open refuses less than a header", dvg_open(image, 31) == -1);
+    check("open refuses no bytes at all", dvg_open(image, 0) == -1);
+}
+
+static void check_plan(const uint8_t *image)
+{
+    static const uint32_t expected_starts[3] = {0, 4, 8};
+    static const uint16_t expected_members[8] = {0, 1, 2, 3, 3, 4, 5, 6};
+    uint32_t starts[DVG_STARTS];
+    uint16_t members[DVG_MEMBERS];
+    int64_t plan;
+    memset(starts, 0xa5, sizeof starts);
+    memset(members, 0xa5, sizeof members);
+    check("plan refuses a short start table", dvg_plan(image, LENGTH, starts, 2, members, 8) == -11);
+    check("plan refuses a short member table", dvg_plan(image, LENGTH, starts, 3, members, 7) == -12);
+    check("plan leaves short tables as they were",
+          untouched(starts, sizeof starts, 0xa5) && untouched(members, sizeof members, 0xa5));
+    plan = dvg_plan(image, LENGTH, starts, DVG_STARTS, members, DVG_MEMBERS);
+    check("plan counts groups and memberships",
+          plan >= 0 && DVG_GROUPS(plan) == 2 && DVG_MEMBERSHIPS(plan) == 8);
+    check("plan writes the start table",
+          memcmp(starts, expected_starts, sizeof expected_starts) == 0);
+    check("plan writes the member table",
+          memcmp(members, expected_members, sizeof expected_members) == 0);
+    check("plan keeps what is past both",
+          untouched(starts + 3, sizeof starts - sizeof expected_starts, 0xa5) &&
+              untouched(members + 8, sizeof members - sizeof expected_members, 0xa5));
+    check("members of group 0", dvg_members(starts, 3, members, 8, 0) == 4);
+    check("members of group 1", dvg_members(starts, 3, members, 8, 1) == 4);
+    check("no members of group 2", dvg_members(starts, 3, members, 8, 2) == -14);
+    check("no members of the last number", dvg_members(starts, 3, members, 8, UINT64_MAX) == -14);
+    check("no members past the table", dvg_members(starts, 3, members, 7, 1) == -14);
+}
+
+static int has_role(int64_t answer, int32_t kind, int32_t value, int32_t near)
+{
+    return answer >= 0 && DVG_KIND(answer) == kind && DVG_VALUE(answer) == value &&
+           DVG_NEAR(answer) == near;
+}
+
+static void check_roles(const uint8_t *image)
+{
+    uint8_t other[LENGTH];
+    check("handset 0 is a border in one group",
+          has_role(dvg_role(image, LENGTH, 0), DVG_BORDER, 1, 3));
+    check("handset 2 is a core of group 0", has_role(dvg_role(image, LENGTH, 2), DVG_CORE, 0, 4));
+    check("handset 3 is a border in two groups",
+          has_role(dvg_role(image, LENGTH, 3), DVG_BORDER, 2, 3));
+    check("handset 4 is a core of group 1", has_role(dvg_role(image, LENGTH, 4), DVG_CORE, 1, 4));
+    check("handset 7 is not there", dvg_role(image, LENGTH, 7) == -13);
+    check("nor is the last number", dvg_role(image, LENGTH, UINT64_MAX) == -13);
+    memcpy(other, image, LENGTH);
+    put(other + 24, 2, 3); /* epsilon 3/5, mu 3 */
+    put(other + 26, 2, 5);
+    put(other + 28, 2, 3);
+    check("with epsilon 3/5 handset 3 is an outlier",
+          has_role(dvg_role(other, LENGTH, 3), DVG_OUTLIER, 0, 3));
+}
+
+static void check_scores(const uint8_t *image)
+{
+    static const uint16_t group[4] = {0, 1, 2, 3};
+    static const uint16_t bad[3] = {6, 0, 7};
+    uint16_t same[513];
+    int64_t scores = dvg_scores(image, LENGTH, group, 4);
+    check("scores of group 0",
+          DVG_PAIRS(scores) == 6 && DVG_TIED_PAIRS(scores) == 4 && DVG_LEAVING(scores) == 1);
+    check("scores of an empty list", dvg_scores(image, LENGTH, group, 0) == 0);
+    scores = dvg_scores(image, LENGTH, bad, 3);
+    check("scores refuse a handset that is not there",
+          DVG_NUMBER(scores) == 13 && DVG_PLACE(scores) == 2);
+    memset(same, 0, sizeof same);
+    scores = dvg_scores(image, LENGTH, same, 512);
+    check("scores of handset 0 named 512 times", DVG_PAIRS(scores) == 130816 &&
+                                                     DVG_TIED_PAIRS(scores) == 0 &&
+                                                     DVG_LEAVING(scores) == 2);
+    scores = dvg_scores(image, LENGTH, same, 513);
+    check("scores refuse a list of 513", DVG_NUMBER(scores) == 13 && DVG_PLACE(scores) == 512);
+}
+
+int main(void)
+{
+    uint8_t image[LENGTH];
+    uint8_t before[LENGTH];
+    build_site(image);
+    memcpy(before, image, LENGTH);
+    check_open(image);
+    check_report(image);
+    check_refused(image);
+    check_plan(image);
+    check_roles(image);
+    check_scores(image);
+    check("the image is as it was", memcmp(image, before, LENGTH) == 0);
+    return failures != 0;
+}
