@@ -1,9 +1,108 @@
-// The planner for firmware written in C: each call of the library as one number. include/divanegret.h is its documentation.
+// The planner for firmware written in C: each call of the library as one number. include/divanegret.h documents it.
 //
-// A refusal is negative: for the report the number alone, for the others number + 256 * place. The encodings are the definitions of specs/Codes.
+// Each call is that of the library, and a function that makes a number of its answer by the definitions of specs/Codes.
 ghost use mathlib.Core.Path.{_≡_};
-ghost use Prim.Native.Nat.{_≤_, _<_};
+ghost use Prim.Native.Nat.{_+_, _*_, _≤_, _<_, min};
 ghost use lib.ListN.{length};
-ghost use lib.IntN.{ℤ};
 ghost use Rattle.image.specs.Questions.{openOf};
-ghost use Rattle.divanegret.specs.Codes.{refusalCode, openCode, planCode, roleCode, tallyCode, partCode, reportCode};
+ghost use Rattle.planner.specs.Plan.{planOf, startsAfter, membersAfter, knownOf};
+ghost use Rattle.lookup.specs.Lookup.{membersOf, lookedOf};
+ghost use Rattle.divanegret.specs.Codes.{refusalCode, openCode, planCode, kindCode, roleCode, partCode};
+
+use community::Role;
+use image::Opened;
+use image::Refusal;
+use lookup::Looked;
+use planner::Known;
+use planner::Planned;
+
+// The smaller of two numbers.
+fn at_most(x: u64, limit: u64) -> u64
+    ensures { λ r. ⌜ r ≡ min x limit ⌝ }
+{
+    if x < limit { x } else { limit }
+}
+
+// A refusal's number and place, made negative.
+fn refusal_code(r: Refusal) -> i64
+    ensures { λ z. ⌜ z ≡ refusalCode r ⌝ }
+{
+    let code = at_most(r.number as u64, 255) + 256 * at_most(r.place as u64, 4294967295);
+    -(code as i64)
+}
+
+fn open_code(o: Opened) -> i64
+    ensures { λ z. ⌜ z ≡ openCode o ⌝ }
+{
+    match o {
+        Opened::Site(h) => (h.n as u64 + 65536 * (h.m as u64)) as i64,
+        Opened::Refused(r) => refusal_code(r),
+    }
+}
+
+fn plan_code(p: Planned) -> i64
+    ensures { λ z. ⌜ z ≡ planCode p ⌝ }
+{
+    match p {
+        Planned::Made(g, k) => (at_most(g as u64, 65535) + 65536 * at_most(k as u64, 65535)) as i64,
+        Planned::Refused(r) => refusal_code(r),
+    }
+}
+
+fn kind_code(role: Role) -> u64
+    ensures { λ n. ⌜ (n ≡ kindCode role) × (n < 4294967296) ⌝ }
+{
+    match role {
+        Role::Core(k) => 65536 * at_most(k as u64, 65535),
+        Role::Border(k) => 1 + 65536 * at_most(k as u64, 65535),
+        Role::Outlier => 2,
+    }
+}
+
+fn role_code(known: Known) -> i64
+    ensures { λ z. ⌜ z ≡ roleCode known ⌝ }
+{
+    match known {
+        Known::Handset(x) => {
+            let role = x.role;
+            (kind_code(role) + 4294967296 * at_most(x.neighbours as u64, 65535)) as i64
+        }
+        Known::Refused(r) => refusal_code(r),
+    }
+}
+
+// Questions 1 to 10.
+#[no_mangle]
+pub extern "C" fn dvg_open(image: &[u8]) -> i64
+    ensures { λ z. ⌜ z ≡ openCode (openOf (now (image .entry))) ⌝ }
+{
+    open_code(image::open(image))
+}
+
+// The plan in both tables.
+#[no_mangle]
+pub extern "C" fn dvg_plan(image: &[u8], starts: &mut [u32], members: &mut [u16]) -> i64
+    ensures { λ z. ⌜ (z ≡ planCode (planOf (now (image .entry)) (length (now (starts .entry))) (length (now (members .entry))))) × (now (starts .exit) ≡ startsAfter (now (image .entry)) (now (starts .entry)) (length (now (members .entry)))) × (now (members .exit) ≡ membersAfter (now (image .entry)) (length (now (starts .entry))) (now (members .entry))) ⌝ }
+{
+    plan_code(planner::plan(image, starts, members))
+}
+
+// The role of a handset.
+#[no_mangle]
+pub extern "C" fn dvg_role(image: &[u8], handset: usize) -> i64
+    ensures { λ z. ⌜ z ≡ roleCode (knownOf (now (image .entry)) handset) ⌝ }
+{
+    role_code(planner::role(image, handset))
+}
+
+// The count of members of group k.
+#[no_mangle]
+pub extern "C" fn dvg_members<'a>(starts: &'a [u32], members: &'a [u16], k: usize) -> i64
+    ensures { λ z. ⌜ z ≡ partCode (lookedOf (now (starts .entry)) (now (members .entry)) k) (length (membersOf (now (starts .entry)) (now (members .entry)) k)) ⌝ }
+{
+    let looked = lookup::find_group(starts, members, k);
+    match looked {
+        Looked::Found => lookup::members(starts, members, k).len() as i64,
+        Looked::Refused(r) => refusal_code(r),
+    }
+}

@@ -9,7 +9,7 @@ use std::process::{Command, Stdio};
 
 use crate::calls::{Counts, Opened, Planner, Refusal, Role};
 use crate::reference::{self, Findings};
-use crate::sites::{self, Rng};
+use crate::sites::{self, Rng, MOST_HANDSETS};
 
 /// Agreement, or what differs.
 pub type Outcome = Result<(), String>;
@@ -93,12 +93,22 @@ impl LentImage {
 
 // ---------------------------------------------------------------- one image
 
-/// Every call on one image, accepted or not.
+/// Every call on one image, accepted or not, with the role of every handset.
 pub fn image(planner: &dyn Planner, image: &[u8], rng: &mut Rng) -> Outcome {
+    every_call(planner, image, MOST_HANDSETS, rng)
+}
+
+/// The same with the roles of some handsets only where there are many: for images much like another
+/// one that was compared in full.
+pub fn similar_image(planner: &dyn Planner, image: &[u8], rng: &mut Rng) -> Outcome {
+    every_call(planner, image, 24, rng)
+}
+
+fn every_call(planner: &dyn Planner, image: &[u8], roles: usize, rng: &mut Rng) -> Outcome {
     let lent = LentImage::new(image, rng);
     match reference::open(image) {
         Err(refusal) => refused(planner, lent.part(), refusal, rng)?,
-        Ok(site) => accepted(planner, lent.part(), &Findings::of(site), rng)?,
+        Ok(site) => accepted(planner, lent.part(), &Findings::of(site), roles, rng)?,
     }
     holds("the image was changed", lent.part() == image)
 }
@@ -121,14 +131,20 @@ fn refused(planner: &dyn Planner, image: &[u8], refusal: Refusal, rng: &mut Rng)
 }
 
 /// Every call on an accepted image.
-fn accepted(planner: &dyn Planner, image: &[u8], found: &Findings, rng: &mut Rng) -> Outcome {
+fn accepted(
+    planner: &dyn Planner,
+    image: &[u8],
+    found: &Findings,
+    most_roles: usize,
+    rng: &mut Rng,
+) -> Outcome {
     let opened = Opened {
         handsets: found.site().positions.len() as u64,
         ties: found.site().ties.len() as u64,
     };
     same("open", planner.open(image), Ok(opened))?;
     plans(planner, image, found, rng)?;
-    roles(planner, image, found, rng)?;
+    roles(planner, image, found, most_roles, rng)?;
     scores(planner, image, found, rng)?;
     let (starts, members) = (found.start_table(), found.member_table());
     (0..starts.len() as u64 + 2).try_for_each(|k| lookup(planner, &starts, &members, k))?;
@@ -169,12 +185,21 @@ fn plans(planner: &dyn Planner, image: &[u8], found: &Findings, rng: &mut Rng) -
     Ok(())
 }
 
-/// The role of every handset, and of numbers that are none.
-fn roles(planner: &dyn Planner, image: &[u8], found: &Findings, rng: &mut Rng) -> Outcome {
+/// The roles of handsets, every one where they are no more than `most`, and of numbers that are none.
+fn roles(
+    planner: &dyn Planner,
+    image: &[u8],
+    found: &Findings,
+    most: usize,
+    rng: &mut Rng,
+) -> Outcome {
     let n = found.site().positions.len() as u64;
+    let mut handsets: Vec<u64> = (0..n).collect();
+    rng.shuffle(&mut handsets);
+    handsets.truncate(most);
     let any = rng.below(513) as u64;
-    let beyond = [n, n + 1, 512, 65_536 + any, (1 << 32) + any, 1 << 63, u64::MAX];
-    for handset in (0..n).chain(beyond) {
+    handsets.extend([n, n + 1, 512, 65_536 + any, (1 << 32) + any, 1 << 63, u64::MAX]);
+    for handset in handsets {
         let what = format_args!("role of {handset}");
         same(what, planner.role(image, handset), found.record(handset))?;
     }
@@ -275,7 +300,7 @@ pub fn renumbering(planner: &dyn Planner, first: &[u8], rng: &mut Rng) -> Outcom
         let what = format_args!("role of {handset} after a renumbering");
         same(what, role(&second, to.into()), role(first, handset as u64))?;
     }
-    image(planner, &second, rng)
+    similar_image(planner, &second, rng)
 }
 
 fn without_number(role: Role) -> Role {

@@ -172,12 +172,13 @@ impl<'a> Run<'a> {
         self.site(case, &site, &mut rng)?;
         let image = site.image(Layout::any(&mut rng), &mut rng);
         for _ in 0..DAMAGED {
-            self.check(case, compare::image, &damage::several(&image, &mut rng), &mut rng)?;
+            let damaged = damage::several(&image, &mut rng);
+            self.check(case, compare::similar_image, &damaged, &mut rng)?;
         }
         for edit in damage::edits(&image, &mut rng) {
             if seed.is_multiple_of(EVERY_EDIT) || rng.one_in(40) {
                 let damaged = damage::apply(&image, &[edit]);
-                self.check(case, compare::image, &damaged, &mut rng)?;
+                self.check(case, compare::similar_image, &damaged, &mut rng)?;
             }
         }
         if seed.is_multiple_of(EVERY_PROGRAM) {

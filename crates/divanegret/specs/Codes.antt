@@ -1,0 +1,51 @@
+-- The answers of the calls as the numbers that C gets: 0 or more for success, less than 0 for a refusal. include/divanegret.h says the same to a C reader.
+--
+-- Where a number might be larger than its share of the code, it is cut off at the end of that share. No call's answer is that large: a place is at most
+-- 4,096, a count of groups or a near count at most 512, a count of memberships at most 8,704, s and t at most 130,816 and o at most 4,096.
+use Prim.Native.Nat.{ℕ, _+_, _*_, min}
+use mathlib.Core.List.{List}
+use lib.IntN.{ℤ, pos, negℤ}
+use lib.ListN.{length}
+use Rattle.image.specs.declared.Header.{Header}
+use Rattle.image.specs.declared.Refusal.{Refusal}
+use Rattle.image.specs.declared.Opened.{Opened}
+use Rattle.image.specs.declared.Opened.the-variants as O
+use Rattle.community.specs.declared.Role.{Role}
+use Rattle.community.specs.declared.Role.the-variants.{Core, Border, Outlier}
+use Rattle.community.specs.declared.Standing.{Standing}
+use Rattle.planner.specs.declared.Planned.{Planned}
+use Rattle.planner.specs.declared.Planned.the-variants as P
+use Rattle.planner.specs.declared.Known.{Known}
+use Rattle.planner.specs.declared.Known.the-variants as K
+use Rattle.lookup.specs.declared.Looked.{Looked}
+use Rattle.lookup.specs.declared.Looked.the-variants as L
+
+-- a refusal: number + 256 * place, made negative
+abbrev pub refusalCode : Refusal → ℤ
+refusalCode r = negℤ (pos (min (r .number) 255 + 256 * min (r .place) 4294967295))
+
+-- an opened image: n + 65,536 m
+abbrev pub openCode : Opened → ℤ
+openCode (O.Site h) = pos (h .n + 65536 * h .m)
+openCode (O.Refused r) = refusalCode r
+
+-- a plan: groups + 65,536 memberships
+abbrev pub planCode : Planned → ℤ
+planCode (P.Made g k) = pos (min g 65535 + 65536 * min k 65535)
+planCode (P.Refused r) = refusalCode r
+
+-- a role: its kind (0 core, 1 border, 2 outlier) + 65,536 times its community's number or its count of communities
+abbrev pub kindCode : Role → ℕ
+kindCode (Core k) = 0 + 65536 * min k 65535
+kindCode (Border k) = 1 + 65536 * min k 65535
+kindCode Outlier = 2
+
+-- a handset: its role + 2 ^ 32 times its near count
+abbrev pub roleCode : Known → ℤ
+roleCode (K.Handset x) = pos (kindCode (x .role) + 4294967296 * min (x .neighbours) 65535)
+roleCode (K.Refused r) = refusalCode r
+
+-- a group: the count of its members
+abbrev pub partCode : Looked → ℕ → ℤ
+partCode L.Found n = pos n
+partCode (L.Refused r) n = refusalCode r

@@ -1,0 +1,53 @@
+-- The members of group k, looked up in a plan's two tables (paper 01, "Scores, lookup, report" and question 14).
+--
+--     placed starts size k         question 14: k + 1 is a place in the start table, and start k ≤ start k+1 ≤ size, the member table's length
+--     membersOf starts table k     the part of the member table from start k up to start k+1; empty where the question gets a no
+--     lookedOf starts table k      the companion's answer: that there is no refusal, or 14 with place 0
+--     Agree part looked            what a part and the companion's answer on the same tables and k have to do with each other
+--
+-- The laws are in proofs/Agreement.
+use Prim.Native.Nat.{ℕ, _+_, _-_}
+use mathlib.Core.Path.{_≡_}
+use mathlib.Core.Bool.{Bool, true, false, _&&_, cond}
+use mathlib.Core.List.{List, []}
+use lib.Dec.{T, leb, ltb}
+use lib.ListN.{length, getD, take, drop}
+use Rattle.image.specs.declared.Refusal.{Refusal}
+use Rattle.lookup.specs.declared.Span.{Span}
+use Rattle.lookup.specs.declared.Looked.{Looked}
+use Rattle.lookup.specs.declared.Looked.the-variants.{Found, Refused}
+
+abbrev pub startOf : List ℕ → ℕ → ℕ
+startOf starts k = getD starts k 0
+
+unfoldable pub placed : List ℕ → ℕ → ℕ → Bool
+placed starts size k = ltb (k + 1) (length starts) && (leb (startOf starts k) (startOf starts (k + 1)) && leb (startOf starts (k + 1)) size)
+
+-- the part of a table from one place up to another
+abbrev pub between : ℕ → ℕ → List ℕ → List ℕ
+between first past table = take (past - first) (drop first table)
+
+unfoldable pub membersOf : List ℕ → List ℕ → ℕ → List ℕ
+unfolding placed
+membersOf starts table k = cond (placed starts (length table) k) (between (startOf starts k) (startOf starts (k + 1)) table) []
+
+-- the paper's number and place for question 14
+abbrev pub refusal14 : Refusal
+refusal14 = record { number = 14; place = 0 }
+
+unfoldable pub lookedOf : List ℕ → List ℕ → ℕ → Looked
+unfolding placed
+lookedOf starts table k = cond (placed starts (length table) k) Found (Refused refusal14)
+
+-- the question's answer, with the part's two places; both 0 where it is a no
+unfoldable pub spanOf : List ℕ → ℕ → ℕ → Span
+unfolding placed
+spanOf starts size k =
+    cond (placed starts size k)
+    (record { found = true; first = startOf starts k; past = startOf starts (k + 1) })
+    (record { found = false; first = 0; past = 0 })
+
+-- the lookup and its companion agree: a part is given where there is no refusal, 14 is the only refusal, and the part is then empty
+pub record Agree (starts table : List ℕ) (k : ℕ) (part : List ℕ) (looked : Looked) : Type 0 where
+  pub found : looked ≡ Found → T (placed starts (length table) k) × (part ≡ between (startOf starts k) (startOf starts (k + 1)) table)
+  pub refused : (r : Refusal) → looked ≡ Refused r → (T (placed starts (length table) k) → ⊥) × (r ≡ refusal14) × (part ≡ [])

@@ -1,0 +1,80 @@
+// Members of a group: a part of the caller's member table, and the companion that says whether there is one.
+//
+// The definitions are in specs/Lookup. Callers cite proofs/Agreement: the part and the companion's answer agree, and question 14 is answered
+// yes exactly where the companion finds the group.
+ghost use mathlib.Core.Path.{_≡_};
+ghost use Prim.Native.Nat.{_≤_};
+ghost use lib.ListN.{length};
+ghost use Rattle.lookup.specs.Lookup.{spanOf, membersOf, lookedOf};
+use image::Refusal;
+
+// What the companion answers: that group k is there, or the refusal.
+pub enum Looked {
+    Found,
+    Refused(Refusal),
+}
+
+// Where group k stands in the member table.
+struct Span {
+    found: bool,
+    first: usize,
+    past: usize,
+}
+
+fn wide(x: u32) -> usize
+    ensures { λ r. ⌜ r ≡ x ⌝ }
+{
+    x as usize
+}
+
+// Question 14, for a member table of the given size. The largest k is compared before anything is added to it.
+fn find_span(starts: &[u32], size: usize, k: usize) -> Span
+    ensures { λ r. ⌜ (r ≡ spanOf (now (starts .entry)) size k) × ((r .first ≤ r .past) × (r .past ≤ size)) ⌝ }
+{
+    let n = starts.len();
+    if k < n {
+        if k + 1 < n {
+            let a = wide(starts[k]);
+            let b = wide(starts[k + 1]);
+            if a <= b {
+                if b <= size {
+                    return Span {
+                        found: true,
+                        first: a,
+                        past: b,
+                    };
+                }
+            }
+        }
+    }
+    Span {
+        found: false,
+        first: 0,
+        past: 0,
+    }
+}
+
+// The members of group k: that part of the member table itself, not a copy. Empty where 14 applies.
+pub fn members<'a>(starts: &'a [u32], table: &'a [u16], k: usize) -> &'a [u16]
+    ensures { λ r. ⌜ now r ≡ membersOf (now (starts .entry)) (now (table .entry)) k ⌝ }
+{
+    let s = find_span(starts, table.len(), k);
+    let a = s.first;
+    let b = s.past;
+    &table[a..b]
+}
+
+// The companion of `members`, on the same arguments: refusal 14 with place 0, or that there is none.
+pub fn find_group(starts: &[u32], table: &[u16], k: usize) -> Looked
+    ensures { λ r. ⌜ r ≡ lookedOf (now (starts .entry)) (now (table .entry)) k ⌝ }
+{
+    let s = find_span(starts, table.len(), k);
+    if s.found {
+        Looked::Found
+    } else {
+        Looked::Refused(Refusal {
+            number: 14,
+            place: 0,
+        })
+    }
+}
