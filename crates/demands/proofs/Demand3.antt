@@ -51,13 +51,13 @@ module _ (s ss ms : List ℕ) (ok : Accepted s) (room : LongEnough s ss ms) wher
       ap (λ (o : Opened). planFor s o (length ss) (length ms)) (opened s ok)
       ∙ by-room (P.Refused (refusal 11)) (P.Refused (refusal 12)) (P.Made (length (communitiesOf s)) (length (memberTable (communitiesOf s))))
 
-  starts-made : startsAfter s ss (length ms) ≡ over (startTable (communitiesOf s)) ss
+  pub starts-made : startsAfter s ss (length ms) ≡ over (startTable (communitiesOf s)) ss
   unfolding startsAfter
   starts-made =
       ap (λ (o : Opened). tableFor s o (length ss) (length ms) (startTable (communitiesOf s)) ss) (opened s ok)
       ∙ by-room ss ss (over (startTable (communitiesOf s)) ss)
 
-  members-made : membersAfter s (length ss) ms ≡ over (memberTable (communitiesOf s)) ms
+  pub members-made : membersAfter s (length ss) ms ≡ over (memberTable (communitiesOf s)) ms
   unfolding membersAfter
   members-made =
       ap (λ (o : Opened). tableFor s o (length ss) (length ms) (memberTable (communitiesOf s)) ms) (opened s ok)
@@ -127,7 +127,7 @@ planned-law s ss ms a ss′ ms′ ok room call =
      (subst (λ (l : List ℕ). Plan s (startTable gs ++ x) l (length gs) (length (memberTable gs))) (sym q) (the-plan s ok x y)))
 
 -- a call on an accepted image that answered counts had room, and counted the communities
-room-of : (s ss ms ss′ ms′ : List ℕ) (g c : ℕ) → Accepted s → PlanCall s ss ms (P.Made g c) ss′ ms′
+pub room-of : (s ss ms ss′ ms′ : List ℕ) (g c : ℕ) → Accepted s → PlanCall s ss ms (P.Made g c) ss′ ms′
     → LongEnough s ss ms × (length (communitiesOf s) ≡ g) × (length (memberTable (communitiesOf s)) ≡ c)
 unfolding planOf
 room-of s ss ms ss′ ms′ g c ok call =

@@ -34,10 +34,19 @@ fn set(image: &mut [u8], at: usize, width: usize, value: u64) {
     target.zip(value.to_le_bytes()).for_each(|(byte, new)| *byte = new);
 }
 
-/// Two to four edits, so that the order of the questions matters.
+/// Two to five edits, so that the order of the questions matters; often of the records of one table
+/// alone, so that the first of several bad ones matters.
 pub fn several(image: &[u8], rng: &mut Rng) -> Vec<u8> {
-    let all = edits(image, rng);
-    let mut chosen: Vec<Edit> = (0..rng.count(2, 4)).map(|_| rng.pick(&all)).collect();
+    let tables = Tables::of(image);
+    let mut pool = match rng.below(4) {
+        0 => position_edits(&tables, rng),
+        1 => tie_edits(image, &tables, rng),
+        _ => Vec::new(),
+    };
+    if pool.is_empty() {
+        pool = edits(image, rng);
+    }
+    let mut chosen: Vec<Edit> = (0..rng.count(2, 5)).map(|_| rng.pick(&pool)).collect();
     if rng.one_in(2) {
         chosen.push(Edit::FixLength);
     }
@@ -160,10 +169,10 @@ fn record(u: u64, v: u64) -> u64 {
     u + 65_536 * v
 }
 
-/// The first, the last and two random places of a table.
+/// The first, the last and three random places of a table.
 fn places(count: usize, rng: &mut Rng) -> Vec<usize> {
     match count {
         0 => Vec::new(),
-        _ => vec![0, count - 1, rng.below(count), rng.below(count)],
+        _ => vec![0, count - 1, rng.below(count), rng.below(count), rng.below(count)],
     }
 }

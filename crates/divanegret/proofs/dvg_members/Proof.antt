@@ -14,37 +14,25 @@ use Rattle.divanegret.proofs.Signed.{is-pos}
 use borrow.Author.Needs.{needs}
 use Rattle.divanegret.proofs.dvg_members.Statement.{statement}
 use Rattle.divanegret.proofs.dvg_members.Tie as tie
-use Rattle.divanegret.proofs.dvg_members.Reads as reads
-use Rattle.divanegret.proofs.dvg_members.Lts as lts
-use Rattle.divanegret.proofs.refusal_code.Reads as refusal-code-reads
-use Rattle.lookup.proofs.find_group.Reads as find-group-reads
-use Rattle.lookup.proofs.members.Reads as members-reads
 
--- src/lib.rt:103:9
 find-group-requires : tie.Need-find-group-requires
 find-group-requires c κs = search needs
 
--- src/lib.rt:105:26
 enum-told : tie.Need-enum-told
 enum-told c = search needs
 
--- src/lib.rt:105:26
 members-requires : tie.Need-members-requires
 members-requires c κs = search needs
 
--- src/lib.rt:105:26
 cast-result : tie.Need-cast-result
 cast-result c = search needs
 
--- src/lib.rt:106:25
 enum-known-looked : tie.Need-enum-known-looked
 enum-known-looked c = search needs
 
--- src/lib.rt:106:31
 refusal-code-requires : tie.Need-refusal-code-requires
 refusal-code-requires c κs = search needs
 
--- src/lib.rt:99:1
 returns : tie.Need-returns
 returns c =
     let a = c .before .before .before .before .before .before .args in
@@ -53,7 +41,6 @@ returns c =
     ∙ ap (λ (l : List ℕ). pos (length l)) (c .members .ensures)
     ∙ sym (ap (λ (x : Looked). partCode x (length (membersOf (now (a .starts)) (now (a .members)) (a .k)))) looked)
 
--- src/lib.rt:99:1
 returns-2 : tie.Need-returns-2
 returns-2 c =
     let a = c .before .before .before .before .before .before .before .args in

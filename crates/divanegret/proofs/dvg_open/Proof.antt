@@ -8,20 +8,13 @@ use Rattle.divanegret.specs.Codes.{openCode}
 use borrow.Author.Needs.{needs}
 use Rattle.divanegret.proofs.dvg_open.Statement.{statement}
 use Rattle.divanegret.proofs.dvg_open.Tie as tie
-use Rattle.divanegret.proofs.dvg_open.Reads as reads
-use Rattle.divanegret.proofs.dvg_open.Lts as lts
-use Rattle.divanegret.proofs.open_code.Reads as open-code-reads
-use Rattle.image.proofs.open.Reads as open-reads
 
--- src/lib.rt:79:15
 open-requires : tie.Need-open-requires
 open-requires c κs = search needs
 
--- src/lib.rt:79:5
 open-code-requires : tie.Need-open-code-requires
 open-code-requires c κs = search needs
 
--- src/lib.rt:75:1
 returns : tie.Need-returns
 returns c =
     toZ-ofZ (search needs) ∙ c .open-code .ensures ∙ ap openCode (c .before .«open» .ensures)

@@ -8,28 +8,19 @@ use Rattle.divanegret.specs.Codes.{planCode}
 use borrow.Author.Needs.{needs}
 use Rattle.divanegret.proofs.dvg_plan.Statement.{statement}
 use Rattle.divanegret.proofs.dvg_plan.Tie as tie
-use Rattle.divanegret.proofs.dvg_plan.Reads as reads
-use Rattle.divanegret.proofs.dvg_plan.Lts as lts
-use Rattle.divanegret.proofs.plan_code.Reads as plan-code-reads
-use Rattle.planner.proofs.plan.Reads as plan-reads
 
--- src/lib.rt:87:15
 plan-requires : tie.Need-plan-requires
 plan-requires c κs = search needs
 
--- src/lib.rt:87:5
 plan-code-requires : tie.Need-plan-code-requires
 plan-code-requires c κs = search needs
 
--- src/lib.rt:83:1
 same-length : tie.Need-same-length
 same-length c = search needs
 
--- src/lib.rt:83:1
 same-length-2 : tie.Need-same-length-2
 same-length-2 c = search needs
 
--- src/lib.rt:83:1
 returns : tie.Need-returns
 returns c =
     let p = c .before .before .before .before .before .plan .ensures in

@@ -9,57 +9,43 @@ use Rattle.divanegret.specs.Codes.{kindCode}
 use borrow.Author.Needs.{needs}
 use Rattle.divanegret.proofs.kind_code.Statement.{statement}
 use Rattle.divanegret.proofs.kind_code.Tie as tie
-use Rattle.divanegret.proofs.kind_code.Reads as reads
-use Rattle.divanegret.proofs.kind_code.Lts as lts
-use Rattle.divanegret.proofs.at_most.Reads as at-most-reads
 
--- src/lib.rt:56:20
 enum-known-role : tie.Need-enum-known-role
 enum-known-role c = search needs
 
--- src/lib.rt:56:34
 at-most-requires : tie.Need-at-most-requires
 at-most-requires c κs = search needs
 
--- src/lib.rt:56:26
 mul-result : tie.Need-mul-result
 mul-result c = search needs
 
--- src/lib.rt:57:22
 enum-known-role-2 : tie.Need-enum-known-role-2
 enum-known-role-2 c = search needs
 
--- src/lib.rt:57:40
 at-most-requires-2 : tie.Need-at-most-requires-2
 at-most-requires-2 c κs = search needs
 
--- src/lib.rt:57:32
 mul-result-2 : tie.Need-mul-result-2
 mul-result-2 c = search needs
 
--- src/lib.rt:57:28
 add-result : tie.Need-add-result
 add-result c = search needs
 
--- src/lib.rt:58:26
 enum-told : tie.Need-enum-told
 enum-told c = search needs
 
--- src/lib.rt:52:1
 returns : tie.Need-returns
 returns c =
     let e : kindCode (c .before .before .before .before .args .role) ≡ 0 + 65536 * c .at-most .result =
       ap kindCode (c .before .before .role .given .1) ∙ ap (λ (a : ℕ). 0 + 65536 * a) (sym (c .at-most .ensures)) in
     (omega arith, omega (arith, c .at-most .ensures))
 
--- src/lib.rt:52:1
 returns-2 : tie.Need-returns-2
 returns-2 c =
     let e : kindCode (c .before .before .before .before .args .role) ≡ 1 + 65536 * c .at-most2 .result =
       ap kindCode (c .before .before .role2 .given .1) ∙ ap (λ (a : ℕ). 1 + 65536 * a) (sym (c .at-most2 .ensures)) in
     (sym e, omega (arith, c .at-most2 .ensures))
 
--- src/lib.rt:52:1
 returns-3 : tie.Need-returns-3
 returns-3 c = search needs
 

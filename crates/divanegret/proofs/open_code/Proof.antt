@@ -9,49 +9,36 @@ use Rattle.divanegret.specs.Codes.{openCode}
 use borrow.Author.Needs.{needs}
 use Rattle.divanegret.proofs.open_code.Statement.{statement}
 use Rattle.divanegret.proofs.open_code.Tie as tie
-use Rattle.divanegret.proofs.open_code.Reads as reads
-use Rattle.divanegret.proofs.open_code.Lts as lts
-use Rattle.divanegret.proofs.refusal_code.Reads as refusal-code-reads
 
--- src/lib.rt:38:22
 enum-known-o : tie.Need-enum-known-o
 enum-known-o c = search needs
 
--- src/lib.rt:38:29
 cast-result : tie.Need-cast-result
 cast-result c = search needs
 
--- src/lib.rt:38:51
 cast-result-2 : tie.Need-cast-result-2
 cast-result-2 c = search needs
 
--- src/lib.rt:38:42
 mul-result : tie.Need-mul-result
 mul-result c = search needs
 
--- src/lib.rt:38:29
 add-result : tie.Need-add-result
 add-result c = search needs
 
--- src/lib.rt:38:28
 cast-result-3 : tie.Need-cast-result-3
 cast-result-3 c = search needs
 
--- src/lib.rt:39:25
 enum-known-o-2 : tie.Need-enum-known-o-2
 enum-known-o-2 c = search needs
 
--- src/lib.rt:39:31
 refusal-code-requires : tie.Need-refusal-code-requires
 refusal-code-requires c κs = search needs
 
--- src/lib.rt:34:1
 returns : tie.Need-returns
 returns c =
     let o = c .before .before .before .o in
     is-pos (o .given .0 .0 .n + 65536 * o .given .0 .0 .m) (omega arith) ∙ sym (ap openCode (o .given .1))
 
--- src/lib.rt:34:1
 returns-2 : tie.Need-returns-2
 returns-2 c =
     toZ-ofZ (search needs) ∙ c .refusal-code .ensures ∙ sym (ap openCode (c .before .before .o2 .given .1))

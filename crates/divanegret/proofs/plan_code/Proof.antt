@@ -9,50 +9,36 @@ use Rattle.divanegret.specs.Codes.{planCode}
 use borrow.Author.Needs.{needs}
 use Rattle.divanegret.proofs.plan_code.Statement.{statement}
 use Rattle.divanegret.proofs.plan_code.Tie as tie
-use Rattle.divanegret.proofs.plan_code.Reads as reads
-use Rattle.divanegret.proofs.plan_code.Lts as lts
-use Rattle.divanegret.proofs.at_most.Reads as at-most-reads
-use Rattle.divanegret.proofs.refusal_code.Reads as refusal-code-reads
 
--- src/lib.rt:47:23
 enum-known-p : tie.Need-enum-known-p
 enum-known-p c = search needs
 
--- src/lib.rt:47:33
 at-most-requires : tie.Need-at-most-requires
 at-most-requires c κs = search needs
 
--- src/lib.rt:47:68
 at-most-requires-2 : tie.Need-at-most-requires-2
 at-most-requires-2 c κs = search needs
 
--- src/lib.rt:47:60
 mul-result : tie.Need-mul-result
 mul-result c = search needs
 
--- src/lib.rt:47:33
 add-result : tie.Need-add-result
 add-result c = search needs
 
--- src/lib.rt:47:32
 cast-result : tie.Need-cast-result
 cast-result c = search needs
 
--- src/lib.rt:48:26
 enum-known-p-2 : tie.Need-enum-known-p-2
 enum-known-p-2 c = search needs
 
--- src/lib.rt:48:32
 refusal-code-requires : tie.Need-refusal-code-requires
 refusal-code-requires c κs = search needs
 
--- src/lib.rt:43:1
 returns : tie.Need-returns
 returns c =
     is-pos (c .before .at-most .result + 65536 * c .at-most2 .result) (omega arith)
     ∙ ap₂ (λ (a b : ℕ). pos (a + 65536 * b)) (c .before .at-most .ensures) (c .at-most2 .ensures) ∙ sym (ap planCode (c .before .before .before .p .given .1))
 
--- src/lib.rt:43:1
 returns-2 : tie.Need-returns-2
 returns-2 c =
     toZ-ofZ (search needs) ∙ c .refusal-code .ensures ∙ sym (ap planCode (c .before .before .p2 .given .1))

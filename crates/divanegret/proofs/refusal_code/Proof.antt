@@ -8,40 +8,29 @@ use Prim.Native.Nat.{ℕ, _+_, _*_}
 use borrow.Author.Needs.{needs}
 use Rattle.divanegret.proofs.refusal_code.Statement.{statement}
 use Rattle.divanegret.proofs.refusal_code.Tie as tie
-use Rattle.divanegret.proofs.refusal_code.Reads as reads
-use Rattle.divanegret.proofs.refusal_code.Lts as lts
-use Rattle.divanegret.proofs.at_most.Reads as at-most-reads
 
--- src/lib.rt:30:24
 cast-at-most : tie.Need-cast-at-most
 cast-at-most c = search needs
 
--- src/lib.rt:30:16
 at-most-requires : tie.Need-at-most-requires
 at-most-requires c κs = search needs
 
--- src/lib.rt:30:54
 at-most-requires-2 : tie.Need-at-most-requires-2
 at-most-requires-2 c κs = search needs
 
--- src/lib.rt:30:48
 mul-code : tie.Need-mul-code
 mul-code c = search needs
 
--- src/lib.rt:30:16
 add-code : tie.Need-add-code
 add-code c = search needs
 
--- src/lib.rt:31:7
 cast-result : tie.Need-cast-result
 cast-result c = search needs
 
--- src/lib.rt:31:5
 sub-result : tie.Need-sub-result
 sub-result c =
     minus-fits (c .before .at-most .result + 256 * c .at-most2 .result) (omega arith)
 
--- src/lib.rt:27:1
 returns : tie.Need-returns
 returns c =
     is-negative (c .before .at-most .result + 256 * c .at-most2 .result) (omega arith)

@@ -9,49 +9,34 @@ use Rattle.divanegret.specs.Codes.{kindCode, roleCode}
 use borrow.Author.Needs.{needs}
 use Rattle.divanegret.proofs.role_code.Statement.{statement}
 use Rattle.divanegret.proofs.role_code.Tie as tie
-use Rattle.divanegret.proofs.role_code.Reads as reads
-use Rattle.divanegret.proofs.role_code.Lts as lts
-use Rattle.divanegret.proofs.at_most.Reads as at-most-reads
-use Rattle.divanegret.proofs.kind_code.Reads as kind-code-reads
-use Rattle.divanegret.proofs.refusal_code.Reads as refusal-code-reads
 
--- src/lib.rt:66:24
 enum-known-known : tie.Need-enum-known-known
 enum-known-known c = search needs
 
--- src/lib.rt:68:14
 kind-code-requires : tie.Need-kind-code-requires
 kind-code-requires c κs = search needs
 
--- src/lib.rt:68:53
 cast-at-most : tie.Need-cast-at-most
 cast-at-most c = search needs
 
--- src/lib.rt:68:45
 at-most-requires : tie.Need-at-most-requires
 at-most-requires c κs = search needs
 
--- src/lib.rt:68:32
 mul-result : tie.Need-mul-result
 mul-result c = search needs
 
--- src/lib.rt:68:14
 add-result : tie.Need-add-result
 add-result c = search needs
 
--- src/lib.rt:68:13
 cast-result : tie.Need-cast-result
 cast-result c = search needs
 
--- src/lib.rt:70:24
 enum-known-known-2 : tie.Need-enum-known-known-2
 enum-known-known-2 c = search needs
 
--- src/lib.rt:70:30
 refusal-code-requires : tie.Need-refusal-code-requires
 refusal-code-requires c κs = search needs
 
--- src/lib.rt:62:1
 returns : tie.Need-returns
 returns c =
     let k = c .before .before .kind-code in
@@ -59,7 +44,6 @@ returns c =
     is-pos (k .result + 4294967296 * c .at-most .result) (omega (arith, k .ensures .1, c .at-most .ensures))
     ∙ ap₂ (λ (a b : ℕ). pos (a + 4294967296 * b)) (k .ensures .0) (c .at-most .ensures) ∙ sym (ap roleCode (x .1))
 
--- src/lib.rt:62:1
 returns-2 : tie.Need-returns-2
 returns-2 c =
     toZ-ofZ (search needs) ∙ c .refusal-code .ensures ∙ sym (ap roleCode (c .before .before .known2 .given .1))

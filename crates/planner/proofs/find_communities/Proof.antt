@@ -5,40 +5,28 @@ use Rattle.planner.proofs.Calls.{handsets-most}
 use borrow.Author.Needs.{needs}
 use Rattle.planner.proofs.find_communities.Statement.{statement}
 use Rattle.planner.proofs.find_communities.Tie as tie
-use Rattle.planner.proofs.find_communities.Reads as reads
-use Rattle.planner.proofs.find_communities.Lts as lts
-use Rattle.planner.proofs.graph.survey.Reads as survey-reads
-use Rattle.planner.proofs.groups.find_groups.Reads as find-groups-reads
 
--- src/lib.rt:48:35
 slice-aggregate-survey : tie.Need-slice-aggregate-survey
 slice-aggregate-survey c = search needs
 
--- src/lib.rt:48:5
 survey-requires : tie.Need-survey-requires
 survey-requires c κs = search needs
 
--- src/lib.rt:49:25
 slice-aggregate-find-groups : tie.Need-slice-aggregate-find-groups
 slice-aggregate-find-groups c = search needs
 
--- src/lib.rt:49:5
 find-groups-requires : tie.Need-find-groups-requires
 find-groups-requires c κs = search needs
 
--- src/lib.rt:43:1
 same-length : tie.Need-same-length
 same-length c = search needs
 
--- src/lib.rt:43:1
 same-length-2 : tie.Need-same-length-2
 same-length-2 c = search needs
 
--- src/lib.rt:43:1
 same-length-3 : tie.Need-same-length-3
 same-length-3 c = search needs
 
--- src/lib.rt:43:1
 returns : tie.Need-returns
 returns c =
     let f = c .before .before in

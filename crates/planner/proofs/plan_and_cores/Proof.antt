@@ -7,30 +7,19 @@ use Rattle.planner.proofs.Calls.{plan-refused, cores-refused, plan-foun
 use borrow.Author.Needs.{needs}
 use Rattle.planner.proofs.plan_and_cores.Statement.{statement}
 use Rattle.planner.proofs.plan_and_cores.Tie as tie
-use Rattle.planner.proofs.plan_and_cores.Reads as reads
-use Rattle.planner.proofs.plan_and_cores.Lts as lts
-use Rattle.image.proofs.open.Reads as open-reads
-use Rattle.image.proofs.refusal_of.Reads as refusal-of-reads
-use Rattle.planner.proofs.find_communities.Reads as find-communities-reads
-use Rattle.planner.proofs.tables.make_plan.Reads as make-plan-reads
 
--- src/lib.rt:57:9
 open-requires : tie.Need-open-requires
 open-requires c κs = search needs
 
--- src/lib.rt:58:22
 enum-known-opened : tie.Need-enum-known-opened
 enum-known-opened c = search needs
 
--- src/lib.rt:60:38
 enum-told : tie.Need-enum-told
 enum-told c = search needs
 
--- src/lib.rt:60:38
 refusal-of-requires : tie.Need-refusal-of-requires
 refusal-of-requires c κs = search needs
 
--- src/lib.rt:59:9
 returns : tie.Need-returns
 returns c = let told = c .before .enum-told .given .1 in
     let s = c .before .before .before .before .before .before .before in
@@ -39,41 +28,32 @@ returns c = let told = c .before .enum-told .given .1 in
       sym (c .before .before .before .«open» .ensures) ∙ told ∙ ap O.Refused (sym (c .refusal-of .ensures ∙ ap refusalOf told)) in
     (plan-refused image (c .refusal-of .result) e (s .args .starts .now) (s .args .members .now), cores-refused image (c .refusal-of .result) e)
 
--- src/lib.rt:66:44
 slice-aggregate-find-communities : tie.Need-slice-aggregate-find-communities
 slice-aggregate-find-communities c = search needs
 
--- src/lib.rt:66:55
 slice-aggregate-find-communities-2 : tie.Need-slice-aggregate-find-communities-2
 slice-aggregate-find-communities-2 c = search needs
 
--- src/lib.rt:66:67
 slice-aggregate-find-communities-3 : tie.Need-slice-aggregate-find-communities-3
 slice-aggregate-find-communities-3 c = search needs
 
--- src/lib.rt:66:9
 find-communities-requires : tie.Need-find-communities-requires
 find-communities-requires c κs = let s = c .before .before .before .before .before .before .before .before .before .before in
     let a = accepted (s .args .image .now) (c .before .before .before .before .opened .given .0 .0) (sym (c .before .before .before .before .before .before .«open» .ensures) ∙ c .before .before .before .before .opened .given .1) in
     (a .0, a .1, refl, refl, refl)
 
--- src/lib.rt:67:36
 slice-aggregate-make-plan : tie.Need-slice-aggregate-make-plan
 slice-aggregate-make-plan c = search needs
 
--- src/lib.rt:67:9
 make-plan-requires : tie.Need-make-plan-requires
 make-plan-requires c κs = search needs
 
--- src/lib.rt:53:1
 same-length : tie.Need-same-length
 same-length c = search needs
 
--- src/lib.rt:53:1
 same-length-2 : tie.Need-same-length-2
 same-length-2 c = search needs
 
--- src/lib.rt:53:1
 returns-2 : tie.Need-returns-2
 returns-2 c =
     let m = c .before .before .before .before .make-plan .ensures in

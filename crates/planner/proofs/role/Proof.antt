@@ -10,31 +10,19 @@ use Rattle.planner.proofs.GraphLaws.{near-size}
 use borrow.Author.Needs.{needs}
 use Rattle.planner.proofs.role.Statement.{statement}
 use Rattle.planner.proofs.role.Tie as tie
-use Rattle.planner.proofs.role.Reads as reads
-use Rattle.planner.proofs.role.Lts as lts
-use Rattle.image.proofs.open.Reads as open-reads
-use Rattle.image.proofs.refusal_of.Reads as refusal-of-reads
-use Rattle.planner.proofs.find_communities.Reads as find-communities-reads
-use Rattle.planner.proofs.graph.row_size.Reads as row-size-reads
-use Rattle.planner.proofs.role_in.Reads as role-in-reads
 
--- src/lib.rt:99:9
 open-requires : tie.Need-open-requires
 open-requires c κs = search needs
 
--- src/lib.rt:100:22
 enum-known-opened : tie.Need-enum-known-opened
 enum-known-opened c = search needs
 
--- src/lib.rt:101:31
 enum-told : tie.Need-enum-told
 enum-told c = search needs
 
--- src/lib.rt:101:31
 refusal-of-requires : tie.Need-refusal-of-requires
 refusal-of-requires c κs = search needs
 
--- src/lib.rt:101:9
 returns : tie.Need-returns
 returns c = let told = c .before .enum-told .given .1 in
     let s = c .before .before .before .before .before in
@@ -42,44 +30,35 @@ returns c = let told = c .before .enum-told .given .1 in
     known-refused image (c .refusal-of .result)
     (sym (c .before .before .before .«open» .ensures) ∙ told ∙ ap O.Refused (sym (c .refusal-of .ensures ∙ ap refusalOf told))) (s .args .v)
 
--- src/lib.rt:103:8
 cast-if1 : tie.Need-cast-if1
 cast-if1 c = search needs
 
--- src/lib.rt:104:9
 returns-2 : tie.Need-returns-2
 returns-2 c =
     let s = c .before .before .before .before .before .before .before in
     let a = accepted (s .args .image .now) (c .before .before .before .opened .given .0 .0) (sym (c .before .before .before .before .before .«open» .ensures) ∙ c .before .before .before .opened .given .1) in
     known-past (s .args .image .now) (a .0) (s .args .v) (past-handsets _ _ (s .args .v) (a .1) (c .if1 .taken))
 
--- src/lib.rt:112:44
 slice-aggregate-find-communities : tie.Need-slice-aggregate-find-communities
 slice-aggregate-find-communities c = search needs
 
--- src/lib.rt:112:55
 slice-aggregate-find-communities-2 : tie.Need-slice-aggregate-find-communities-2
 slice-aggregate-find-communities-2 c = search needs
 
--- src/lib.rt:112:67
 slice-aggregate-find-communities-3 : tie.Need-slice-aggregate-find-communities-3
 slice-aggregate-find-communities-3 c = search needs
 
--- src/lib.rt:112:9
 find-communities-requires : tie.Need-find-communities-requires
 find-communities-requires c κs = let s = c .before .before .before .before .before .before .before .before .before .before in
     let a = accepted (s .args .image .now) (c .before .before .before .before .before .before .opened .given .0 .0) (sym (c .before .before .before .before .before .before .before .before .«open» .ensures) ∙ c .before .before .before .before .before .before .opened .given .1) in
     (a .0, a .1, refl, refl, refl)
 
--- src/lib.rt:113:24
 slice-aggregate-role-in : tie.Need-slice-aggregate-role-in
 slice-aggregate-role-in c = search needs
 
--- src/lib.rt:113:32
 slice-aggregate-role-in-2 : tie.Need-slice-aggregate-role-in-2
 slice-aggregate-role-in-2 c = search needs
 
--- src/lib.rt:113:9
 role-in-requires : tie.Need-role-in-requires
 role-in-requires c κs =
     let s = c .before .before .before .before .before .before .before .before .before .before .before .before .before .before .before .before in
@@ -87,11 +66,9 @@ role-in-requires c κs =
     let h = below-handsets _ _ (s .args .v) (a .1) (c .before .before .before .before .before .before .before .before .before .if1 .left) in
     (c .before .before .before .before .before .find-communities .ensures .most, omega (arith, handsets-most (s .args .image .now) (a .0)))
 
--- src/lib.rt:115:37
 slice-aggregate-row-size : tie.Need-slice-aggregate-row-size
 slice-aggregate-row-size c = search needs
 
--- src/lib.rt:115:21
 row-size-requires : tie.Need-row-size-requires
 row-size-requires c κs =
     let s = c .before .before .before .before .before .before .before .before .before .before .before .before .before .before .before .before .before .before in
@@ -99,7 +76,6 @@ row-size-requires c κs =
     let h = below-handsets _ _ (s .args .v) (a .1) (c .before .before .before .before .before .before .before .before .before .before .before .if1 .left) in
     (omega (arith, handsets-most (s .args .image .now) (a .0)), c .before .before .before .before .before .before .before .find-communities .ensures .near-table .size)
 
--- src/lib.rt:96:1
 returns-3 : tie.Need-returns-3
 returns-3 c =
     let s = c .before .before .before .before .before .before .before .before .before .before .before .before .before .before .before .before .before .before .before in

@@ -5,38 +5,27 @@ use Rattle.community.specs.Network.{borderOf}
 use borrow.Author.Needs.{needs}
 use Rattle.planner.proofs.role_in.Statement.{statement}
 use Rattle.planner.proofs.role_in.Tie as tie
-use Rattle.planner.proofs.role_in.Reads as reads
-use Rattle.planner.proofs.role_in.Lts as lts
-use Rattle.planner.proofs.tables.count_containing.Reads as count-containing-reads
-use Rattle.planner.proofs.tables.first_containing.Reads as first-containing-reads
-use Rattle.sets.proofs.has.Reads as has-reads
 
--- src/lib.rt:84:8
 has-requires : tie.Need-has-requires
 has-requires c κs = search needs
 
--- src/lib.rt:85:27
 first-containing-requires : tie.Need-first-containing-requires
 first-containing-requires c κs = search needs
 
--- src/lib.rt:85:9
 returns : tie.Need-returns
 returns c =
     let a = c .before .before .before .before .before .args in
     role-core (a .cores .now) (a .rows .now) (a .count) (a .v) (c .first-containing .result) (sym (c .before .before .has .ensures) ∙ c .before .if1 .taken) (c .first-containing .ensures)
 
--- src/lib.rt:87:9
 count-containing-requires : tie.Need-count-containing-requires
 count-containing-requires c κs = search needs
 
--- src/lib.rt:80:1
 returns-2 : tie.Need-returns-2
 returns-2 c =
     let a = c .before .before .before .before .before .before .args in
     ap borderOf (sym (c .if2 .taken))
     ∙ role-other (a .cores .now) (a .rows .now) (a .count) (a .v) (c .before .count-containing .result) (sym (c .before .before .before .has .ensures) ∙ c .before .before .if1 .left) (c .before .count-containing .ensures)
 
--- src/lib.rt:80:1
 returns-3 : tie.Need-returns-3
 returns-3 c =
     let a = c .before .before .before .before .before .before .args in

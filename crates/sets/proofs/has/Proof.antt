@@ -1,3 +1,4 @@
+-- `sets::has` meets its contract: a bit past the last word is 0.
 use mathlib.Core.Path.{refl, sym, ap}
 use Prim.Native.Nat.{ℕ}
 use native.Mathlib.Omega.{arith}
@@ -7,27 +8,20 @@ use Rattle.sets.specs.Bits.{bitAt, bitOf}
 use Rattle.sets.proofs.Bits.{bitAt-past}
 use Rattle.sets.proofs.has.Statement.{statement}
 use Rattle.sets.proofs.has.Tie as tie
-use Rattle.sets.proofs.has.Reads as reads
-use Rattle.sets.proofs.has.Lts as lts
 
--- src/lib.rt:32:10
 mul-result : tie.Need-mul-result
 mul-result c = search needs
 
--- src/lib.rt:32:10
 shared-slice-read-result : tie.Need-shared-slice-read-result
 shared-slice-read-result c = search needs
 
--- src/lib.rt:32:10
 shr-result : tie.Need-shr-result
 shr-result c = search needs
 
--- src/lib.rt:28:1
 returns : tie.Need-returns
 unfolding bitAt bitOf
 returns c = refl
 
--- src/lib.rt:28:1
 returns-2 : tie.Need-returns-2
 returns-2 c = sym (ap (λ (b : ℕ). eqb b 1) (bitAt-past (c .before .args .words .now) (c .before .args .i) (omega arith)))
 

@@ -1,3 +1,4 @@
+-- `sets::mark` meets its contract: where the word is there the store is that of `withBit`, and past the last word a store is none.
 use mathlib.Core.Path.{sym}
 use Prim.Native.Nat.{_/_, _%_}
 use native.Mathlib.Omega.{arith}
@@ -7,39 +8,29 @@ use Rattle.sets.specs.Bits.{withBit}
 use Rattle.sets.proofs.Bits.{shl-one}
 use Rattle.sets.proofs.mark.Statement.{statement}
 use Rattle.sets.proofs.mark.Tie as tie
-use Rattle.sets.proofs.mark.Reads as reads
-use Rattle.sets.proofs.mark.Lts as lts
 
--- src/lib.rt:13:25
 mul-words : tie.Need-mul-words
 mul-words c = search needs
 
--- src/lib.rt:13:25
 slice-read-words : tie.Need-slice-read-words
 slice-read-words c = search needs
 
--- src/lib.rt:13:42
 shl-words : tie.Need-shl-words
 shl-words c = search needs
 
--- src/lib.rt:13:9
 mul-words-2 : tie.Need-mul-words-2
 mul-words-2 c = search needs
 
--- src/lib.rt:13:9
 slice-write-words : tie.Need-slice-write-words
 slice-write-words c = search needs
 
--- src/lib.rt:9:1
 same-length : tie.Need-same-length
 same-length c = search needs
 
--- src/lib.rt:9:1
 returns : tie.Need-returns
 unfolding withBit
 returns c = rw (shl-one (c .before .before .args .i % 64) (omega arith))
 
--- src/lib.rt:9:1
 returns-2 : tie.Need-returns-2
 unfolding withBit
 returns-2 c = sym (set-out (c .before .args .words .now) (c .before .args .i / 64) _ (omega arith))

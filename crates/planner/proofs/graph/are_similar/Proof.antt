@@ -5,70 +5,51 @@ use lib.Dec.{leb}
 use borrow.Author.Needs.{needs}
 use Rattle.planner.proofs.graph.are_similar.Statement.{statement}
 use Rattle.planner.proofs.graph.are_similar.Tie as tie
-use Rattle.planner.proofs.graph.are_similar.Reads as reads
-use Rattle.planner.proofs.graph.are_similar.Lts as lts
-use Rattle.planner.proofs.graph.common.Reads as common-reads
-use Rattle.planner.proofs.graph.meets_epsilon.Reads as meets-epsilon-reads
-use Rattle.sets.proofs.has.Reads as has-reads
 
--- src/graph.rt:139:24
 mul-has : tie.Need-mul-has
 mul-has c = search needs
 
--- src/graph.rt:139:24
 add-has : tie.Need-add-has
 add-has c = search needs
 
--- src/graph.rt:139:8
 has-requires : tie.Need-has-requires
 has-requires c κs = search needs
 
--- src/graph.rt:140:17
 common-requires : tie.Need-common-requires
 common-requires c κs = search needs
 
--- src/graph.rt:140:17
 cast-c : tie.Need-cast-c
 cast-c c = search needs
 
--- src/graph.rt:141:26
 mul-meets-epsilon : tie.Need-mul-meets-epsilon
 mul-meets-epsilon c = search needs
 
--- src/graph.rt:141:26
 shared-slice-read-meets-epsilon : tie.Need-shared-slice-read-meets-epsilon
 shared-slice-read-meets-epsilon c = search needs
 
--- src/graph.rt:141:26
 cast-meets-epsilon : tie.Need-cast-meets-epsilon
 cast-meets-epsilon c = search needs
 
--- src/graph.rt:141:43
 mul-meets-epsilon-2 : tie.Need-mul-meets-epsilon-2
 mul-meets-epsilon-2 c = search needs
 
--- src/graph.rt:141:43
 shared-slice-read-meets-epsilon-2 : tie.Need-shared-slice-read-meets-epsilon-2
 shared-slice-read-meets-epsilon-2 c = search needs
 
--- src/graph.rt:141:43
 cast-meets-epsilon-2 : tie.Need-cast-meets-epsilon-2
 cast-meets-epsilon-2 c = search needs
 
--- src/graph.rt:141:9
 meets-epsilon-requires : tie.Need-meets-epsilon-requires
 meets-epsilon-requires c κs =
     let s = c .before .before .before .before .before .before .before in
     (c .before .before .common .ensures .1, s .pre .1 .0, s .pre .1 .1, s .pre .0 .4, s .pre .0 .5)
 
--- src/graph.rt:134:1
 returns : tie.Need-returns
 returns c =
     let t = c .before .before .before .before in
     rw (sym (t .before .has .ensures) ∙ t .if1 .taken)
     (subst (λ (x : ℕ). c .meets-epsilon .result ≡ leb (c .before .before .before .before .before .before .before .before .args .p * c .before .before .before .before .before .before .before .before .args .p * (getD (c .before .before .before .before .before .before .before .before .args .sizes .now) (c .before .before .before .before .before .before .before .before .args .u) 0 * getD (c .before .before .before .before .before .before .before .before .args .sizes .now) (c .before .before .before .before .before .before .before .before .args .v) 0)) (x * x * (c .before .before .before .before .before .before .before .before .args .q * c .before .before .before .before .before .before .before .before .args .q))) (c .before .before .before .common .ensures .0) (c .meets-epsilon .ensures))
 
--- src/graph.rt:134:1
 returns-2 : tie.Need-returns-2
 returns-2 c = rw (sym (c .before .has .ensures) ∙ c .if1 .left)
 

@@ -9,8 +9,6 @@ use Rattle.sets.specs.Bits.{cell}
 use Rattle.planner.proofs.GraphLaws.{common-more}
 use Rattle.planner.proofs.graph.common.Statement.{statement}
 use Rattle.planner.proofs.graph.common.Tie as tie
-use Rattle.planner.proofs.graph.common.Reads as reads
-use Rattle.planner.proofs.graph.common.Lts as lts
 
 abbrev Inv-loop : tie.InvT-loop
 Inv-loop near u v n₀ j₀ n j = (j ≤ 8) × (n ≤ j * 64) × (n ≡ sum (j * 64) (λ w. min (cell near u w) (cell near v w)))
@@ -18,44 +16,34 @@ Inv-loop near u v n₀ j₀ n j = (j ≤ 8) × (n ≤ j * 64) × (n ≡ sum (j *
 abbrev μ-loop : tie.MeasureT-loop
 μ-loop near u v n₀ j₀ n j = 8 - j
 
--- src/graph.rt:118:5
 loop-holds : tie.Need-loop-holds Inv-loop μ-loop
 unfolding sum
 loop-holds c = (omega arith, omega arith, refl)
 
--- src/graph.rt:119:35
 mul-n : tie.Need-mul-n Inv-loop μ-loop
 mul-n c = omega arith
 
--- src/graph.rt:119:35
 add-n : tie.Need-add-n Inv-loop μ-loop
 add-n c = omega arith
 
--- src/graph.rt:119:30
 mul-n-2 : tie.Need-mul-n-2 Inv-loop μ-loop
 mul-n-2 c = omega arith
 
--- src/graph.rt:119:30
 shared-slice-read-n : tie.Need-shared-slice-read-n Inv-loop μ-loop
 shared-slice-read-n c = omega arith
 
--- src/graph.rt:119:53
 mul-n-3 : tie.Need-mul-n-3 Inv-loop μ-loop
 mul-n-3 c = omega arith
 
--- src/graph.rt:119:53
 add-n-2 : tie.Need-add-n-2 Inv-loop μ-loop
 add-n-2 c = omega arith
 
--- src/graph.rt:119:48
 mul-n-4 : tie.Need-mul-n-4 Inv-loop μ-loop
 mul-n-4 c = omega arith
 
--- src/graph.rt:119:48
 shared-slice-read-n-2 : tie.Need-shared-slice-read-n-2 Inv-loop μ-loop
 shared-slice-read-n-2 c = omega arith
 
--- src/graph.rt:119:9
 -- the two words that are read
 first-lt : (c : tie.After-shared-slice-known2 Inv-loop μ-loop)
     → getD (c .before .before .before .before .args .near .now) (c .before .before .before .before .args .u * 8 + c .before .before .before .loop .j) 0 < 2 ^ 64
@@ -68,15 +56,12 @@ second-lt c = omega (arith, c .shared-slice-known2 .given (c .before .before .be
 add-n-3 : tie.Need-add-n-3 Inv-loop μ-loop
 add-n-3 c = omega (arith, ones-le 64 _ (and-lt 64 _ _ (first-lt c) (second-lt c)))
 
--- src/graph.rt:120:9
 add-j : tie.Need-add-j Inv-loop μ-loop
 add-j c = omega arith
 
--- src/graph.rt:118:5
 loop-less : tie.Need-loop-less Inv-loop μ-loop
 loop-less c = omega arith
 
--- src/graph.rt:118:5
 loop-again : tie.Need-loop-again Inv-loop μ-loop
 loop-again c =
     let a = c .before .before .before .before .args in
@@ -87,7 +72,6 @@ loop-again c =
       omega (arith, common-more (a .near .now) (a .u) (a .v) (l .j) (first-lt c) (second-lt c), l .inv .2),
     )
 
--- src/graph.rt:112:1
 returns : tie.Need-returns Inv-loop μ-loop
 returns c =
     let a = c .before .before .args in

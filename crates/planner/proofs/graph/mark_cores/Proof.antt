@@ -12,10 +12,6 @@ use Rattle.planner.specs.Held.{SetOf}
 use Rattle.planner.proofs.GraphLaws.{passed-none, passed-yes, passed-no}
 use Rattle.planner.proofs.graph.mark_cores.Statement.{statement}
 use Rattle.planner.proofs.graph.mark_cores.Tie as tie
-use Rattle.planner.proofs.graph.mark_cores.Reads as reads
-use Rattle.planner.proofs.graph.mark_cores.Lts as lts
-use Rattle.planner.proofs.graph.row_size.Reads as row-size-reads
-use Rattle.sets.proofs.mark.Reads as mark-reads
 
 abbrev Inv-loop : tie.InvT-loop
 Inv-loop alike n mu cores₀ u₀ cores u = (u ≤ n) × SetOf cores (λ x. ltb x u && leb mu (sum 512 (λ w. cell alike x w)))
@@ -23,29 +19,23 @@ Inv-loop alike n mu cores₀ u₀ cores u = (u ≤ n) × SetOf cores (λ x. ltb 
 abbrev μ-loop : tie.MeasureT-loop
 μ-loop alike n mu cores₀ u₀ cores u = n - u
 
--- src/graph.rt:177:5
 loop-holds : tie.Need-loop-holds Inv-loop μ-loop
 loop-holds c =
     let s = c .before .before in
     (omega arith, rw (s .pre .2) (passed-none (λ x. leb (s .args .mu) (sum 512 (λ w. cell (s .args .alike .now) x w)))))
 
--- src/graph.rt:178:18
 row-size-requires : tie.Need-row-size-requires Inv-loop μ-loop
 row-size-requires c κs = (omega arith, c .before .before .before .before .pre .0)
 
--- src/graph.rt:179:13
 mark-requires : tie.Need-mark-requires Inv-loop μ-loop
 mark-requires c κs = tt
 
--- src/graph.rt:181:9
 add-u : tie.Need-add-u Inv-loop μ-loop
 add-u c = omega arith
 
--- src/graph.rt:177:5
 loop-less : tie.Need-loop-less Inv-loop μ-loop
 loop-less c = omega arith
 
--- src/graph.rt:177:5
 loop-again : tie.Need-loop-again Inv-loop μ-loop
 loop-again c =
     let l = c .before .before .before .loop in
@@ -65,11 +55,9 @@ loop-again c =
       (c .if1 .came),
     )
 
--- src/graph.rt:172:1
 same-length : tie.Need-same-length Inv-loop μ-loop
 same-length c = c .before .loop .inv .1 .size ∙ sym (ap length (c .before .before .before .before .pre .2) ∙ length-replicate {A = ℕ} 8 0)
 
--- src/graph.rt:172:1
 returns : tie.Need-returns Inv-loop μ-loop
 returns c =
     let l = c .before .loop in

@@ -8,9 +8,6 @@ use Rattle.planner.specs.Held.{Table}
 use Rattle.planner.proofs.GraphLaws.{selves-none, selves-more}
 use Rattle.planner.proofs.graph.mark_selves.Statement.{statement}
 use Rattle.planner.proofs.graph.mark_selves.Tie as tie
-use Rattle.planner.proofs.graph.mark_selves.Reads as reads
-use Rattle.planner.proofs.graph.mark_selves.Lts as lts
-use Rattle.sets.proofs.mark.Reads as mark-reads
 
 abbrev Inv-loop : tie.InvT-loop
 Inv-loop table₀ n u₀ table u = (u ≤ n) × Table table (λ x y. ltb x u && eqb x y)
@@ -18,38 +15,30 @@ Inv-loop table₀ n u₀ table u = (u ≤ n) × Table table (λ x y. ltb x u && 
 abbrev μ-loop : tie.MeasureT-loop
 μ-loop table₀ n u₀ table u = n - u
 
--- src/graph.rt:32:5
 loop-holds : tie.Need-loop-holds Inv-loop μ-loop
 loop-holds c = (omega arith, rw (c .before .pre .0) selves-none)
 
--- src/graph.rt:33:27
 mul-mark : tie.Need-mul-mark Inv-loop μ-loop
 mul-mark c = omega arith
 
--- src/graph.rt:33:9
 mark-requires : tie.Need-mark-requires Inv-loop μ-loop
 mark-requires c κs = tt
 
--- src/graph.rt:34:9
 add-u : tie.Need-add-u Inv-loop μ-loop
 add-u c = omega arith
 
--- src/graph.rt:32:5
 loop-less : tie.Need-loop-less Inv-loop μ-loop
 loop-less c = omega arith
 
--- src/graph.rt:32:5
 loop-again : tie.Need-loop-again Inv-loop μ-loop
 loop-again c =
     let m = c .before .before in
     let l = m .before .before .before .loop in
     (omega arith, rw (m .mark .ensures) (selves-more (l .table) (l .u) (omega arith) (l .inv .1)))
 
--- src/graph.rt:27:1
 same-length : tie.Need-same-length Inv-loop μ-loop
 same-length c = c .before .loop .inv .1 .size ∙ sym (ap length (c .before .before .before .pre .0) ∙ selves-none .size)
 
--- src/graph.rt:27:1
 returns : tie.Need-returns Inv-loop μ-loop
 returns c =
     let l = c .before .loop in

@@ -13,12 +13,6 @@ use Rattle.planner.specs.Held.{Table}
 use Rattle.planner.proofs.GraphLaws.{marked, marked-none, similar-table, similar-test, size-le, edge-yes, edge-no, header-is, end-a, end-b, ends-read, selves-none}
 use Rattle.planner.proofs.graph.mark_similar.Statement.{statement}
 use Rattle.planner.proofs.graph.mark_similar.Tie as tie
-use Rattle.planner.proofs.graph.mark_similar.Reads as reads
-use Rattle.planner.proofs.graph.mark_similar.Lts as lts
-use Rattle.image.proofs.read2.Reads as read2-reads
-use Rattle.planner.proofs.graph.are_similar.Reads as are-similar-reads
-use Rattle.planner.proofs.graph.mark_both.Reads as mark-both-reads
-use Rattle.planner.proofs.graph.mark_selves.Reads as mark-selves-reads
 
 abbrev Inv-loop : tie.InvT-loop
 Inv-loop image h near sizes alike₀ n m a b edges k₀ alike k =
@@ -27,43 +21,33 @@ Inv-loop image h near sizes alike₀ n m a b edges k₀ alike k =
 abbrev μ-loop : tie.MeasureT-loop
 μ-loop image h near sizes alike₀ n m a b edges k₀ alike k = m - k
 
--- src/graph.rt:154:13
 cast-n : tie.Need-cast-n Inv-loop μ-loop
 cast-n c = search needs
 
--- src/graph.rt:155:13
 cast-m : tie.Need-cast-m Inv-loop μ-loop
 cast-m c = search needs
 
--- src/graph.rt:156:13
 cast-a : tie.Need-cast-a Inv-loop μ-loop
 cast-a c = search needs
 
--- src/graph.rt:157:17
 mul-b : tie.Need-mul-b Inv-loop μ-loop
 mul-b c = search needs
 
--- src/graph.rt:157:13
 add-b : tie.Need-add-b Inv-loop μ-loop
 add-b c = search needs
 
--- src/graph.rt:158:17
 sub-edges : tie.Need-sub-edges Inv-loop μ-loop
 sub-edges c = search needs
 
--- src/graph.rt:158:17
 part-edges-start : tie.Need-part-edges-start Inv-loop μ-loop
 part-edges-start c = search needs
 
--- src/graph.rt:158:17
 part-edges-end : tie.Need-part-edges-end Inv-loop μ-loop
 part-edges-end c = let r = header-is (c .before .before .before .before .before .before .before .args .image .now) (c .before .before .before .before .before .before .before .args .h) (c .before .before .before .before .before .before .before .pre .0 .0) (c .before .before .before .before .before .before .before .pre .0 .1) in omega (arith, r .length-of, r .fits .edges-to)
 
--- src/graph.rt:159:5
 mark-selves-requires : tie.Need-mark-selves-requires Inv-loop μ-loop
 mark-selves-requires c κs = let r = header-is (c .before .before .before .before .before .before .before .before .before .args .image .now) (c .before .before .before .before .before .before .before .before .before .args .h) (c .before .before .before .before .before .before .before .before .before .pre .0 .0) (c .before .before .before .before .before .before .before .before .before .pre .0 .1) in (c .before .before .before .before .before .before .before .before .before .pre .0 .3, r .fits .n-limit)
 
--- src/graph.rt:161:5
 loop-holds : tie.Need-loop-holds Inv-loop μ-loop
 loop-holds c =
     let a = c .before .before .before .before .before .before .before .before .before .before .before .before .args in
@@ -74,35 +58,27 @@ loop-holds c =
       (subst (λ (n : ℕ). Table (c .before .before .mark-selves .last .0) (λ u v. ltb u n && eqb u v)) (r .n-is) (c .before .before .mark-selves .ensures)),
     )
 
--- src/graph.rt:162:37
 mul-read2 : tie.Need-mul-read2 Inv-loop μ-loop
 mul-read2 c = let r = header-is (c .before .before .before .before .before .before .before .before .before .before .before .before .before .before .args .image .now) (c .before .before .before .before .before .before .before .before .before .before .before .before .before .before .args .h) (c .before .before .before .before .before .before .before .before .before .before .before .before .before .before .pre .0 .0) (c .before .before .before .before .before .before .before .before .before .before .before .before .before .before .pre .0 .1) in omega (arith, r .fits .m-limit)
 
--- src/graph.rt:162:17
 read2-requires : tie.Need-read2-requires Inv-loop μ-loop
 read2-requires c κs = tt
 
--- src/graph.rt:162:17
 cast-u : tie.Need-cast-u Inv-loop μ-loop
 cast-u c = search needs
 
--- src/graph.rt:163:37
 mul-read2-2 : tie.Need-mul-read2-2 Inv-loop μ-loop
 mul-read2-2 c = let r = header-is (c .before .before .before .before .before .before .before .before .before .before .before .before .before .before .before .args .image .now) (c .before .before .before .before .before .before .before .before .before .before .before .before .before .before .before .args .h) (c .before .before .before .before .before .before .before .before .before .before .before .before .before .before .before .pre .0 .0) (c .before .before .before .before .before .before .before .before .before .before .before .before .before .before .before .pre .0 .1) in omega (arith, r .fits .m-limit)
 
--- src/graph.rt:163:37
 add-read2 : tie.Need-add-read2 Inv-loop μ-loop
 add-read2 c = let r = header-is (c .before .before .before .before .before .before .before .before .before .before .before .before .before .before .before .args .image .now) (c .before .before .before .before .before .before .before .before .before .before .before .before .before .before .before .args .h) (c .before .before .before .before .before .before .before .before .before .before .before .before .before .before .before .pre .0 .0) (c .before .before .before .before .before .before .before .before .before .before .before .before .before .before .before .pre .0 .1) in omega (arith, r .fits .m-limit)
 
--- src/graph.rt:163:17
 read2-requires-2 : tie.Need-read2-requires-2 Inv-loop μ-loop
 read2-requires-2 c κs = tt
 
--- src/graph.rt:163:17
 cast-v : tie.Need-cast-v Inv-loop μ-loop
 cast-v c = search needs
 
--- src/graph.rt:164:12
 -- what was read are the ends of the edge
 first-end : (c : tie.After-read22 Inv-loop μ-loop) → c .before .read2 .result ≡ endA (edgeRecords (c .before .before .before .before .before .before .before .before .before .before .before .before .before .before .before .before .args .image .now)) (c .before .before .before .loop .k)
 first-end c = let s = c .before .before .before .before .before .before .before .before .before .before .before .before .before .before .before .before in end-a (s .args .image .now) (s .args .h) (s .pre .0 .1) (c .before .read2 .result) (c .before .before .before .loop .k) (c .before .read2 .ensures)
@@ -140,19 +116,15 @@ are-similar-requires c κs =
       ),
     )
 
--- src/graph.rt:165:13
 mark-both-requires : tie.Need-mark-both-requires Inv-loop μ-loop
 mark-both-requires c κs = let e = ends (c .before .before .before) in (e .2, e .3)
 
--- src/graph.rt:167:9
 add-k : tie.Need-add-k Inv-loop μ-loop
 add-k c = let r = header-is (c .before .before .before .before .before .before .before .before .before .before .before .before .before .before .before .before .before .before .args .image .now) (c .before .before .before .before .before .before .before .before .before .before .before .before .before .before .before .before .before .before .args .h) (c .before .before .before .before .before .before .before .before .before .before .before .before .before .before .before .before .before .before .pre .0 .0) (c .before .before .before .before .before .before .before .before .before .before .before .before .before .before .before .before .before .before .pre .0 .1) in omega (arith, r .fits .m-limit)
 
--- src/graph.rt:161:5
 loop-less : tie.Need-loop-less Inv-loop μ-loop
 loop-less c = omega arith
 
--- src/graph.rt:161:5
 loop-again : tie.Need-loop-again Inv-loop μ-loop
 loop-again c =
     let r = c .before .before in
@@ -176,11 +148,9 @@ loop-again c =
       (c .if1 .came),
     )
 
--- src/graph.rt:149:1
 same-length : tie.Need-same-length Inv-loop μ-loop
 same-length c = c .before .loop .inv .1 .size ∙ sym (ap length (c .before .before .before .before .before .before .before .before .before .before .before .before .before .before .pre .0 .3) ∙ selves-none .size)
 
--- src/graph.rt:149:1
 returns : tie.Need-returns Inv-loop μ-loop
 returns c =
     let l = c .before .loop in

@@ -8,9 +8,6 @@ use Rattle.sets.specs.Below.{sum}
 use Rattle.sets.specs.Bits.{cell}
 use Rattle.planner.proofs.graph.measure.Statement.{statement}
 use Rattle.planner.proofs.graph.measure.Tie as tie
-use Rattle.planner.proofs.graph.measure.Reads as reads
-use Rattle.planner.proofs.graph.measure.Lts as lts
-use Rattle.planner.proofs.graph.row_size.Reads as row-size-reads
 
 abbrev Inv-loop : tie.InvT-loop
 Inv-loop table n sizes₀ u₀ sizes u =
@@ -19,31 +16,24 @@ Inv-loop table n sizes₀ u₀ sizes u =
 abbrev μ-loop : tie.MeasureT-loop
 μ-loop table n sizes₀ u₀ sizes u = n - u
 
--- src/graph.rt:105:5
 loop-holds : tie.Need-loop-holds Inv-loop μ-loop
 loop-holds c = (omega arith, refl, λ x h. absurd (omega arith))
 
--- src/graph.rt:106:20
 row-size-requires : tie.Need-row-size-requires Inv-loop μ-loop
 row-size-requires c κs = (omega arith, c .before .before .before .before .pre .0)
 
--- src/graph.rt:106:9
 mul-sizes : tie.Need-mul-sizes Inv-loop μ-loop
 mul-sizes c = omega arith
 
--- src/graph.rt:106:9
 slice-write-sizes : tie.Need-slice-write-sizes Inv-loop μ-loop
 slice-write-sizes c = omega arith
 
--- src/graph.rt:107:9
 add-u : tie.Need-add-u Inv-loop μ-loop
 add-u c = omega arith
 
--- src/graph.rt:105:5
 loop-less : tie.Need-loop-less Inv-loop μ-loop
 loop-less c = omega arith
 
--- src/graph.rt:105:5
 loop-again : tie.Need-loop-again Inv-loop μ-loop
 loop-again c =
     let l = c .before .before .loop in
@@ -55,11 +45,9 @@ loop-again c =
       (getD-set-same (l .sizes) (l .u) (c .row-size .result) 0 (omega arith) ∙ c .row-size .ensures),
     )
 
--- src/graph.rt:100:1
 same-length : tie.Need-same-length Inv-loop μ-loop
 same-length c = c .before .loop .inv .1
 
--- src/graph.rt:100:1
 returns : tie.Need-returns Inv-loop μ-loop
 returns c = λ x h. c .before .loop .inv .2 x (omega arith)
 

@@ -3,34 +3,25 @@ use mir.Facts.{fits-le, fits-lit}
 use borrow.Author.Needs.{needs}
 use Rattle.planner.proofs.graph.meets_epsilon.Statement.{statement}
 use Rattle.planner.proofs.graph.meets_epsilon.Tie as tie
-use Rattle.planner.proofs.graph.meets_epsilon.Reads as reads
-use Rattle.planner.proofs.graph.meets_epsilon.Lts as lts
 
--- src/graph.rt:130:5
 mul-result : tie.Need-mul-result
 mul-result c = fits-le (mul-le-mul (c .pre .3) (c .pre .3)) (fits-lit tt)
 
--- src/graph.rt:130:14
 mul-result-2 : tie.Need-mul-result-2
 mul-result-2 c = fits-le (mul-le-mul (c .pre .1) (c .pre .2)) (fits-lit tt)
 
--- src/graph.rt:130:5
 mul-result-3 : tie.Need-mul-result-3
 mul-result-3 c = fits-le (mul-le-mul (mul-le-mul (c .pre .3) (c .pre .3)) (mul-le-mul (c .pre .1) (c .pre .2))) (fits-lit tt)
 
--- src/graph.rt:130:24
 mul-result-4 : tie.Need-mul-result-4
 mul-result-4 c = fits-le (mul-le-mul (c .pre .0) (c .pre .0)) (fits-lit tt)
 
--- src/graph.rt:130:33
 mul-result-5 : tie.Need-mul-result-5
 mul-result-5 c = fits-le (mul-le-mul (c .pre .4) (c .pre .4)) (fits-lit tt)
 
--- src/graph.rt:130:24
 mul-result-6 : tie.Need-mul-result-6
 mul-result-6 c = fits-le (mul-le-mul (mul-le-mul (c .pre .0) (c .pre .0)) (mul-le-mul (c .pre .4) (c .pre .4))) (fits-lit tt)
 
--- src/graph.rt:126:1
 returns : tie.Need-returns
 returns c = search needs
 

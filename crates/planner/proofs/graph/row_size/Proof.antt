@@ -8,8 +8,6 @@ use Rattle.sets.specs.Bits.{cell}
 use Rattle.planner.proofs.GraphLaws.{row-more}
 use Rattle.planner.proofs.graph.row_size.Statement.{statement}
 use Rattle.planner.proofs.graph.row_size.Tie as tie
-use Rattle.planner.proofs.graph.row_size.Reads as reads
-use Rattle.planner.proofs.graph.row_size.Lts as lts
 
 abbrev Inv-loop : tie.InvT-loop
 Inv-loop table u n₀ j₀ n j = (j ≤ 8) × (n ≤ j * 64) × (n ≡ sum (j * 64) (λ w. cell table u w))
@@ -17,28 +15,22 @@ Inv-loop table u n₀ j₀ n j = (j ≤ 8) × (n ≤ j * 64) × (n ≡ sum (j * 
 abbrev μ-loop : tie.MeasureT-loop
 μ-loop table u n₀ j₀ n j = 8 - j
 
--- src/graph.rt:92:5
 loop-holds : tie.Need-loop-holds Inv-loop μ-loop
 unfolding sum
 loop-holds c = (omega arith, omega arith, refl)
 
--- src/graph.rt:93:36
 mul-n : tie.Need-mul-n Inv-loop μ-loop
 mul-n c = omega arith
 
--- src/graph.rt:93:36
 add-n : tie.Need-add-n Inv-loop μ-loop
 add-n c = omega arith
 
--- src/graph.rt:93:30
 mul-n-2 : tie.Need-mul-n-2 Inv-loop μ-loop
 mul-n-2 c = omega arith
 
--- src/graph.rt:93:30
 shared-slice-read-n : tie.Need-shared-slice-read-n Inv-loop μ-loop
 shared-slice-read-n c = omega arith
 
--- src/graph.rt:93:9
 -- the word that is read
 word-lt : (c : tie.After-shared-slice-known Inv-loop μ-loop) → getD (c .before .before .before .args .table .now) (c .before .before .before .args .u * 8 + c .before .before .loop .j) 0 < 2 ^ 64
 word-lt c = omega (arith, c .shared-slice-known .given (c .before .before .before .args .u * 8 + c .before .before .loop .j))
@@ -46,22 +38,18 @@ word-lt c = omega (arith, c .shared-slice-known .given (c .before .before .befor
 add-n-2 : tie.Need-add-n-2 Inv-loop μ-loop
 add-n-2 c = omega (arith, ones-le 64 _ (word-lt c))
 
--- src/graph.rt:94:9
 add-j : tie.Need-add-j Inv-loop μ-loop
 add-j c = omega arith
 
--- src/graph.rt:92:5
 loop-less : tie.Need-loop-less Inv-loop μ-loop
 loop-less c = omega arith
 
--- src/graph.rt:92:5
 loop-again : tie.Need-loop-again Inv-loop μ-loop
 loop-again c =
     let a = c .before .before .before .args in
     let l = c .before .before .loop in
     (omega arith, omega (arith, ones-le 64 _ (word-lt c)), omega (arith, row-more (a .table .now) (a .u) (l .j) (word-lt c), l .inv .2))
 
--- src/graph.rt:86:1
 returns : tie.Need-returns Inv-loop μ-loop
 returns c =
     let a = c .before .before .args in

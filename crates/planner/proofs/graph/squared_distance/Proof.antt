@@ -6,60 +6,43 @@ use Rattle.image.specs.Image.{gap, xAt, yAt, distanceAt}
 use borrow.Author.Needs.{needs}
 use Rattle.planner.proofs.graph.squared_distance.Statement.{statement}
 use Rattle.planner.proofs.graph.squared_distance.Tie as tie
-use Rattle.planner.proofs.graph.squared_distance.Reads as reads
-use Rattle.planner.proofs.graph.squared_distance.Lts as lts
-use Rattle.image.proofs.coordinate.Reads as coordinate-reads
-use Rattle.planner.proofs.graph.gap_of.Reads as gap-of-reads
 
--- src/graph.rt:54:49
 mul-coordinate : tie.Need-mul-coordinate
 mul-coordinate c = search needs
 
--- src/graph.rt:54:21
 coordinate-requires : tie.Need-coordinate-requires
 coordinate-requires c κs = search needs
 
--- src/graph.rt:54:85
 mul-coordinate-2 : tie.Need-mul-coordinate-2
 mul-coordinate-2 c = search needs
 
--- src/graph.rt:54:57
 coordinate-requires-2 : tie.Need-coordinate-requires-2
 coordinate-requires-2 c κs = search needs
 
--- src/graph.rt:54:9
 gap-of-requires : tie.Need-gap-of-requires
 gap-of-requires c κs = search needs
 
--- src/graph.rt:55:49
 mul-coordinate-3 : tie.Need-mul-coordinate-3
 mul-coordinate-3 c = search needs
 
--- src/graph.rt:55:49
 add-coordinate : tie.Need-add-coordinate
 add-coordinate c = search needs
 
--- src/graph.rt:55:21
 coordinate-requires-3 : tie.Need-coordinate-requires-3
 coordinate-requires-3 c κs = search needs
 
--- src/graph.rt:55:89
 mul-coordinate-4 : tie.Need-mul-coordinate-4
 mul-coordinate-4 c = search needs
 
--- src/graph.rt:55:89
 add-coordinate-2 : tie.Need-add-coordinate-2
 add-coordinate-2 c = search needs
 
--- src/graph.rt:55:61
 coordinate-requires-4 : tie.Need-coordinate-requires-4
 coordinate-requires-4 c κs = search needs
 
--- src/graph.rt:55:9
 gap-of-requires-2 : tie.Need-gap-of-requires-2
 gap-of-requires-2 c κs = search needs
 
--- src/graph.rt:56:5
 -- the two gaps
 gap-x : (c : tie.After-gap-of2) → (let a = c .before .before .before .before .before .before .before .args in c .before .before .before .gap-of .result ≡ gap (xAt (a .handsets .now) (a .u)) (xAt (a .handsets .now) (a .v)))
 unfolding xAt
@@ -78,15 +61,12 @@ square-y c = let h : c .gap-of2 .result ≤ 2000000 = omega (arith, gap-y c, c .
 mul-result : tie.Need-mul-result
 mul-result c = omega (arith, square-x c)
 
--- src/graph.rt:56:15
 mul-result-2 : tie.Need-mul-result-2
 mul-result-2 c = omega (arith, square-y c)
 
--- src/graph.rt:56:5
 add-result : tie.Need-add-result
 add-result c = omega (arith, square-x c, square-y c)
 
--- src/graph.rt:50:1
 returns : tie.Need-returns
 unfolding distanceAt
 returns c = ap₂ (λ (x y : ℕ). x * x + y * y) (gap-x c) (gap-y c)

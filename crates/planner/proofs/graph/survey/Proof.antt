@@ -5,35 +5,22 @@ use Rattle.planner.proofs.GraphLaws.{header-is, near-size, cores-set, c
 use borrow.Author.Needs.{needs}
 use Rattle.planner.proofs.graph.survey.Statement.{statement}
 use Rattle.planner.proofs.graph.survey.Tie as tie
-use Rattle.planner.proofs.graph.survey.Reads as reads
-use Rattle.planner.proofs.graph.survey.Lts as lts
-use Rattle.image.proofs.core_size.Reads as core-size-reads
-use Rattle.planner.proofs.graph.mark_cores.Reads as mark-cores-reads
-use Rattle.planner.proofs.graph.mark_neighbours.Reads as mark-neighbours-reads
-use Rattle.planner.proofs.graph.mark_similar.Reads as mark-similar-reads
-use Rattle.planner.proofs.graph.measure.Reads as measure-reads
 
--- src/graph.rt:190:13
 cast-n : tie.Need-cast-n
 cast-n c = search needs
 
--- src/graph.rt:192:5
 mark-neighbours-requires : tie.Need-mark-neighbours-requires
 mark-neighbours-requires c κs = search needs
 
--- src/graph.rt:193:22
 slice-aggregate-measure : tie.Need-slice-aggregate-measure
 slice-aggregate-measure c = search needs
 
--- src/graph.rt:193:5
 measure-requires : tie.Need-measure-requires
 measure-requires c κs = let r = header-is (c .before .before .before .before .before .before .before .before .before .before .before .args .image .now) (c .before .before .before .before .before .before .before .before .before .before .before .args .h) (c .before .before .before .before .before .before .before .before .before .before .before .pre .0) (c .before .before .before .before .before .before .before .before .before .before .before .pre .1) in (c .before .before .before .before .mark-neighbours .ensures .size, r .fits .n-limit, r .fits .n-limit)
 
--- src/graph.rt:194:34
 slice-aggregate-mark-similar : tie.Need-slice-aggregate-mark-similar
 slice-aggregate-mark-similar c = search needs
 
--- src/graph.rt:194:5
 mark-similar-requires : tie.Need-mark-similar-requires
 mark-similar-requires c κs =
     let s = c .before .before .before .before .before .before .before .before .before .before .before .before .before .before .before .before in
@@ -48,31 +35,24 @@ mark-similar-requires c κs =
       ),
     )
 
--- src/graph.rt:195:26
 core-size-requires : tie.Need-core-size-requires
 core-size-requires c κs = search needs
 
--- src/graph.rt:195:26
 cast-mark-cores : tie.Need-cast-mark-cores
 cast-mark-cores c = search needs
 
--- src/graph.rt:195:5
 mark-cores-requires : tie.Need-mark-cores-requires
 mark-cores-requires c κs = let r = header-is (c .before .before .before .before .before .before .before .before .before .before .before .before .before .before .before .before .before .before .before .before .before .before .args .image .now) (c .before .before .before .before .before .before .before .before .before .before .before .before .before .before .before .before .before .before .before .before .before .before .args .h) (c .before .before .before .before .before .before .before .before .before .before .before .before .before .before .before .before .before .before .before .before .before .before .pre .0) (c .before .before .before .before .before .before .before .before .before .before .before .before .before .before .before .before .before .before .before .before .before .before .pre .1) in (c .before .before .before .before .before .mark-similar .ensures .size, r .fits .n-limit, c .before .before .before .before .before .before .before .before .before .before .before .before .before .before .before .before .before .before .before .before .before .before .pre .4)
 
--- src/graph.rt:186:1
 same-length : tie.Need-same-length
 same-length c = search needs
 
--- src/graph.rt:186:1
 same-length-2 : tie.Need-same-length-2
 same-length-2 c = search needs
 
--- src/graph.rt:186:1
 same-length-3 : tie.Need-same-length-3
 same-length-3 c = search needs
 
--- src/graph.rt:186:1
 returns : tie.Need-returns
 returns c =
     let s = c .before .before .before .before .before .before .before .before .before .before .before .before .before .before .before .before .before .before .before .before .before .before .before .before .before in

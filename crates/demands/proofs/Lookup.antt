@@ -1,0 +1,52 @@
+-- The lookup on a plan's tables. They begin with the plan's, so start k and start k + 1 are in order and within the member table, question 14 gets a
+-- yes, and the part between them is the k-th community.
+use Prim.Native.Nat.{ℕ, _+_, _≤_, _<_}
+use native.Mathlib.Omega.{arith}
+use mathlib.Core.Path.{_≡_, refl, sym, ap, ap₂, _∙_, subst}
+use mathlib.Core.Bool.{Bool, true}
+use mathlib.Core.List.{List, [], _++_}
+use lib.ListN.{length, getD, drop, length-append}
+use Rattle.image.specs.Questions.{Accepted}
+use Rattle.community.specs.Tables.{startTable, memberTable}
+use Rattle.community.proofs.Tables.{table-community, starts-ordered, starts-within, length-startTable}
+use Rattle.planner.specs.Plan.{PlanCall, communitiesOf, over}
+use Rattle.planner.specs.declared.Planned.the-variants as P
+use Rattle.lookup.specs.Lookup.{placed, membersOf, lookedOf}
+use Rattle.lookup.specs.declared.Looked.{Looked}
+use Rattle.lookup.specs.declared.Looked.the-variants.{Found}
+use Rattle.lookup.proofs.Agreement.{placed-yes, looked-yes, members-slice}
+use Rattle.demands.specs.Lookup.{LookupOfPlan}
+use Rattle.demands.proofs.Demand3.{room-of, starts-made, members-made}
+
+-- of two tables that begin with the plan's
+module _ (gs : List (List ℕ)) (x y : List ℕ) (k : ℕ) (h : k < length gs) where
+  long : k + 1 < length (startTable gs ++ x)
+  long = omega (arith, length-append (startTable gs) x, length-startTable gs)
+
+  yes : placed (startTable gs ++ x) (length (memberTable gs ++ y)) k ≡ true
+  yes =
+      placed-yes (startTable gs ++ x) (length (memberTable gs ++ y)) k long (starts-ordered gs x y k h) (starts-within gs x y k h)
+
+  part : membersOf (startTable gs ++ x) (memberTable gs ++ y) k ≡ getD gs k []
+  part = members-slice (startTable gs ++ x) (memberTable gs ++ y) k long (starts-ordered gs x y k h) (starts-within gs x y k h) ∙ table-community gs x y k h
+
+module _ (s ss ms ss′ ms′ : List ℕ) (g c k : ℕ) (ok : Accepted s) (call : PlanCall s ss ms (P.Made g c) ss′ ms′) (h : k < g) where
+  in-plan : k < length (communitiesOf s)
+  in-plan = omega (arith, room-of s ss ms ss′ ms′ g c ok call .1)
+
+  starts-are : ss′ ≡ over (startTable (communitiesOf s)) ss
+  starts-are = call .starts ∙ starts-made s ss ms ok (room-of s ss ms ss′ ms′ g c ok call .0)
+
+  members-are : ms′ ≡ over (memberTable (communitiesOf s)) ms
+  members-are = call .members ∙ members-made s ss ms ok (room-of s ss ms ss′ ms′ g c ok call .0)
+
+  group-found : membersOf ss′ ms′ k ≡ getD (communitiesOf s) k []
+  group-found = ap₂ (λ (a b : List ℕ). membersOf a b k) starts-are members-are ∙ part (communitiesOf s) _ _ k in-plan
+
+  none-refused : lookedOf ss′ ms′ k ≡ Found
+  none-refused =
+      ap₂ (λ (a b : List ℕ). lookedOf a b k) starts-are members-are
+      ∙ looked-yes (over (startTable (communitiesOf s)) ss) (over (memberTable (communitiesOf s)) ms) k (yes (communitiesOf s) _ _ k in-plan)
+
+pub lookup-of-plan : LookupOfPlan
+lookup-of-plan = record { members = group-found; found = none-refused }
