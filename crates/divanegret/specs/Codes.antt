@@ -17,6 +17,9 @@ use Rattle.planner.specs.declared.Planned.{Planned}
 use Rattle.planner.specs.declared.Planned.the-variants as P
 use Rattle.planner.specs.declared.Known.{Known}
 use Rattle.planner.specs.declared.Known.the-variants as K
+use Rattle.scores.specs.declared.Tally.{Tally}
+use Rattle.scores.specs.declared.Tallied.{Tallied}
+use Rattle.scores.specs.declared.Tallied.the-variants as T
 use Rattle.lookup.specs.declared.Looked.{Looked}
 use Rattle.lookup.specs.declared.Looked.the-variants as L
 
@@ -44,6 +47,11 @@ kindCode Outlier = 2
 abbrev pub roleCode : Known → ℤ
 roleCode (K.Handset x) = pos (kindCode (x .role) + 4294967296 * min (x .neighbours) 65535)
 roleCode (K.Refused r) = refusalCode r
+
+-- a list: o + 65,536 t + 2 ^ 36 s
+abbrev pub tallyCode : Tallied → ℤ
+tallyCode (T.Of x) = pos (min (x .leaving) 65535 + 65536 * min (x .tied) 1048575 + 68719476736 * min (x .pairs) 1048575)
+tallyCode (T.Refused r) = refusalCode r
 
 -- a group: the count of its members
 abbrev pub partCode : Looked → ℕ → ℤ

@@ -6,8 +6,9 @@ ghost use Prim.Native.Nat.{_+_, _*_, _≤_, _<_, min};
 ghost use lib.ListN.{length};
 ghost use Rattle.image.specs.Questions.{openOf};
 ghost use Rattle.planner.specs.Plan.{planOf, startsAfter, membersAfter, knownOf};
+ghost use Rattle.scores.specs.Scored.{talliedOf};
 ghost use Rattle.lookup.specs.Lookup.{membersOf, lookedOf};
-ghost use Rattle.divanegret.specs.Codes.{refusalCode, openCode, planCode, kindCode, roleCode, partCode};
+ghost use Rattle.divanegret.specs.Codes.{refusalCode, openCode, planCode, kindCode, roleCode, tallyCode, partCode};
 
 use community::Role;
 use image::Opened;
@@ -15,6 +16,7 @@ use image::Refusal;
 use lookup::Looked;
 use planner::Known;
 use planner::Planned;
+use scores::Tallied;
 
 // The smaller of two numbers.
 fn at_most(x: u64, limit: u64) -> u64
@@ -71,6 +73,18 @@ fn role_code(known: Known) -> i64
     }
 }
 
+fn tally_code(t: Tallied) -> i64
+    ensures { λ z. ⌜ z ≡ tallyCode t ⌝ }
+{
+    match t {
+        Tallied::Of(x) => {
+            let inner = at_most(x.leaving as u64, 65535) + 65536 * at_most(x.tied as u64, 1048575);
+            (inner + 68719476736 * at_most(x.pairs as u64, 1048575)) as i64
+        }
+        Tallied::Refused(r) => refusal_code(r),
+    }
+}
+
 // Questions 1 to 10.
 #[no_mangle]
 pub extern "C" fn dvg_open(image: &[u8]) -> i64
@@ -93,6 +107,14 @@ pub extern "C" fn dvg_role(image: &[u8], handset: usize) -> i64
     ensures { λ z. ⌜ z ≡ roleCode (knownOf (now (image .entry)) handset) ⌝ }
 {
     role_code(planner::role(image, handset))
+}
+
+// s, t and o of a list.
+#[no_mangle]
+pub extern "C" fn dvg_scores(image: &[u8], list: &[u16]) -> i64
+    ensures { λ z. ⌜ z ≡ tallyCode (talliedOf (now (image .entry)) (now (list .entry))) ⌝ }
+{
+    tally_code(scores::tally_list(image, list))
 }
 
 // The count of members of group k.

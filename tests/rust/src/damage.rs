@@ -151,10 +151,11 @@ fn tie_edits(image: &[u8], tables: &Tables, rng: &mut Rng) -> Vec<Edit> {
         let end = at + 2 * rng.below(2);
         let ends = [n - 1, n, n + 1, 511, 512, 0xffff, 0];
         edits.extend(ends.map(|value| Edit::Set { at: end, width: 2, value }));
-        let (u, _) = pair_at(image, at);
-        let (v, w) = pair_at(image, tables.ties_at + 4 * rng.below(tables.ties));
-        let records = [record(u, u), record(v, w), record(w, v)];
-        edits.extend(records.map(|value| Edit::Set { at, width: 4, value }));
+        for _ in 0..3 {
+            let (u, v) = pair_at(image, tables.ties_at + 4 * rng.below(tables.ties));
+            let records = [record(u, u), record(u, v), record(v, u)];
+            edits.extend(records.map(|value| Edit::Set { at, width: 4, value }));
+        }
     }
     edits
 }

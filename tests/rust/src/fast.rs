@@ -290,8 +290,8 @@ impl<const W: usize, const R: usize> Network<W, R> {
         }
     }
 
-    /// Tests each near tie once, then drops those that are not alike. Two tied handsets are in both
-    /// their near sets, and in neither of the rows.
+    /// Tests each near tie once, then drops those that are not alike. Both ends are in both near sets,
+    /// and neither is in both rows.
     fn keep_alike(&mut self, p: u64, q: u64) {
         let size = |u: usize| u64::from(self.degrees[u & (R - 1)]) + 1;
         let weights: [u64; R] = std::array::from_fn(|u| p * p * size(u));
@@ -310,18 +310,21 @@ impl<const W: usize, const R: usize> Network<W, R> {
         }
     }
 
-    /// The communities of alike ties. The row of each first core is replaced by its community.
-    fn join(&mut self, handsets: usize, mu: u16) -> Communities<W, R> {
+    /// The communities of a network of near ties. The row of each first core is replaced by its
+    /// community.
+    fn communities(&mut self, image: &Image) -> Communities<W, R> {
+        self.keep_alike(image.p, image.q);
         let mut found = Communities { cores: [0; W], first_cores: [0; R], count: 0 };
-        for (u, &degree) in self.degrees[..handsets].iter().enumerate() {
-            found.cores[word_of::<W>(u)] |= u64::from(degree + 1 >= mu) << (u % 64);
+        for (u, &degree) in self.degrees[..image.handset_count()].iter().enumerate() {
+            found.cores[word_of::<W>(u)] |= u64::from(degree + 1 >= image.mu) << (u % 64);
         }
         let mut waiting = found.cores;
+        let mut stack = [0; R];
         for i in 0..W {
             while waiting[i] != 0 {
                 let first = 64 * i + waiting[i].trailing_zeros() as usize;
                 waiting[i] &= waiting[i] - 1;
-                self.rows[first & (R - 1)] = self.grow(first, &mut waiting);
+                self.rows[first & (R - 1)] = self.grow(first, &mut waiting, &mut stack);
                 found.first_cores[found.count & (R - 1)] = first as u16;
                 found.count += 1;
             }
@@ -330,10 +333,10 @@ impl<const W: usize, const R: usize> Network<W, R> {
     }
 
     /// The community of a core; its cores are taken out of those waiting.
-    fn grow(&self, first: usize, waiting: &mut [u64; W]) -> [u64; W] {
+    fn grow(&self, first: usize, waiting: &mut [u64; W], stack: &mut [u16; R]) -> [u64; W] {
         let mut members = [0; W];
         members[word_of::<W>(first)] = bit_of(first);
-        let mut stack = [first as u16; R];
+        stack[0] = first as u16;
         let mut height = 1;
         while height > 0 {
             height -= 1;
@@ -396,8 +399,7 @@ fn plan<const W: usize, const R: usize>(
     let mut network = Network::<W, R>::new();
     network.read(image)?;
     network.keep_near();
-    network.keep_alike(image.p, image.q);
-    let found = network.join(image.handset_count(), image.mu);
+    let found = network.communities(image);
     let memberships = found.sets(&network).map(|set| count(set) as usize).sum();
     if starts.len() <= found.count {
         return refuse(11, 0);
@@ -427,8 +429,7 @@ fn role<const W: usize, const R: usize>(image: &Image, handset: u64) -> Result<R
     let handset = handset as usize;
     network.keep_near();
     let near = u64::from(network.degrees[handset & (R - 1)]) + 1;
-    network.keep_alike(image.p, image.q);
-    let found = network.join(image.handset_count(), image.mu);
+    let found = network.communities(image);
     let mut sets = found.sets(&network);
     let role = if has(&found.cores, handset) {
         Role::Core(sets.position(|set| has(set, handset)).unwrap_or(0) as u64)
@@ -489,25 +490,10 @@ fn report<const W: usize, const R: usize>(
     network.read(image)?;
     let (rows, degrees) = (network.rows, network.degrees);
     network.keep_near();
-    network.keep_alike(image.p, image.q);
-    let found = network.join(image.handset_count(), image.mu);
-    let mut lines = Lines {
-        handsets: image.handset_count(),
-        ties: image.tie_count(),
-        memberships: 0,
-        network: &network,
-        found: &found,
-        scores: [[0; 3]; R],
-        outliers: [0; W],
-    };
-    let mut members = [0; W];
+    let found = network.communities(image);
+    let mut lines = Lines::new(image, &network, &found);
     for (set, scores) in found.sets(&network).zip(&mut lines.scores) {
         *scores = community_scores(set, &rows, &degrees);
-        lines.memberships += count(set);
-        members.iter_mut().zip(set).for_each(|(all, word)| *all |= word);
-    }
-    for u in 0..lines.handsets {
-        lines.outliers[word_of::<W>(u)] |= u64::from(!has(&members, u)) << (u % 64);
     }
     let mut length = Length(0);
     lines.put(&mut length);
@@ -527,6 +513,7 @@ struct Lines<'a, const W: usize, const R: usize> {
     memberships: u32,
     network: &'a Network<W, R>,
     found: &'a Communities<W, R>,
+    /// s, t and o of each community.
     scores: [[u32; 3]; R],
     outliers: [u64; W],
 }
@@ -539,7 +526,30 @@ trait Sink {
     fn handsets<const W: usize>(&mut self, set: &[u64; W]);
 }
 
-impl<const W: usize, const R: usize> Lines<'_, W, R> {
+impl<'a, const W: usize, const R: usize> Lines<'a, W, R> {
+    /// Everything but the scores.
+    fn new(image: &Image, network: &'a Network<W, R>, found: &'a Communities<W, R>) -> Self {
+        let mut memberships = 0;
+        let mut members = [0; W];
+        for set in found.sets(network) {
+            memberships += count(set);
+            members.iter_mut().zip(set).for_each(|(all, word)| *all |= word);
+        }
+        let mut outliers = [0; W];
+        for u in 0..image.handset_count() {
+            outliers[word_of::<W>(u)] |= u64::from(!has(&members, u)) << (u % 64);
+        }
+        Lines {
+            handsets: image.handset_count(),
+            ties: image.tie_count(),
+            memberships,
+            network,
+            found,
+            scores: [[0; 3]; R],
+            outliers,
+        }
+    }
+
     fn put(&self, sink: &mut impl Sink) {
         sink.put("handsets ");
         sink.number(self.handsets as u32);

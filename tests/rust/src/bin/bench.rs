@@ -13,9 +13,9 @@ use divanegret_tests::ffi::Proved;
 use divanegret_tests::reference::Reference;
 use divanegret_tests::sites::{self, Rng, Site};
 
-const ROUNDS: usize = 15;
-/// A sample repeats its call until it takes about this long.
-const SAMPLE: Duration = Duration::from_millis(2);
+const ROUNDS: usize = 51;
+/// A sample repeats its call for about this long, short enough to be rarely interrupted.
+const SAMPLE: Duration = Duration::from_micros(300);
 
 fn main() {
     let rounds = std::env::args().nth(1).and_then(|word| word.parse().ok()).unwrap_or(ROUNDS);
@@ -75,7 +75,7 @@ fn growing(ties_a_handset: usize) -> Vec<Case> {
     doubled
         .map(|ties: usize| {
             let handsets = ties.checked_div(ties_a_handset).unwrap_or(512);
-            case("", &sites::hospital(handsets, ties, &mut rng))
+            case("site", &sites::hospital(handsets, ties, &mut rng))
         })
         .collect()
 }
@@ -129,40 +129,39 @@ struct Bench<'a> {
 type Times = Vec<f64>;
 
 impl Bench<'_> {
-    /// Times every call on each image and prints a table; gives the times of the plan.
-    fn compare(&mut self, title: &str, cases: &[Case]) -> Vec<Times> {
-        print!("{title:<34}");
+    /// Times every call on each image and prints them with the ratios; gives the times by case.
+    fn compare(&mut self, title: &str, cases: &[Case]) -> Vec<[Times; 3]> {
+        print!("{title:<40}");
         self.planners.iter().for_each(|planner| print!("{:>12}", planner.name()));
         let first = self.planners[0].name();
         for other in &self.planners[1..] {
             print!("{:>20}", format!("{first}/{}", other.name()));
         }
         println!();
-        let mut plans = Vec::new();
-        for case in cases {
-            for (call, name) in CALLS {
-                let times = self.measure(call, &case.image);
-                print!("{:<34}", format!("{} {name}", case.name));
-                times.iter().for_each(|time| print!("{time:>12.2}"));
-                times[1..].iter().for_each(|time| print!("{:>20.3}", times[0] / time));
-                println!();
-                if let Call::Plan = call {
-                    plans.push(times);
-                }
-            }
-        }
+        let times = cases.iter().map(|case| CALLS.map(|call| self.row(case, call))).collect();
         println!();
-        plans
+        times
     }
 
-    /// How much longer each plan takes than that with half the ties.
-    fn growth(&self, title: &str, cases: &[Case], plans: &[Times]) {
-        println!("plan as {title}, times the one before:");
-        for (i, case) in cases.iter().enumerate().skip(1) {
-            print!("{:<34}", case.name);
-            let ratios = plans[i].iter().zip(&plans[i - 1]).map(|(time, before)| time / before);
-            ratios.for_each(|ratio| print!("{ratio:>12.2}"));
-            println!();
+    fn row(&mut self, case: &Case, (call, name): (Call, &str)) -> Times {
+        let times = self.measure(call, &case.image);
+        print!("{:<40}", format!("{} {name}", case.name));
+        times.iter().for_each(|time| print!("{time:>12.2}"));
+        times[1..].iter().for_each(|time| print!("{:>20.3}", times[0] / time));
+        println!();
+        times
+    }
+
+    /// How many times as long each call takes as with half the ties.
+    fn growth(&self, title: &str, cases: &[Case], times: &[[Times; 3]]) {
+        println!("growth as {title}: the time divided by the one before");
+        for (case, pair) in cases[1..].iter().zip(times.windows(2)) {
+            for (i, (_, name)) in CALLS.iter().enumerate() {
+                print!("{:<40}", format!("{} {name}", case.name));
+                let ratios = pair[1][i].iter().zip(&pair[0][i]).map(|(time, before)| time / before);
+                ratios.for_each(|ratio| print!("{ratio:>12.2}"));
+                println!();
+            }
         }
         println!();
     }

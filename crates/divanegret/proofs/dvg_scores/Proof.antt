@@ -1,0 +1,20 @@
+-- `divanegret::dvg_scores` meets its contract: the code of what the tally of the list is.
+use mathlib.Core.Path.{_≡_, sym, ap, ap₂, _∙_}
+use mir.Facts.{toZ-ofZ}
+use Rattle.divanegret.specs.Codes.{tallyCode}
+use borrow.Author.Needs.{needs}
+use Rattle.divanegret.proofs.dvg_scores.Statement.{statement}
+use Rattle.divanegret.proofs.dvg_scores.Tie as tie
+
+tally-list-requires : tie.Need-tally-list-requires
+tally-list-requires c κs = search needs
+
+tally-code-requires : tie.Need-tally-code-requires
+tally-code-requires c κs = search needs
+
+returns : tie.Need-returns
+returns c =
+    toZ-ofZ (search needs) ∙ c .tally-code .ensures ∙ ap tallyCode (c .before .tally-list .ensures)
+
+pub dvg-scores-spec : {M : Type 1} → statement M
+dvg-scores-spec = tie.close (tie.spec tally-list-requires tally-code-requires returns)

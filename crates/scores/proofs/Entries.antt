@@ -1,0 +1,159 @@
+-- Laws of the entries counted into a table: what its loop keeps, and that a table of multiplicities makes the tally.
+--
+--     listed              a list that question 13 passes, for at most 512 handsets
+--     blank               a new table is blank
+--     counted-more        one more entry counted
+--     counted-all         all counted: the table of multiplicities
+--     entries-no, none-bad, entries-yes     question 13, by the place where the scan of the entries stopped
+--     entries-good        a list of at most 512 entries, all below n, passes question 13
+--     table-le            no place holds more than 512
+--     tied-more, tied-le, leaving-more, leaving-le     one more edge, and how much the edges passed make
+--     table-tally         the counts by a table of multiplicities are the tally over the part
+use Prim.Native.Nat.{ℕ, zero, suc, _+_, _*_, _≤_, _<_, min}
+use native.Mathlib.Omega.{arith}
+use native.Mathlib.Numerals.{add-one}
+use native.Mathlib.Decide.{ℕ-discrete, decLt}
+use native.Mathlib.Nat.{mul-le-mul}
+use mathlib.Core.Path.{_≡_, refl, sym, ap, ap₂, _∙_, subst}
+use mathlib.Core.Logic.{_⊎_, inl, inr, ⊎-elim}
+use mathlib.Core.Bool.{Bool, true, false, _||_, not}
+use mathlib.Core.List.{List}
+use lib.Dec.{T, leb, eqb, not-T, le→leb, leb→le}
+use lib.ListN.{length, getD, set, length-replicate, getD-replicate, List·getD-eq-default}
+use lib.Seq.{getD-set-same, getD-set-other}
+use Rattle.sets.specs.Below.{any, count, sum, bit, find}
+use Rattle.sets.proofs.Tests.{or-left, or-right, or-cases, decide, not-any, none-any, find-law, find-none, eqb-of, eqb-not, T-true, T-false}
+use Rattle.sets.proofs.Bits.{zeros}
+use Rattle.sets.proofs.Counting.{count-cong, count-le, count-yes, count-no, sum-cong}
+use Rattle.image.specs.Image.{endA, endB}
+use Rattle.community.specs.Network.{contains}
+use Rattle.community.specs.Scores.{pairs, justOne}
+use Rattle.scores.specs.Scored.{badEntry, askEntries, multiplicity, edgesIn, tallyAt}
+use Rattle.scores.specs.Held.{Listed, Blank, Multiplicities, tiedBy, leavingBy}
+use Rattle.scores.specs.declared.Tally.{Tally}
+use Rattle.scores.specs.declared.Tallied.the-variants as T
+use Rattle.scores.proofs.Pairing.{multiplicity-le, multiplicity-contains}
+
+some-bad : (n : ℕ) (l : List ℕ) (i : ℕ) → (n ≤ getD l i 0) ⊎ (512 ≤ i) → T (badEntry n l i)
+unfolding badEntry
+some-bad n l i w =
+    ⊎-elim (λ h. or-left (leb n (getD l i 0)) (leb 512 i) (le→leb n (getD l i 0) h)) (λ h. or-right (leb n (getD l i 0)) (leb 512 i) (le→leb 512 i h)) w
+
+module _ (n : ℕ) (l : List ℕ) (t : T (not (any (length l) (badEntry (min n 512) l)))) where
+  not-bad : (i : ℕ) → i < length l → (min n 512 ≤ getD l i 0) ⊎ (512 ≤ i) → ⊥
+  not-bad i h w = not-any (length l) (badEntry (min n 512) l) i t h (some-bad (min n 512) l i w)
+
+  is-short : Dec (512 < length l) → length l ≤ 512
+  is-short (yes h) = absurd (not-bad 512 h (inr (omega arith)))
+  is-short (no h) = omega arith
+
+  is-low : (i : ℕ) → i < length l → Dec (getD l i 0 < 512) → getD l i 0 < 512
+  is-low i h (yes k) = k
+  is-low i h (no k) = absurd (not-bad i h (inl (omega arith)))
+
+  pub listed : Listed l
+  listed = record { short = is-short (decLt 512 (length l)); low = λ i h. is-low i h (decLt (getD l i 0) 512) }
+
+zero-at : (n v : ℕ) → Dec (v < n) → getD (zeros n) v 0 ≡ 0
+zero-at n v (yes h) = getD-replicate n v 0 0 h
+zero-at n v (no h) = List·getD-eq-default (zeros n) 0 (omega (arith, length-replicate {A = ℕ} n 0))
+
+pub blank : Blank (zeros 512)
+blank = record { size = length-replicate {A = ℕ} 512 0; zeros = λ v. zero-at 512 v (decLt v 512) }
+
+-- how often v stands among the first i entries
+abbrev pub countedTo : List ℕ → ℕ → ℕ → ℕ
+countedTo l i v = count i (λ j. eqb v (getD l j 0))
+
+module _ (l table : List ℕ) (i : ℕ) (v : ℕ) (at : getD l i 0 < length table) (e : (w : ℕ) → getD table w 0 ≡ countedTo l i w) where
+  more-at : Dec (v ≡ getD l i 0) → getD (set table (getD l i 0) (getD table (getD l i 0) 0 + 1)) v 0 ≡ countedTo l (i + 1) v
+  more-at (yes d) =
+      rw (d, getD-set-same table (getD l i 0) (getD table (getD l i 0) 0 + 1) 0 at)
+      (omega (arith, e (getD l i 0), count-yes i (λ j. eqb (getD l i 0) (getD l j 0)) (eqb-of (getD l i 0) (getD l i 0) refl)))
+  more-at (no d) =
+      getD-set-other table (getD l i 0) v (getD table (getD l i 0) 0 + 1) 0 d ∙ e v ∙ sym (count-no i (λ j. eqb v (getD l j 0)) (eqb-not v (getD l i 0) d))
+
+pub counted-more : (l table : List ℕ) (i : ℕ) → getD l i 0 < length table → ((v : ℕ) → getD table v 0 ≡ countedTo l i v)
+    → (v : ℕ) → getD (set table (getD l i 0) (getD table (getD l i 0) 0 + 1)) v 0 ≡ countedTo l (i + 1) v
+counted-more l table i at e v = more-at l table i v at e (ℕ-discrete v (getD l i 0))
+
+pub counted-all : (l table : List ℕ) (i : ℕ) → i ≡ length l → ((v : ℕ) → getD table v 0 ≡ countedTo l i v) → Multiplicities table l
+unfolding multiplicity
+counted-all l table i d e = record { held = λ v. e v ∙ ap (λ (k : ℕ). countedTo l k v) d }
+
+pub table-le : (l table : List ℕ) → Listed l → Multiplicities table l → (v : ℕ) → getD table v 0 ≤ 512
+table-le l table a m v = omega (arith, m .held v, multiplicity-le l v, a .short)
+
+-- ---- question 13, by the place where the scan of the entries stopped
+
+module _ (n : ℕ) (l : List ℕ) (t : Tally) (r : ℕ) (e : r ≡ find (length l) (badEntry n l)) where
+  pub entries-no : r < length l → T.Refused (record { number = 13; place = r }) ≡ askEntries n l t
+  unfolding askEntries
+  entries-no h =
+      ⊎-elim (λ y. rw (T-true (any (length l) (badEntry n l)) y, ← e)) (λ z. absurd (omega (arith, find-none (length l) (badEntry n l) z)))
+      (decide (any (length l) (badEntry n l)))
+
+  pub none-bad : length l ≤ r → T (not (any (length l) (badEntry n l)))
+  none-bad h =
+      ⊎-elim (λ y. absurd (omega (arith, find-law (length l) (badEntry n l) y .0))) (λ z. z)
+      (decide (any (length l) (badEntry n l)))
+
+  pub entries-yes : length l ≤ r → T.Of t ≡ askEntries n l t
+  unfolding askEntries
+  entries-yes h = rw (T-false (any (length l) (badEntry n l)) (none-bad h))
+
+-- a list of at most 512 entries, all below n, gets a yes
+good-entry : (n : ℕ) (l : List ℕ) (i : ℕ) → i < 512 → getD l i 0 < n → T (badEntry n l i) → ⊥
+unfolding badEntry
+good-entry n l i a b t =
+    ⊎-elim (λ x. omega (arith, leb→le n (getD l i 0) x)) (λ x. omega (arith, leb→le 512 i x)) (or-cases (leb n (getD l i 0)) (leb 512 i) t)
+
+pub entries-good : (n : ℕ) (l : List ℕ) (t : Tally) → length l ≤ 512 → ((i : ℕ) → i < length l → getD l i 0 < n) → askEntries n l t ≡ T.Of t
+unfolding askEntries
+entries-good n l t a b =
+    rw (T-false (any (length l) (badEntry n l)) (none-any (length l) (badEntry n l) (λ i h. not-T (badEntry n l i) (good-entry n l i (omega arith) (b i h)))))
+
+-- ---- the edges, by a table
+
+pub bit-le : (b : Bool) → bit b ≤ 1
+bit-le true = omega arith
+bit-le false = omega arith
+
+module _ (table part : List ℕ) where
+  pub tied-none : tiedBy table part 0 ≡ 0
+  unfolding tiedBy sum
+  tied-none = refl
+
+  pub leaving-none : leavingBy table part 0 ≡ 0
+  unfolding leavingBy count
+  leaving-none = refl
+
+  pub tied-more : (k : ℕ) → tiedBy table part (k + 1) ≡ tiedBy table part k + getD table (endA part k) 0 * getD table (endB part k) 0
+  unfolding tiedBy sum
+  tied-more k = rw (add-one k) (omega arith)
+
+  pub leaving-more : (k : ℕ) → leavingBy table part (k + 1) ≡ leavingBy table part k + bit (justOne (leb 1 (getD table (endA part k) 0)) (leb 1 (getD table (endB part k) 0)))
+  unfolding leavingBy count
+  leaving-more k = rw (add-one k) (omega arith)
+
+  pub leaving-le : (k : ℕ) → leavingBy table part k ≤ k
+  unfolding leavingBy
+  leaving-le k = count-le k _
+
+  pub product-le : ((v : ℕ) → getD table v 0 ≤ 512) → (a b : ℕ) → getD table a 0 * getD table b 0 ≤ 262144
+  product-le h a b = mul-le-mul {n₂ = 512} {m₂ = 512} (h a) (h b)
+
+  pub tied-le : ((v : ℕ) → getD table v 0 ≤ 512) → (k : ℕ) → tiedBy table part k ≤ 262144 * k
+  unfolding tiedBy sum
+  tied-le h zero = omega arith
+  tied-le h (suc k) = omega (arith, tied-le h k, product-le h (endA part k) (endB part k))
+
+pub table-tally : (part l table : List ℕ) → Multiplicities table l
+    → record { pairs = pairs l; tied = tiedBy table part (edgesIn part); leaving = leavingBy table part (edgesIn part) } ≡ tallyAt part l
+unfolding tallyAt tiedBy leavingBy
+table-tally part l table h =
+    let m : ℕ = edgesIn part in
+    let named : (v : ℕ) → leb 1 (getD table v 0) ≡ contains v l = λ v. ap (leb 1) (h .held v) ∙ multiplicity-contains l v in
+    ap₂ (λ (x y : ℕ). record { pairs = pairs l; tied = x; leaving = y })
+    (sum-cong m _ _ (λ k d. ap₂ _*_ (h .held (endA part k)) (h .held (endB part k))))
+    (count-cong m _ _ (λ k d. ap₂ (λ (x y : Bool). justOne x y) (named (endA part k)) (named (endB part k))))

@@ -1,0 +1,93 @@
+-- The tally and the scores of a list of handsets (source document 003, 5.3; paper 01, "Scores, lookup, report" and question 13).
+--
+--     tallyOf s l            s, t and o of the paper for an image and a list: pairs l, tiedPairs s l, leaving s l
+--     scoresFor t            density (s - t) / s and conductance o / (2t + o), neither reduced; a zero divisor gives no score
+--     badEntry n l i         question 13: entry i of the list is not below n, or stands at index 512 or later
+--     talliedOf s l          the call's answer: the image's refusal, 13 with the index of the first bad entry, or the tally
+--     scoredOf s l           the same with the scores for the tally
+--     tallyAt part l         the tally over the part of the image that the edge records stand in, edge by edge
+--     talliedAt n part l     question 13 for n handsets, and the tally over the part
+--
+-- The laws are in proofs/Tallying: over the edge records of an accepted image, tallyAt is tallyOf and talliedAt is talliedOf.
+use Prim.Native.Nat.{ℕ, _+_, _*_, _-_, _/_, min}
+use mathlib.Core.Bool.{Bool, true, false, _||_, cond}
+use mathlib.Core.List.{List}
+use lib.Dec.{leb, eqb}
+use lib.ListN.{length, getD}
+use Rattle.sets.specs.Below.{any, count, sum, find}
+use Rattle.image.specs.Image.{endA, endB}
+use Rattle.image.specs.Questions.{openOf}
+use Rattle.image.specs.declared.Refusal.{Refusal}
+use Rattle.image.specs.declared.Opened.{Opened}
+use Rattle.image.specs.declared.Opened.the-variants as O
+use Rattle.community.specs.Network.{contains}
+use Rattle.community.specs.Scores.{pairs, tiedPairs, justOne, leaving}
+use Rattle.scores.specs.declared.Tally.{Tally}
+use Rattle.scores.specs.declared.Tallied.{Tallied}
+use Rattle.scores.specs.declared.Tallied.the-variants as T
+use Rattle.scores.specs.declared.Score.{Score}
+use Rattle.scores.specs.declared.Score.the-variants.{Ratio, Nothing}
+use Rattle.scores.specs.declared.Scores.{Scores}
+use Rattle.scores.specs.declared.Scored.{Scored}
+use Rattle.scores.specs.declared.Scored.the-variants as S
+
+unfoldable pub tallyOf : List ℕ → List ℕ → Tally
+unfolding pairs tiedPairs leaving
+tallyOf s l = record { pairs = pairs l; tied = tiedPairs s l; leaving = leaving s l }
+
+-- a score that is not reduced; none for a zero divisor
+unfoldable pub score : ℕ → ℕ → Score
+score a b = cond (eqb b 0) Nothing (Ratio a b)
+
+unfoldable pub scoresFor : Tally → Scores
+unfolding score
+scoresFor t = record {
+  density = score (t .pairs - t .tied) (t .pairs);
+  conductance = score (t .leaving) (2 * t .tied + t .leaving);
+}
+
+unfoldable pub badEntry : ℕ → List ℕ → ℕ → Bool
+badEntry n l i = leb n (getD l i 0) || leb 512 i
+
+-- question 13: a no is the refusal with the first bad entry's index
+unfoldable pub askEntries : ℕ → List ℕ → Tally → Tallied
+unfolding any find badEntry
+askEntries n l t = cond (any (length l) (badEntry n l)) (T.Refused (record { number = 13; place = find (length l) (badEntry n l) })) (T.Of t)
+
+abbrev pub talliedFor : List ℕ → Opened → List ℕ → Tallied
+talliedFor s (O.Site h) l = askEntries (h .n) l (tallyOf s l)
+talliedFor s (O.Refused r) l = T.Refused r
+
+unfoldable pub talliedOf : List ℕ → List ℕ → Tallied
+unfolding openOf askEntries tallyOf
+talliedOf s l = talliedFor s (openOf s) l
+
+abbrev pub scoredFor : Tallied → Scored
+scoredFor (T.Of t) = S.Of (scoresFor t)
+scoredFor (T.Refused r) = S.Refused r
+
+unfoldable pub scoredOf : List ℕ → List ℕ → Scored
+unfolding talliedOf scoresFor
+scoredOf s l = scoredFor (talliedOf s l)
+
+-- how often v stands in a list
+unfoldable pub multiplicity : List ℕ → ℕ → ℕ
+unfolding count
+multiplicity l v = count (length l) (λ i. eqb v (getD l i 0))
+
+-- how many edge records a part holds: 4 bytes to an edge, and no image has more than 4,096 edges
+unfoldable pub edgesIn : List ℕ → ℕ
+edgesIn part = min (length part / 4) 4096
+
+unfoldable pub tallyAt : List ℕ → List ℕ → Tally
+unfolding pairs sum count multiplicity edgesIn endA endB contains
+tallyAt part l = record {
+  pairs = pairs l;
+  tied = sum (edgesIn part) (λ k. multiplicity l (endA part k) * multiplicity l (endB part k));
+  leaving = count (edgesIn part) (λ k. justOne (contains (endA part k) l) (contains (endB part k) l));
+}
+
+-- no image has more than 512 handsets
+unfoldable pub talliedAt : ℕ → List ℕ → List ℕ → Tallied
+unfolding askEntries tallyAt
+talliedAt n part l = askEntries (min n 512) l (tallyAt part l)

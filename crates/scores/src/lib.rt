@@ -1,0 +1,247 @@
+// The scores of a list of handsets: how many pairs of its places are tied, and how many edges leave it.
+//
+// Callers that have opened the image already use `tally_part`, on the part that the edge records stand in, and then `scores_of`. The others use
+// `score_list` or `tally_list`, which open the image first. The definitions are in specs/Scored, the laws in proofs/Tallying.
+ghost use mathlib.Core.Path.{_≡_};
+ghost use mathlib.Core.Bool.{_||_};
+ghost use Prim.Native.Nat.{ℕ, _+_, _*_, _-_, _≤_, min};
+ghost use lib.Dec.{leb};
+ghost use lib.ListN.{length, getD, take, drop};
+ghost use Rattle.sets.specs.Below.{bit, find};
+ghost use Rattle.community.specs.Scores.{justOne, pairs};
+ghost use Rattle.scores.specs.Scored.{badEntry, edgesIn, score, scoresFor, scoredFor, tallyAt, talliedAt, talliedOf, scoredOf};
+ghost use Rattle.scores.specs.Held.{Listed, Blank, Multiplicities, tiedBy, leavingBy};
+use image::Header;
+use image::Opened;
+use image::Refusal;
+
+// A quotient that is not reduced, or no score where its divisor is 0.
+pub enum Score {
+    Ratio(u64, u64),
+    Nothing,
+}
+
+pub struct Scores {
+    pub density: Score,
+    pub conductance: Score,
+}
+
+// What a call for the scores answers.
+pub enum Scored {
+    Of(Scores),
+    Refused(Refusal),
+}
+
+// s, t and o of a list: all pairs of places, those whose handsets are adjacent, and the edges with just one end in the list.
+pub struct Tally {
+    pub pairs: u32,
+    pub tied: u32,
+    pub leaving: u32,
+}
+
+// What a call for the tally answers.
+pub enum Tallied {
+    Of(Tally),
+    Refused(Refusal),
+}
+
+// t and o over the edges.
+struct EdgeCounts {
+    tied: u32,
+    leaving: u32,
+}
+
+// The smaller of two numbers.
+fn smaller(a: usize, b: usize) -> usize
+    ensures { λ r. ⌜ r ≡ min a b ⌝ }
+{
+    if a < b { a } else { b }
+}
+
+// Question 13 for one entry: it is not below n, or stands at index 512 or later.
+fn is_bad(n: usize, entry: u16, i: usize) -> bool
+    ensures { λ r. ⌜ r ≡ (leb n entry || leb 512 i) ⌝ }
+{
+    (n <= (entry as usize)) | (512 <= i)
+}
+
+// Question 13: the index of the first bad entry, or the list's length where there is none.
+fn first_bad_entry(n: usize, list: &[u16]) -> usize
+    ensures { λ r. ⌜ r ≡ find (length (now (list .entry))) (badEntry n (now (list .entry))) ⌝ }
+{
+    let mut i: usize = 0;
+    while i < list.len() {
+        if is_bad(n, list[i], i) {
+            return i;
+        }
+        i += 1;
+    }
+    i
+}
+
+fn wide(x: u16) -> usize
+    ensures { λ r. ⌜ r ≡ x ⌝ }
+{
+    x as usize
+}
+
+// Counts the entries of the list into a blank table: place v then holds how often v stands in the list.
+fn count_entries(list: &[u16], table: &mut [u16])
+    requires { ⌜ Listed (now list) × Blank (now table) ⌝ }
+    ensures { λ _. ⌜ Multiplicities (now (table .exit)) (now (list .entry)) ⌝ }
+{
+    let mut i: usize = 0;
+    while i < list.len() {
+        let v = wide(list[i]);
+        table[v] = table[v] + 1;
+        i += 1;
+    }
+}
+
+// What the table holds for v; 0 past its end.
+fn held(table: &[u16], v: u16) -> u32
+    ensures { λ r. ⌜ r ≡ getD (now (table .entry)) v 0 ⌝ }
+{
+    let i = wide(v);
+    if i < table.len() { table[i] as u32 } else { 0 }
+}
+
+// 1 where just one of two counts is not 0.
+fn just_one(a: u32, b: u32) -> u32
+    ensures { λ r. ⌜ r ≡ bit (justOne (leb 1 a) (leb 1 b)) ⌝ }
+{
+    let x = 1 <= a;
+    let y = 1 <= b;
+    if (x & !y) | (y & !x) { 1 } else { 0 }
+}
+
+// t and o over the first m edges, by a table of multiplicities.
+fn count_edges(edges: &[u8], m: usize, table: &[u16]) -> EdgeCounts
+    requires { ⌜ (m ≤ 4096) × ((v : ℕ) → getD (now table) v 0 ≤ 512) ⌝ }
+    ensures { λ r. ⌜ r ≡ record { tied = tiedBy (now (table .entry)) (now (edges .entry)) m; leaving = leavingBy (now (table .entry)) (now (edges .entry)) m } ⌝ }
+{
+    let mut tied: u32 = 0;
+    let mut leaving: u32 = 0;
+    let mut k: usize = 0;
+    while k < m {
+        let a = held(table, image::read2(edges, 4 * k));
+        let b = held(table, image::read2(edges, 4 * k + 2));
+        tied += a * b;
+        leaving += just_one(a, b);
+        k += 1;
+    }
+    EdgeCounts { tied, leaving }
+}
+
+// s, the count of all pairs of places of a list.
+fn pairs_of(list: &[u16]) -> u32
+    requires { ⌜ length (now list) ≤ 512 ⌝ }
+    ensures { λ r. ⌜ r ≡ pairs (now (list .entry)) ⌝ }
+{
+    let n = list.len();
+    ((n * n - n) / 2) as u32
+}
+
+// The tally of a list that question 13 passes, in one turn over the list and one over the edges.
+fn tally_listed(edges: &[u8], list: &[u16]) -> Tally
+    requires { ⌜ Listed (now list) ⌝ }
+    ensures { λ r. ⌜ r ≡ tallyAt (now (edges .entry)) (now (list .entry)) ⌝ }
+{
+    let mut table = [0u16; 512];
+    count_entries(list, &mut table);
+    let m = smaller(edges.len() / 4, 4096);
+    let counts = count_edges(edges, m, &table);
+    Tally {
+        pairs: pairs_of(list),
+        tied: counts.tied,
+        leaving: counts.leaving,
+    }
+}
+
+// The tally of a list over the part of an image that the edge records stand in, for n handsets. Refuses a list with a bad entry: 13 with the
+// first bad entry's index. More than 512 handsets count as 512, and edges past the first 4,096 are not looked at: no image has them.
+pub fn tally_part(n: u16, edges: &[u8], list: &[u16]) -> Tallied
+    ensures { λ r. ⌜ r ≡ talliedAt n (now (edges .entry)) (now (list .entry)) ⌝ }
+{
+    let bad = first_bad_entry(smaller(wide(n), 512), list);
+    if bad < list.len() {
+        return Tallied::Refused(Refusal {
+            number: 13,
+            place: bad,
+        });
+    }
+    Tallied::Of(tally_listed(edges, list))
+}
+
+// The tally of a list over an image whose edge records stand where its header says.
+fn tally_site(image: &[u8], h: Header, list: &[u16]) -> Tallied
+    requires { ⌜ h .edges + 4 * h .m ≤ length (now image) ⌝ }
+    ensures { λ r. ⌜ r ≡ talliedAt (h .n) (take (4 * h .m) (drop (h .edges) (now (image .entry)))) (now (list .entry)) ⌝ }
+{
+    let a = h.edges as usize;
+    let b = a + 4 * (h.m as usize);
+    tally_part(h.n, &image[a..b], list)
+}
+
+// The tally of a list of handsets of an image: the image's refusal, 13 with the first bad entry's index, or s, t and o.
+pub fn tally_list(image: &[u8], list: &[u16]) -> Tallied
+    ensures { λ r. ⌜ r ≡ talliedOf (now (image .entry)) (now (list .entry)) ⌝ }
+{
+    let opened = image::open(image);
+    let Opened::Site(h) = opened else {
+        return Tallied::Refused(image::refusal_of(opened));
+    };
+    tally_site(image, h, list)
+}
+
+// A quotient, or no score where the divisor is 0.
+fn score_of(a: u64, b: u64) -> Score
+    ensures { λ r. ⌜ r ≡ score a b ⌝ }
+{
+    if b == 0 {
+        Score::Nothing
+    } else {
+        Score::Ratio(a, b)
+    }
+}
+
+// The difference, 0 where there is less than what is taken away.
+fn less(a: u64, b: u64) -> u64
+    ensures { λ r. ⌜ r ≡ a - b ⌝ }
+{
+    if a < b { 0 } else { a - b }
+}
+
+// The two scores of a tally, neither reduced. The sums are made in 64 bits, where no tally wraps.
+pub fn scores_of(t: Tally) -> Scores
+    ensures { λ r. ⌜ r ≡ scoresFor t ⌝ }
+{
+    let all = t.pairs as u64;
+    let tied = t.tied as u64;
+    let leaving = t.leaving as u64;
+    Scores {
+        density: score_of(less(all, tied), all),
+        conductance: score_of(leaving, 2 * tied + leaving),
+    }
+}
+
+// The scores for an answered tally; a refusal stays what it is.
+fn scores_for(t: Tallied) -> Scored
+    ensures { λ r. ⌜ r ≡ scoredFor t ⌝ }
+{
+    match t {
+        Tallied::Of(x) => Scored::Of(scores_of(x)),
+        Tallied::Refused(r) => Scored::Refused(r),
+    }
+}
+
+// The scores of a list of handsets of an image: the image's refusal, 13 with the first bad entry's index, or density and conductance.
+pub fn score_list(image: &[u8], list: &[u16]) -> Scored
+    ensures { λ r. ⌜ r ≡ scoredOf (now (image .entry)) (now (list .entry)) ⌝ }
+{
+    let opened = image::open(image);
+    let Opened::Site(h) = opened else {
+        return Scored::Refused(image::refusal_of(opened));
+    };
+    scores_for(tally_site(image, h, list))
+}

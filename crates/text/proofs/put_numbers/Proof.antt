@@ -1,0 +1,76 @@
+-- `text::put_numbers` meets its contract. After i steps the first i numbers are written. The measure is the count of numbers left.
+use Prim.Native.Nat.{_-_, _≤_}
+use mathlib.Core.Path.{ap, _∙_}
+use native.Mathlib.Omega.{arith}
+use denote.Ref.{now}
+use lib.ListN.{length, take}
+use lib.Seq.{length-sets, take-all}
+use borrow.Author.Needs.{needs}
+use Rattle.text.specs.Text.{Wrote, numbers}
+use Rattle.text.proofs.Writing.{chain, nothing, numbers-one}
+use Rattle.text.proofs.put_numbers.Statement.{statement}
+use Rattle.text.proofs.put_numbers.Tie as tie
+
+abbrev Inv-loop : tie.InvT-loop
+Inv-loop text₀ at table i₀ next₀ text i next = (i ≤ length table) × Wrote text₀ at (numbers (take i table)) text next
+
+abbrev μ-loop : tie.MeasureT-loop
+μ-loop text₀ at table i₀ next₀ text i next = length table - i
+
+capped-requires : tie.Need-capped-requires Inv-loop μ-loop
+capped-requires c κs = search needs
+
+loop-holds : tie.Need-loop-holds Inv-loop μ-loop
+unfolding numbers
+loop-holds c = (omega arith, nothing _ _ _ (c .capped .ensures))
+
+mul-wide : tie.Need-mul-wide Inv-loop μ-loop
+mul-wide c = search needs
+
+shared-slice-read-wide : tie.Need-shared-slice-read-wide Inv-loop μ-loop
+shared-slice-read-wide c = search needs
+
+wide-requires : tie.Need-wide-requires Inv-loop μ-loop
+wide-requires c κs = search needs
+
+put-number-requires : tie.Need-put-number-requires Inv-loop μ-loop
+put-number-requires c κs = search needs
+
+add-i : tie.Need-add-i Inv-loop μ-loop
+add-i c = search needs
+
+loop-less : tie.Need-loop-less Inv-loop μ-loop
+loop-less c = search needs
+
+loop-again : tie.Need-loop-again Inv-loop μ-loop
+loop-again c =
+    let at-loop = c .before .before .before .before .before .before .before in
+    let table = now (at-loop .before .before .before .before .args .table) in (
+      omega arith,
+      rw (numbers-one table (at-loop .loop .i) (omega arith))
+          (chain (omega arith) (at-loop .loop .inv .1) (rw (c .before .before .before .wide .ensures) at (c .before .before .put-number .ensures))),
+    )
+
+same-length : tie.Need-same-length Inv-loop μ-loop
+same-length c = ap length (c .before .loop .inv .1 .list) ∙ simp length-sets
+
+returns : tie.Need-returns Inv-loop μ-loop
+returns c = rw (take-all (c .before .loop .i) (now (c .before .before .before .before .before .args .table)) (omega arith)) at (c .before .loop .inv .1)
+
+pub put-numbers-spec : {M : Type 1} → statement M
+put-numbers-spec =
+    tie.close
+    (tie.spec
+    Inv-loop
+    μ-loop
+    capped-requires
+    loop-holds
+    mul-wide
+    shared-slice-read-wide
+    wide-requires
+    put-number-requires
+    add-i
+    loop-less
+    loop-again
+    same-length
+    returns)
