@@ -41,13 +41,13 @@ memberTable-count zero m f h = refl
 memberTable-count (suc n) m f h =
     ⊎-elim
     (λ t.
-      ap (λ (l : List ℕ). length (memberTable (map (λ u. select m (h u)) l))) (select-yes n f t)
-      ∙ ap (λ (l : List (List ℕ)). length (memberTable l)) (map-append (λ u. select m (h u)) (select n f) (n ∷ []))
-      ∙ memberTable-append (map (λ u. select m (h u)) (select n f)) (map (λ u. select m (h u)) (n ∷ []))
-      ∙ rw (T-true (f n) t) (omega (arith, memberTable-count n m f h, length-append (select m (h n)) [], length-select m (h n))))
+    ap (λ (l : List ℕ). length (memberTable (map (λ u. select m (h u)) l))) (select-yes n f t)
+    ∙ ap (λ (l : List (List ℕ)). length (memberTable l)) (map-append (λ u. select m (h u)) (select n f) (n ∷ []))
+    ∙ memberTable-append (map (λ u. select m (h u)) (select n f)) (map (λ u. select m (h u)) (n ∷ []))
+    ∙ rw (T-true (f n) t) (omega (arith, memberTable-count n m f h, length-append (select m (h n)) [], length-select m (h n))))
     (λ t.
-      ap (λ (l : List ℕ). length (memberTable (map (λ u. select m (h u)) l))) (select-no n f t)
-      ∙ rw (T-false (f n) t) (omega (arith, memberTable-count n m f h, count-false m)))
+    ap (λ (l : List ℕ). length (memberTable (map (λ u. select m (h u)) l))) (select-no n f t)
+    ∙ rw (T-false (f n) t) (omega (arith, memberTable-count n m f h, count-false m)))
     (decide (f n))
 
 pub memberships : (g : Network) → length (memberTable (communities g)) ≡ sum (g .n) (leadersReaching g)
@@ -78,9 +78,9 @@ module _ {g : Network} (ok : Sound g) where
       (count-pairs (g .n) (λ u. isLeader g u && reachable g u v) 1 (λ w. true) (λ u w. w ≡ 0) (record {
         pair = λ u l t. (0, omega arith, tt, refl);
         apart = λ u w z hu hw tu tw x y.
-          leader-one ok u w v (and-left (isLeader g u) (reachable g u v) tu) (and-left (isLeader g w) (reachable g w v) tw) c
-          (reachable-sound g u v hu h (and-right (isLeader g u) (reachable g u v) tu))
-          (reachable-sound g w v hw h (and-right (isLeader g w) (reachable g w v) tw))
+            leader-one ok u w v (and-left (isLeader g u) (reachable g u v) tu) (and-left (isLeader g w) (reachable g w v) tw) c
+            (reachable-sound g u v hu h (and-right (isLeader g u) (reachable g u v) tu))
+            (reachable-sound g w v hw h (and-right (isLeader g w) (reachable g w v) tw));
       }))
       (count-le 1 (λ w. true))
 
@@ -89,21 +89,28 @@ module _ {g : Network} (ok : Sound g) where
   groupsOf-border v h c =
       count-pairs (g .n) (λ u. isLeader g u && reachable g u v) (g .n) (others g v) (λ u w. Reachable g u w × T (isCore g w)) (record {
         pair = λ u l t.
-          let m = last ok (reachable-sound g u v l h (and-right (isLeader g u) (reachable g u v) t)) in
-          let w : ℕ = m .0 in
-          (w, m .3,
-           and-make (g .neighbour w v) (not (eqb w v)) (alike-near w v (step-similar ok w v (m .1)))
-           (not-T (eqb w v) (λ e. T-not (isCore g v) c (subst (λ (x : ℕ). T (isCore g x)) (eqb→eq w v e) (step-core ok w v (m .1))))),
-           (m .2, step-core ok w v (m .1)));
+            let m = last ok (reachable-sound g u v l h (and-right (isLeader g u) (reachable g u v) t)) in
+            let w : ℕ = m .0 in (
+              w,
+              m .3,
+              and-make (g .neighbour w v) (not (eqb w v)) (alike-near w v (step-similar ok w v (m .1)))
+                  (not-T (eqb w v) (λ e. T-not (isCore g v) c (subst (λ (x : ℕ). T (isCore g x)) (eqb→eq w v e) (step-core ok w v (m .1))))),
+              (m .2, step-core ok w v (m .1)),
+            );
         apart = λ u w z hu hw tu tw x y.
-          leader-one ok u w z (and-left (isLeader g u) (reachable g u v) tu) (and-left (isLeader g w) (reachable g w v) tw) (x .1) (x .0) (y .0)
+            leader-one ok u w z (and-left (isLeader g u) (reachable g u v) tu) (and-left (isLeader g w) (reachable g w v) tw) (x .1) (x .0) (y .0);
       })
 
   pub memberships-le : length (memberTable (communities g)) ≤ g .n + sum (g .n) (λ v. count (g .n) (others g v))
   memberships-le =
-      omega (arith, memberships g, sum-const (g .n) 1, sum-add (g .n) (λ v. 1) (λ v. count (g .n) (others g v)),
-      sum-le (g .n) (leadersReaching g) (λ v. 1 + count (g .n) (others g v))
-      (λ v h. ⊎-elim (λ c. omega (arith, groupsOf-core v h c)) (λ c. omega (arith, groupsOf-border v h c)) (decide (isCore g v))))
+      omega (
+        arith,
+        memberships g,
+        sum-const (g .n) 1,
+        sum-add (g .n) (λ v. 1) (λ v. count (g .n) (others g v)),
+        sum-le (g .n) (leadersReaching g) (λ v. 1 + count (g .n) (others g v))
+            (λ v h. ⊎-elim (λ c. omega (arith, groupsOf-core v h c)) (λ c. omega (arith, groupsOf-border v h c)) (decide (isCore g v))),
+      )
 
 -- ---- edges, counted by their ends
 
@@ -119,34 +126,42 @@ others-edges s v =
     count-pairs (handsetCount s) (others (network s) v) (edgeCount s) (touches part v)
     (λ w k. SamePair (endA part k) (endB part k) w v × (w ≡ v → ⊥)) (record {
       pair = λ w h t.
-        let apart : w ≡ v → ⊥ = λ e. T-not (eqb w v) (and-right (neighbour s w v) (not (eqb w v)) t) (eqb-of w v e) in
-        let edge : T (adjacent s w v) =
+          let apart : w ≡ v → ⊥ = λ e. T-not (eqb w v) (and-right (neighbour s w v) (not (eqb w v)) t) (eqb-of w v e) in
+          let edge : T (adjacent s w v) =
           ⊎-elim (λ e. absurd (apart (eqb→eq w v e))) (λ x. and-left (adjacent s w v) _ x)
           (or-cases (eqb w v) _ (and-left (neighbour s w v) (not (eqb w v)) t)) in
-        let m = any-take (edgeCount s) (joins part w v) edge in
-        let j : SamePair (endA part (m .0)) (endB part (m .0)) w v = joins-take part w v (m .0) (m .2) in
-        (m .0, m .1,
-         ⊎-elim
-         (λ e. or-right (eqb (endA part (m .0)) v) (eqb (endB part (m .0)) v) (eqb-of (endB part (m .0)) v (e .1)))
-         (λ e. or-left (eqb (endA part (m .0)) v) (eqb (endB part (m .0)) v) (eqb-of (endA part (m .0)) v (e .0))) j,
-         (j, apart));
+          let m = any-take (edgeCount s) (joins part w v) edge in
+          let j : SamePair (endA part (m .0)) (endB part (m .0)) w v = joins-take part w v (m .0) (m .2) in (
+            m .0,
+            m .1,
+            ⊎-elim
+                (λ e. or-right (eqb (endA part (m .0)) v) (eqb (endB part (m .0)) v) (eqb-of (endB part (m .0)) v (e .1)))
+                (λ e. or-left (eqb (endA part (m .0)) v) (eqb (endB part (m .0)) v) (eqb-of (endA part (m .0)) v (e .0))) j,
+            (j, apart),
+          );
       apart = λ w w′ k h l x y p q.
-        ⊎-elim
-        (λ e. ⊎-elim (λ d. sym (e .0) ∙ d .0) (λ d. absurd (p .1 (sym (e .0) ∙ d .0))) (q .0))
-        (λ e. ⊎-elim (λ d. absurd (p .1 (sym (e .1) ∙ d .1))) (λ d. sym (e .1) ∙ d .1) (q .0))
-        (p .0)
+          ⊎-elim
+          (λ e. ⊎-elim (λ d. sym (e .0) ∙ d .0) (λ d. absurd (p .1 (sym (e .0) ∙ d .0))) (q .0))
+          (λ e. ⊎-elim (λ d. absurd (p .1 (sym (e .1) ∙ d .1))) (λ d. sym (e .1) ∙ d .1) (q .0))
+          (p .0);
     })
 
 ends-sum : (part : List ℕ) (n m : ℕ) → sum n (λ v. count m (touches part v)) ≤ m * 2
 ends-sum part n m =
-    omega (arith,
-    count-swap n m (touches part),
-    sum-const m 2,
-    sum-le m (λ k. count n (λ v. touches part v k)) (λ k. 2)
-    (λ k h. omega (arith, count-or n (λ v. eqb (endA part k) v) (λ v. eqb (endB part k) v), count-eqb n (endA part k), count-eqb n (endB part k))))
+    omega (
+      arith,
+      count-swap n m (touches part),
+      sum-const m 2,
+      sum-le m (λ k. count n (λ v. touches part v k)) (λ k. 2)
+          (λ k h. omega (arith, count-or n (λ v. eqb (endA part k) v) (λ v. eqb (endB part k) v), count-eqb n (endA part k), count-eqb n (endB part k))),
+    )
 
 pub memberships-bound : (s : List ℕ) → Accepted s → length (memberTable (communities (network s))) ≤ handsetCount s + 2 * edgeCount s
 memberships-bound s a =
-    omega (arith, memberships-le (accepted-sound s a), ends-sum (edgeRecords s) (handsetCount s) (edgeCount s),
-    sum-le (handsetCount s) (λ v. count (handsetCount s) (others (network s) v)) (λ v. count (edgeCount s) (touches (edgeRecords s) v))
-    (λ v l. others-edges s v))
+    omega (
+      arith,
+      memberships-le (accepted-sound s a),
+      ends-sum (edgeRecords s) (handsetCount s) (edgeCount s),
+      sum-le (handsetCount s) (λ v. count (handsetCount s) (others (network s) v)) (λ v. count (edgeCount s) (touches (edgeRecords s) v))
+          (λ v l. others-edges s v),
+    )

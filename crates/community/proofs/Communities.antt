@@ -38,15 +38,16 @@ module _ {g : Network} (ok : Sound g) where
       let f : ℕ → Bool = λ w. reachable g w c in
       let m = find-law (g .n) f (any-make (g .n) f c h (reachable-complete g (core-self ok c h t))) in
       let u : ℕ = find (g .n) f in
-      let r : Reachable g u c = reachable-sound g u c (m .0) h (m .1) in
-      (u,
-       and-make (isCore g u) (not (any u (λ w. reachable g w u))) (reaches-core ok r)
-       (not-T (any u (λ w. reachable g w u)) (λ a.
-         let b = any-take u (λ w. reachable g w u) a in
-         T-not (any u f) (m .2)
-         (any-make u f (b .0) (b .1)
-         (reachable-complete g (Reachable-trans (reachable-sound g (b .0) u (omega (arith, b .1, m .0)) (m .0) (b .2)) r))))),
-       r)
+      let r : Reachable g u c = reachable-sound g u c (m .0) h (m .1) in (
+        u,
+        and-make (isCore g u) (not (any u (λ w. reachable g w u))) (reaches-core ok r)
+            (not-T (any u (λ w. reachable g w u)) (λ a.
+            let b = any-take u (λ w. reachable g w u) a in
+            T-not (any u f) (m .2)
+            (any-make u f (b .0) (b .1)
+            (reachable-complete g (Reachable-trans (reachable-sound g (b .0) u (omega (arith, b .1, m .0)) (m .0) (b .2)) r))))),
+        r,
+      )
 
   -- two leader that reach one core are one
   pub leader-one : (u w c : ℕ) → T (isLeader g u) → T (isLeader g w) → T (isCore g c) → Reachable g u c → Reachable g w c → u ≡ w
@@ -55,6 +56,7 @@ module _ {g : Network} (ok : Sound g) where
     where
       x : Reachable g u w
       x = Reachable-trans r (Reachable-back ok s t)
+
       y : Reachable g w u
       y = Reachable-trans s (Reachable-back ok r t)
 
@@ -112,7 +114,7 @@ module _ {g : Network} (ok : Sound g) where
         handset = λ v x. to-below (to v x);
         has-core = (u, of u (core-self ok u (leader-below g k (l .place)) c), c);
         together = λ v w x y. (u, to v x, to w y);
-        closed = λ v w x r. of w (Reachable-trans (to v x) r)
+        closed = λ v w x r. of w (Reachable-trans (to v x) r);
       }
 
   community-listed : (P : ℕ → Type 0) → IsCommunity g P → (k : ℕ) × Listed g P k
@@ -123,16 +125,18 @@ module _ {g : Network} (ok : Sound g) where
       let f = leader-of ok c (d .handset c cP) ct in
       let p = leader-place g (f .0) (from-below (f .2)) (f .1) in
       let k : ℕ = p .0 in
-      let r : Reachable g (leader g k) c = rw (p .2) (f .2) in
-      (k, record {
-        place = p .1;
-        same = λ v. (
-          (λ x.
-            let t = d .together c v cP x in
-            reachable-member g k v (p .1) (Reachable-trans r (Reachable-trans (Reachable-back ok (t .1) ct) (t .2)))),
-          (λ m. d .closed c v cP (Reachable-trans (Reachable-back ok r ct) (member-reachable g k v (p .1) m)))
-        )
-      })
+      let r : Reachable g (leader g k) c = rw (p .2) (f .2) in (
+        k,
+        record {
+          place = p .1;
+          same = λ v. (
+            (λ x.
+                let t = d .together c v cP x in
+                reachable-member g k v (p .1) (Reachable-trans r (Reachable-trans (Reachable-back ok (t .1) ct) (t .2)))),
+            (λ m. d .closed c v cP (Reachable-trans (Reachable-back ok r ct) (member-reachable g k v (p .1) m))),
+          );
+        },
+      )
 
   -- demand 3: exactly when
   pub exactly : (P : ℕ → Type 0) → IsCommunity g P ↔ ((k : ℕ) × Listed g P k)
@@ -144,9 +148,9 @@ module _ {g : Network} (ok : Sound g) where
   core-once c i j t h k a b =
       ⊎-elim (λ e. e)
       (λ o. ⊎-elim
-        (λ l. absurd (omega (arith, one-leader, leader-ascends g i j l k)))
-        (λ l. absurd (omega (arith, one-leader, leader-ascends g j i l h)))
-        o)
+      (λ l. absurd (omega (arith, one-leader, leader-ascends g i j l k)))
+      (λ l. absurd (omega (arith, one-leader, leader-ascends g j i l h)))
+      o)
       (three i j)
     where
       one-leader : leader g i ≡ leader g j
@@ -157,5 +161,5 @@ module _ {g : Network} (ok : Sound g) where
   leader-smallest k c h t m =
       ⊎-elim (λ e. omega arith)
       (λ o. ⊎-elim (λ l. omega arith)
-        (λ l. absurd (leader-least g (leader g k) (leader-leads g k h) c l (Reachable-back ok (member-reachable g k c h m) t))) o)
+      (λ l. absurd (leader-least g (leader g k) (leader-leads g k h) c l (Reachable-back ok (member-reachable g k c h m) t))) o)
       (three (leader g k) c)

@@ -66,10 +66,10 @@ module _ (st : ℕ → ℕ → Bool) where
       ⊎-elim
       (λ e. via k u v (to-end k u (rw e at x)) (from-end k v (rw e at y)))
       (λ l.
-        ⊎-elim
-        (λ a. ⊎-elim (λ b. keep k u v (meet k w l u v a b)) (λ b. via k u v (meet k w l u k a (b .0)) (b .1)) (ways k w v y))
-        (λ a. ⊎-elim (λ b. via k u v (a .0) (meet k w l k v (a .1) b)) (λ b. via k u v (a .0) (b .1)) (ways k w v y))
-        (ways k u w x))
+      ⊎-elim
+      (λ a. ⊎-elim (λ b. keep k u v (meet k w l u v a b)) (λ b. via k u v (meet k w l u k a (b .0)) (b .1)) (ways k w v y))
+      (λ a. ⊎-elim (λ b. via k u v (a .0) (meet k w l k v (a .1) b)) (λ b. via k u v (a .0) (b .1)) (ways k w v y))
+      (ways k u w x))
       (below h)
 
   -- a step is a chain

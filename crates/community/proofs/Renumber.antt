@@ -77,16 +77,19 @@ pub community-back : (g : Network) (b : ℕ → ℕ → Bool) (r : Renumbering (
 community-back g b r moved Q d = record {
   handset = λ v x. x .0;
   has-core =
-    let c : ℕ = d .has-core .0 in
-    let h : c < g .n = d .handset c (d .has-core .1) in
-    (r .back c, (r .back-below c h, rw (r .to-back c h) (d .has-core .1)),
-     rw (core-moved (withNeighbour g b) (g .neighbour) (inverse r) (back-moved g b r moved) c h) (d .has-core .2));
+      let c : ℕ = d .has-core .0 in
+      let h : c < g .n = d .handset c (d .has-core .1) in (
+        r .back c,
+        (r .back-below c h, rw (r .to-back c h) (d .has-core .1)),
+        rw (core-moved (withNeighbour g b) (g .neighbour) (inverse r) (back-moved g b r moved) c h) (d .has-core .2),
+      );
   together = λ v w x y.
-    let t = d .together (r .to v) (r .to w) (x .1) (y .1) in
-    (r .back (t .0),
-     subst (Reachable g (r .back (t .0))) (r .back-to v (x .0)) (Reachable-unmoved g b r moved (t .1)),
-     subst (Reachable g (r .back (t .0))) (r .back-to w (y .0)) (Reachable-unmoved g b r moved (t .2)));
-  closed = λ v w x c. (to-below c, d .closed (r .to v) (r .to w) (x .1) (Reachable-moved g b r moved c))
+      let t = d .together (r .to v) (r .to w) (x .1) (y .1) in (
+        r .back (t .0),
+        subst (Reachable g (r .back (t .0))) (r .back-to v (x .0)) (Reachable-unmoved g b r moved (t .1)),
+        subst (Reachable g (r .back (t .0))) (r .back-to w (y .0)) (Reachable-unmoved g b r moved (t .2)),
+      );
+  closed = λ v w x c. (to-below c, d .closed (r .to v) (r .to w) (x .1) (Reachable-moved g b r moved c));
 }
 
 -- as many leader pass a test that depends on the community alone, before the renumbering as after
@@ -95,9 +98,9 @@ module _ (g : Network) (b : ℕ → ℕ → Bool) (r : Renumbering (g .n)) (move
   reachable-moved u v hu hv =
       T-ext (reachable (withNeighbour g b) (r .to u) (r .to v)) (reachable g u v)
       (λ t.
-        reachable-complete g
-        (rw (r .back-to u hu, r .back-to v hv) at
-        (Reachable-unmoved g b r moved (reachable-sound (withNeighbour g b) (r .to u) (r .to v) (r .to-below u hu) (r .to-below v hv) t))))
+      reachable-complete g
+      (rw (r .back-to u hu, r .back-to v hv) at
+      (Reachable-unmoved g b r moved (reachable-sound (withNeighbour g b) (r .to u) (r .to v) (r .to-below u hu) (r .to-below v hv) t))))
       (λ t. reachable-complete (withNeighbour g b) (Reachable-moved g b r moved (reachable-sound g u v hu hv t)))
 
   -- u's community is, in the renumbered network, the community of the leader w
@@ -111,19 +114,21 @@ module _ (g : Network) (b : ℕ → ℕ → Bool) (r : Renumbering (g .n)) (move
   leaders-le f f′ pass =
       count-pairs (g .n) (λ u. isLeader g u && f u) (g .n) (λ w. isLeader (withNeighbour g b) w && f′ w) Same (record {
         pair = λ u h t.
-          let tu : T (isLeader g u) = and-left (isLeader g u) (f u) t in
-          let c : T (isCore (withNeighbour g b) (r .to u)) = rw (core-moved g b r moved u h) (leader-core g u tu) in
-          let m = leader-of ok′ (r .to u) (r .to-below u h) c in
-          (m .0, from-below (m .2),
-           and-make (isLeader (withNeighbour g b) (m .0)) (f′ (m .0)) (m .1) (pass u (m .0) h (from-below (m .2)) tu (m .2) (and-right (isLeader g u) (f u) t)),
-           m .2);
+            let tu : T (isLeader g u) = and-left (isLeader g u) (f u) t in
+            let c : T (isCore (withNeighbour g b) (r .to u)) = rw (core-moved g b r moved u h) (leader-core g u tu) in
+            let m = leader-of ok′ (r .to u) (r .to-below u h) c in (
+              m .0,
+              from-below (m .2),
+              and-make (isLeader (withNeighbour g b) (m .0)) (f′ (m .0)) (m .1) (pass u (m .0) h (from-below (m .2)) tu (m .2) (and-right (isLeader g u) (f u) t)),
+              m .2,
+            );
         apart = λ u v w hu hv tu tv x y.
-          let fu : T (isLeader g u) = and-left (isLeader g u) (f u) tu in
-          let fv : T (isLeader g v) = and-left (isLeader g v) (f v) tv in
-          let cu : T (isCore (withNeighbour g b) (r .to u)) = rw (core-moved g b r moved u hu) (leader-core g u fu) in
-          let z : Reachable g u v =
+            let fu : T (isLeader g u) = and-left (isLeader g u) (f u) tu in
+            let fv : T (isLeader g v) = and-left (isLeader g v) (f v) tv in
+            let cu : T (isCore (withNeighbour g b) (r .to u)) = rw (core-moved g b r moved u hu) (leader-core g u fu) in
+            let z : Reachable g u v =
             rw (r .back-to u hu, r .back-to v hv) at (Reachable-unmoved g b r moved (Reachable-trans (Reachable-back ok′ x cu) y)) in
-          leader-one ok u v v fu fv (leader-core g v fv) z (core-self ok v hv (leader-core g v fv))
+            leader-one ok u v v fu fv (leader-core g v fv) z (core-self ok v hv (leader-core g v fv));
       })
 
 and-true : (a : Bool) → (a && true) ≡ a
@@ -140,9 +145,9 @@ module _ (g : Network) (b : ℕ → ℕ → Bool) (r : Renumbering (g .n)) (move
       (λ u w hu hw t s x. reachable-complete (withNeighbour g b) (Reachable-trans s (Reachable-moved g b r moved (reachable-sound g u v hu hv x)))))
       (leaders-le (withNeighbour g b) (g .neighbour) (inverse r) (back-moved g b r moved) ok′ ok (λ w. reachable (withNeighbour g b) w (r .to v)) (λ u. reachable g u v)
       (λ w u hw hu t s x.
-        reachable-complete g
-        (Reachable-trans s
-        (rw (r .back-to v hv) at (Reachable-unmoved g b r moved (reachable-sound (withNeighbour g b) w (r .to v) hw (r .to-below v hv) x))))))
+      reachable-complete g
+      (Reachable-trans s
+      (rw (r .back-to v hv) at (Reachable-unmoved g b r moved (reachable-sound (withNeighbour g b) w (r .to v) hw (r .to-below v hv) x))))))
 
   -- there are as many communities
   pub length-communities-moved : length (communities g) ≡ length (communities (withNeighbour g b))

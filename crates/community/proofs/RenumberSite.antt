@@ -56,7 +56,7 @@ module _ (s t : List ℕ) (r : Renumbered s t) (ok : Accepted s) where
     p = head 2 24 (omega arith) i;
     q = head 2 26 (omega arith) i;
     mu = head 2 28 (omega arith) i;
-    reserved = head 2 30 (omega arith) i
+    reserved = head 2 30 (omega arith) i;
   }
 
   pub same-handsets : handsetCount t ≡ handsetCount s
@@ -98,7 +98,7 @@ module _ (s t : List ℕ) (r : Renumbered s t) (ok : Accepted s) where
       (omega (arith, handsets-long s refl refl))
       (omega (arith, handsets-long t same-header (r .same-length), r .map .to-below v h))
       (λ j k. ap (λ (x : ℕ). getD (handsetRecords t) x 0) (shift (r .map .to v) j) ∙ r .records v (i + j) h (omega arith)
-        ∙ ap (λ (x : ℕ). getD (handsetRecords s) x 0) (sym (shift v j)))
+      ∙ ap (λ (x : ℕ). getD (handsetRecords s) x 0) (sym (shift v j)))
     where
       shift : (x j : ℕ) → 8 * x + i + j ≡ 8 * x + (i + j)
       shift x j = omega arith
@@ -132,11 +132,14 @@ module _ (s t : List ℕ) (r : Renumbered s t) (ok : Accepted s) where
   from k h =
       let l : k < edgeCount s = subst (λ (m : ℕ). k < m) same-edges h in
       let j : ℕ = r .order .back k in
-      let e : r .order .to j ≡ k = r .order .to-back k l in
-      (j, r .order .back-below k l, e,
-       subst
-       (λ (x : ℕ). SamePair (endA (edgeRecords t) x) (endB (edgeRecords t) x) (r .map .to (endA (edgeRecords s) j)) (r .map .to (endB (edgeRecords s) j)))
-       e (r .ends j (r .order .back-below k l)))
+      let e : r .order .to j ≡ k = r .order .to-back k l in (
+        j,
+        r .order .back-below k l,
+        e,
+        subst
+            (λ (x : ℕ). SamePair (endA (edgeRecords t) x) (endB (edgeRecords t) x) (r .map .to (endA (edgeRecords s) j)) (r .map .to (endB (edgeRecords s) j)))
+            e (r .ends j (r .order .back-below k l)),
+      )
 
   adjacent-to : (u v : ℕ) → T (adjacent s u v) → T (adjacent t (r .map .to u) (r .map .to v))
   unfolding adjacent
@@ -207,13 +210,13 @@ module _ (s t : List ℕ) (r : Renumbered s t) (ok : Accepted s) where
       let b = ends (f .0) (f .1) in
       let n : ℕ = handsetCount t in
       let up : (w : ℕ) → w < handsetCount s → r .map .to w < n =
-        λ w l. subst (λ (m : ℕ). r .map .to w < m) (sym same-handsets) (r .map .to-below w l) in
+      λ w l. subst (λ (m : ℕ). r .map .to w < m) (sym same-handsets) (r .map .to-below w l) in
       let a1 : ℕ = endA (edgeRecords t) k in
       let b1 : ℕ = endB (edgeRecords t) k in
       let yes : (a1 < n) × (b1 < n) =
-        ⊎-elim
-        (λ e. (subst (λ (z : ℕ). z < n) (sym (e .0)) (up _ (b .0)), subst (λ (z : ℕ). z < n) (sym (e .1)) (up _ (b .1))))
-        (λ e. (subst (λ (z : ℕ). z < n) (sym (e .0)) (up _ (b .1)), subst (λ (z : ℕ). z < n) (sym (e .1)) (up _ (b .0)))) (f .3) in
+      ⊎-elim
+      (λ e. (subst (λ (z : ℕ). z < n) (sym (e .0)) (up _ (b .0)), subst (λ (z : ℕ). z < n) (sym (e .1)) (up _ (b .1))))
+      (λ e. (subst (λ (z : ℕ). z < n) (sym (e .0)) (up _ (b .1)), subst (λ (z : ℕ). z < n) (sym (e .1)) (up _ (b .0)))) (f .3) in
       not-T (not (ltb a1 n && ltb b1 n)) (λ x. T-not (ltb a1 n && ltb b1 n) x (and-make (ltb a1 n) (ltb b1 n) (lt→ltb a1 n (yes .0)) (lt→ltb b1 n (yes .1))))
 
   no-loop : (k : ℕ) → k < edgeCount t → T (not (isLoop (edgeRecords t) k))
@@ -224,12 +227,12 @@ module _ (s t : List ℕ) (r : Renumbered s t) (ok : Accepted s) where
       let a1 : ℕ = endA (edgeRecords t) k in
       let b1 : ℕ = endB (edgeRecords t) k in
       not-T (eqb a1 b1) (λ x.
-        let e : a1 ≡ b1 = eqb→eq a1 b1 x in
-        let m : r .map .to (endA (edgeRecords s) (f .0)) ≡ r .map .to (endB (edgeRecords s) (f .0)) =
-          ⊎-elim (λ d. sym (d .0) ∙ e ∙ d .1) (λ d. sym (d .1) ∙ sym e ∙ d .0) (f .3) in
-        T-not (eqb (endA (edgeRecords s) (f .0)) (endB (edgeRecords s) (f .0))) (ok .q9 (f .0) (f .1))
-        (eqb-of (endA (edgeRecords s) (f .0)) (endB (edgeRecords s) (f .0))
-        (to-apart (r .map) (endA (edgeRecords s) (f .0)) (endB (edgeRecords s) (f .0)) (b .0) (b .1) m)))
+      let e : a1 ≡ b1 = eqb→eq a1 b1 x in
+      let m : r .map .to (endA (edgeRecords s) (f .0)) ≡ r .map .to (endB (edgeRecords s) (f .0)) =
+      ⊎-elim (λ d. sym (d .0) ∙ e ∙ d .1) (λ d. sym (d .1) ∙ sym e ∙ d .0) (f .3) in
+      T-not (eqb (endA (edgeRecords s) (f .0)) (endB (edgeRecords s) (f .0))) (ok .q9 (f .0) (f .1))
+      (eqb-of (endA (edgeRecords s) (f .0)) (endB (edgeRecords s) (f .0))
+      (to-apart (r .map) (endA (edgeRecords s) (f .0)) (endB (edgeRecords s) (f .0)) (b .0) (b .1) m)))
 
   -- two edges of s that join the same two are one
   same-edge : (j k : ℕ) → j < edgeCount s → k < edgeCount s
@@ -252,19 +255,19 @@ module _ (s t : List ℕ) (r : Renumbered s t) (ok : Accepted s) where
   no-repeat k h =
       let test : ℕ → Bool = joins (edgeRecords t) (endA (edgeRecords t) k) (endB (edgeRecords t) k) in
       not-T (any k test) (λ x.
-        let c = any-take k test x in
-        let i : ℕ = c .0 in
-        let fk = from k h in
-        let fi = from i (omega (arith, c .1, h)) in
-        let bk = ends (fk .0) (fk .1) in
-        let bi = ends (fi .0) (fi .1) in
-        let p : SamePair (endA (edgeRecords s) (fi .0)) (endB (edgeRecords s) (fi .0)) (endA (edgeRecords s) (fk .0)) (endB (edgeRecords s) (fk .0)) =
-          pair-back (r .map) (endA (edgeRecords s) (fi .0)) (endB (edgeRecords s) (fi .0)) (endA (edgeRecords s) (fk .0)) (endB (edgeRecords s) (fk .0))
-          (bi .0) (bi .1) (bk .0) (bk .1)
-          (pair-trans _ _ (endA (edgeRecords t) i) (endB (edgeRecords t) i) _ _ (pair-sym _ _ _ _ (fi .3))
-          (pair-trans _ _ (endA (edgeRecords t) k) (endB (edgeRecords t) k) _ _ (joins-take (edgeRecords t) (endA (edgeRecords t) k) (endB (edgeRecords t) k) i (c .2)) (fk .3))) in
-        let e : i ≡ k = sym (fi .2) ∙ ap (r .order .to) (same-edge (fi .0) (fk .0) (fi .1) (fk .1) p) ∙ fk .2 in
-        differ i k (c .1) e)
+      let c = any-take k test x in
+      let i : ℕ = c .0 in
+      let fk = from k h in
+      let fi = from i (omega (arith, c .1, h)) in
+      let bk = ends (fk .0) (fk .1) in
+      let bi = ends (fi .0) (fi .1) in
+      let p : SamePair (endA (edgeRecords s) (fi .0)) (endB (edgeRecords s) (fi .0)) (endA (edgeRecords s) (fk .0)) (endB (edgeRecords s) (fk .0)) =
+      pair-back (r .map) (endA (edgeRecords s) (fi .0)) (endB (edgeRecords s) (fi .0)) (endA (edgeRecords s) (fk .0)) (endB (edgeRecords s) (fk .0))
+      (bi .0) (bi .1) (bk .0) (bk .1)
+      (pair-trans _ _ (endA (edgeRecords t) i) (endB (edgeRecords t) i) _ _ (pair-sym _ _ _ _ (fi .3))
+      (pair-trans _ _ (endA (edgeRecords t) k) (endB (edgeRecords t) k) _ _ (joins-take (edgeRecords t) (endA (edgeRecords t) k) (endB (edgeRecords t) k) i (c .2)) (fk .3))) in
+      let e : i ≡ k = sym (fi .2) ∙ ap (r .order .to) (same-edge (fi .0) (fk .0) (fi .1) (fk .1) p) ∙ fk .2 in
+      differ i k (c .1) e)
     where
       differ : (i k : ℕ) → i < k → i ≡ k → ⊥
       differ i k l e = omega arith
@@ -295,8 +298,8 @@ module _ (s t : List ℕ) (r : Renumbered s t) (ok : Accepted s) where
   image-memberships =
       memberships (network s)
       ∙ sum-across (r .map) (leadersReaching (network s)) (leadersReaching (withNeighbour (network s) (neighbour t))) (handsetCount s)
-        (λ v h. count-le (handsetCount s) (λ u. isLeader (network s) u && reachable (network s) u v))
-        (λ v h. sym (leadersReaching-moved (network s) (neighbour t) (r .map) moved (accepted-sound s ok) sound-t v h))
+      (λ v h. count-le (handsetCount s) (λ u. isLeader (network s) u && reachable (network s) u v))
+      (λ v h. sym (leadersReaching-moved (network s) (neighbour t) (r .map) moved (accepted-sound s ok) sound-t v h))
       ∙ sym (memberships (withNeighbour (network s) (neighbour t)))
       ∙ ap (λ (g : Network). length (memberTable (communities g))) (sym network-moved)
 

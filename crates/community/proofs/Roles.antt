@@ -45,8 +45,8 @@ place-law v (x ∷ gs) (suc k) h m once =
     ⊎-elim
     (λ t. absurd (omega (arith, once 0 (omega arith) (contains-mem v x t))))
     (λ t.
-      rw (T-false (contains v x) t)
-      (ap suc (place-law v gs k (omega arith) m (λ j l y. omega (arith, once (suc j) (omega arith) y)))))
+    rw (T-false (contains v x) t)
+    (ap suc (place-law v gs k (omega arith) m (λ j l y. omega (arith, once (suc j) (omega arith) y)))))
     (decide (contains v x))
 
 times-append : (v : ℕ) (a b : List (List ℕ)) → membershipCount v (a ++ b) ≡ membershipCount v a + membershipCount v b
@@ -60,10 +60,10 @@ times-select zero v f h = refl
 times-select (suc n) v f h =
     ⊎-elim
     (λ t.
-      ap (λ (l : List ℕ). membershipCount v (map h l)) (select-yes n f t)
-      ∙ ap (membershipCount v) (map-append h (select n f) (n ∷ []))
-      ∙ times-append v (map h (select n f)) (map h (n ∷ []))
-      ∙ rw (T-true (f n) t) (omega (arith, times-select n v f h)))
+    ap (λ (l : List ℕ). membershipCount v (map h l)) (select-yes n f t)
+    ∙ ap (membershipCount v) (map-append h (select n f) (n ∷ []))
+    ∙ times-append v (map h (select n f)) (map h (n ∷ []))
+    ∙ rw (T-true (f n) t) (omega (arith, times-select n v f h)))
     (λ t. ap (λ (l : List ℕ). membershipCount v (map h l)) (select-no n f t) ∙ rw (T-false (f n) t) (omega (arith, times-select n v f h)))
     (decide (f n))
 

@@ -56,7 +56,7 @@ module _ (gs : List (List ℕ)) (x y : List ℕ) (k : ℕ) (h : k < length gs) w
       let c : List ℕ = getD gs k [] in
       let q : List ℕ = memberTable (drop (suc k) gs) in
       let e : memberTable gs ++ y ≡ (p ++ c) ++ (q ++ y) =
-        ap (λ (l : List ℕ). l ++ y) (memberTable-split gs k h ∙ sym (append-assoc p c q)) ∙ append-assoc (p ++ c) q y in
+      ap (λ (l : List ℕ). l ++ y) (memberTable-split gs k h ∙ sym (append-assoc p c q)) ∙ append-assoc (p ++ c) q y in
       rw (start-of gs x k (omega arith), next-of gs x k h, e, take-at (p ++ c) (q ++ y) (length p + length c) (length-append p c), drop-at p c (length p) refl)
 
   -- the two starts are in order, and within the member table
@@ -65,5 +65,11 @@ module _ (gs : List (List ℕ)) (x y : List ℕ) (k : ℕ) (h : k < length gs) w
 
   pub starts-within : getD (startTable gs ++ x) (k + 1) 0 ≤ length (memberTable gs ++ y)
   starts-within =
-      omega (arith, next-of gs x k h, length-append (memberTable gs) y, ap length (memberTable-split gs k h),
-      length-append (memberTable (take k gs)) (getD gs k [] ++ memberTable (drop (suc k) gs)), length-append (getD gs k []) (memberTable (drop (suc k) gs)))
+      omega (
+        arith,
+        next-of gs x k h,
+        length-append (memberTable gs) y,
+        ap length (memberTable-split gs k h),
+        length-append (memberTable (take k gs)) (getD gs k [] ++ memberTable (drop (suc k) gs)),
+        length-append (getD gs k []) (memberTable (drop (suc k) gs)),
+      )

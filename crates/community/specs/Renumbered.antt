@@ -20,9 +20,9 @@ pub record Renumbered (s t : List ℕ) : Type 0 where
   pub same-length : length t ≡ length s
   pub header : (i : ℕ) → i < 32 → getD t i 0 ≡ getD s i 0
   pub records : (v i : ℕ) → v < handsetCount s → i < 8
-    → getD (handsetRecords t) (8 * map .to v + i) 0 ≡ getD (handsetRecords s) (8 * v + i) 0
+      → getD (handsetRecords t) (8 * map .to v + i) 0 ≡ getD (handsetRecords s) (8 * v + i) 0
   pub ends : (k : ℕ) → k < edgeCount s
-    → SamePair (endA (edgeRecords t) (order .to k)) (endB (edgeRecords t) (order .to k))
+      → SamePair (endA (edgeRecords t) (order .to k)) (endB (edgeRecords t) (order .to k))
       (map .to (endA (edgeRecords s) k)) (map .to (endB (edgeRecords s) k))
 
 -- a set numbered back: v is in it where the number that the map took v to is in Q

@@ -104,14 +104,14 @@ module _ (s : List ℕ) (ok : Accepted s) (x y : List ℕ) where
   the-plan = record {
     exactly = λ P. (
       (λ l. C.exactly (accepted-sound s ok) P .1 (l .0, to-list P (l .0) (l .1))),
-      (λ d. let l = C.exactly (accepted-sound s ok) P .0 d in (l .0, from-list P (l .0) (l .1)))
+      (λ d. let l = C.exactly (accepted-sound s ok) P .0 d in (l .0, from-list P (l .0) (l .1))),
     );
     once = λ P j k a b.
-      let d = C.exactly (accepted-sound s ok) P .1 (j, to-list P j a) in
-      let c = d .has-core in
-      core-one (c .0) j k (c .2) (a .place) (b .place) (a .same (c .0) .0 (c .1)) (b .same (c .0) .0 (c .1));
+        let d = C.exactly (accepted-sound s ok) P .1 (j, to-list P j a) in
+        let c = d .has-core in
+        core-one (c .0) j k (c .2) (a .place) (b .place) (a .same (c .0) .0 (c .1)) (b .same (c .0) .0 (c .1));
     core-once = core-one;
-    bound = memberships-bound s ok
+    bound = memberships-bound s ok;
   }
 
 planned-law : (s ss ms : List ℕ) (a : Planned) (ss′ ms′ : List ℕ) → Accepted s → LongEnough s ss ms → PlanCall s ss ms a ss′ ms′
@@ -121,10 +121,13 @@ planned-law s ss ms a ss′ ms′ ok room call =
     let x : List ℕ = drop (length (startTable gs)) ss in
     let y : List ℕ = drop (length (memberTable gs)) ms in
     let p : ss′ ≡ startTable gs ++ x = call .starts ∙ starts-made s ss ms ok room in
-    let q : ms′ ≡ memberTable gs ++ y = call .members ∙ members-made s ss ms ok room in
-    (length gs, length (memberTable gs), call .answer ∙ plan-made s ss ms ok room,
-     subst (λ (l : List ℕ). Plan s l ms′ (length gs) (length (memberTable gs))) (sym p)
-     (subst (λ (l : List ℕ). Plan s (startTable gs ++ x) l (length gs) (length (memberTable gs))) (sym q) (the-plan s ok x y)))
+    let q : ms′ ≡ memberTable gs ++ y = call .members ∙ members-made s ss ms ok room in (
+      length gs,
+      length (memberTable gs),
+      call .answer ∙ plan-made s ss ms ok room,
+      subst (λ (l : List ℕ). Plan s l ms′ (length gs) (length (memberTable gs))) (sym p)
+          (subst (λ (l : List ℕ). Plan s (startTable gs ++ x) l (length gs) (length (memberTable gs))) (sym q) (the-plan s ok x y)),
+    )
 
 -- a call on an accepted image that answered counts had room, and counted the communities
 pub room-of : (s ss ms ss′ ms′ : List ℕ) (g c : ℕ) → Accepted s → PlanCall s ss ms (P.Made g c) ss′ ms′
@@ -132,7 +135,7 @@ pub room-of : (s ss ms ss′ ms′ : List ℕ) (g c : ℕ) → Accepted s → Pl
 unfolding planOf
 room-of s ss ms ss′ ms′ g c ok call =
     let e : planned (communitiesOf s) (length ss) (length ms) ≡ P.Made g c =
-      ap (λ (o : Opened). planFor s o (length ss) (length ms)) (sym (opened s ok)) ∙ sym (call .answer) in
+    ap (λ (o : Opened). planFor s o (length ss) (length ms)) (sym (opened s ok)) ∙ sym (call .answer) in
     let r = made-room (communitiesOf s) (length ss) (length ms) g c e in
     ((r .0, r .1), r .2, r .3)
 
@@ -168,9 +171,9 @@ module _ (s t : List ℕ) (r : Renumbered s t) (ok : Accepted s) where
       → (v : ℕ) → P v ↔ NumberedBack (r .map) Q v
   on-back P below Q same v = (
     (λ p.
-      let h : v < handsetCount s = below v p in
-      (h, same (r .map .to v) .0 (r .map .to-below v h, subst P (sym (r .map .back-to v h)) p))),
-    (λ q. subst P (r .map .back-to v (q .0)) (same (r .map .to v) .1 (q .1) .1))
+        let h : v < handsetCount s = below v p in
+        (h, same (r .map .to v) .0 (r .map .to-below v h, subst P (sym (r .map .back-to v h)) p))),
+    (λ q. subst P (r .map .back-to v (q .0)) (same (r .map .to v) .1 (q .1) .1)),
   )
 
   module _ (x y x′ y′ : List ℕ) where
@@ -188,21 +191,25 @@ module _ (s t : List ℕ) (r : Renumbered s t) (ok : Accepted s) where
     unfolding InSecond
     same-sets P = (
       (λ l.
-        let d : IsCommunity (network s) P = the-plan s ok x y .exactly P .0 l in
-        let e = community-numbered-on s t r ok P d in
-        let m = the-plan t ok-t x′ y′ .exactly (NumberedBack (inverse (r .map)) P) .1 e in
-        (m .0, subst (λ (n : ℕ). m .0 < n) (sym count-same) (m .1 .place),
-         on-back P (d .handset) (InSecond (m .0)) (m .1 .same))),
+          let d : IsCommunity (network s) P = the-plan s ok x y .exactly P .0 l in
+          let e = community-numbered-on s t r ok P d in
+          let m = the-plan t ok-t x′ y′ .exactly (NumberedBack (inverse (r .map)) P) .1 e in (
+            m .0,
+            subst (λ (n : ℕ). m .0 < n) (sym count-same) (m .1 .place),
+            on-back P (d .handset) (InSecond (m .0)) (m .1 .same),
+          )),
       (λ l.
-        let Q : ℕ → Type 0 = InSecond (l .0) in
-        let e : IsCommunity (network t) Q =
+          let Q : ℕ → Type 0 = InSecond (l .0) in
+          let e : IsCommunity (network t) Q =
           the-plan t ok-t x′ y′ .exactly Q .0
           (l .0, record { place = subst (λ (n : ℕ). l .0 < n) count-same (l .1); same = λ v. ((λ z. z), (λ z. z)) }) in
-        let m = the-plan s ok x y .exactly (NumberedBack (r .map) Q) .1 (community-numbered-back s t r ok Q e) in
-        (m .0, record {
-          place = m .1 .place;
-          same = λ v. ((λ p. m .1 .same v .0 (l .2 v .0 p)), (λ q. l .2 v .1 (m .1 .same v .1 q)))
-        }))
+          let m = the-plan s ok x y .exactly (NumberedBack (r .map) Q) .1 (community-numbered-back s t r ok Q e) in (
+            m .0,
+            record {
+              place = m .1 .place;
+              same = λ v. ((λ p. m .1 .same v .0 (l .2 v .0 p)), (λ q. l .2 v .1 (m .1 .same v .1 q)));
+            },
+          )),
     )
 
 -- the second image's call has room where the first one's had
@@ -215,19 +222,19 @@ again-law s t r ss₀ ms₀ ss′ ms′ g c ok call =
     let n : length (communitiesOf s) ≡ length (communitiesOf t) = image-communities s t r ok in
     let m : length (memberTable (communitiesOf s)) ≡ length (memberTable (communitiesOf t)) = image-memberships s t r ok in
     let room : (a b : List ℕ) → length ss₀ ≤ length a → length ms₀ ≤ length b → LongEnough t a b =
-      λ a b p q. (omega (arith, f .0 .0, n), omega (arith, f .0 .1, m)) in
+    λ a b p q. (omega (arith, f .0 .0, n), omega (arith, f .0 .1, m)) in
     record {
       accepted = opened t ok′;
       not-refused = λ a b z a′ b′ p q call′.
-        call′ .answer ∙ plan-made t a b ok′ (room a b p q) ∙ ap₂ P.Made (sym n ∙ f .1) (sym m ∙ f .2);
+          call′ .answer ∙ plan-made t a b ok′ (room a b p q) ∙ ap₂ P.Made (sym n ∙ f .1) (sym m ∙ f .2);
       same-sets = λ a b z a′ b′ p q call′ P.
-        let e1 : ss′ ≡ over (startTable (communitiesOf s)) ss₀ = call .starts ∙ starts-made s ss₀ ms₀ ok (f .0) in
-        let e2 : ms′ ≡ over (memberTable (communitiesOf s)) ms₀ = call .members ∙ members-made s ss₀ ms₀ ok (f .0) in
-        let e3 : a′ ≡ over (startTable (communitiesOf t)) a = call′ .starts ∙ starts-made t a b ok′ (room a b p q) in
-        let e4 : b′ ≡ over (memberTable (communitiesOf t)) b = call′ .members ∙ members-made t a b ok′ (room a b p q) in
-        rw (e1, e2, e3, e4, ← f .1)
-        (same-sets s t r ok (drop (length (startTable (communitiesOf s))) ss₀) (drop (length (memberTable (communitiesOf s))) ms₀)
-        (drop (length (startTable (communitiesOf t))) a) (drop (length (memberTable (communitiesOf t))) b) P);
+          let e1 : ss′ ≡ over (startTable (communitiesOf s)) ss₀ = call .starts ∙ starts-made s ss₀ ms₀ ok (f .0) in
+          let e2 : ms′ ≡ over (memberTable (communitiesOf s)) ms₀ = call .members ∙ members-made s ss₀ ms₀ ok (f .0) in
+          let e3 : a′ ≡ over (startTable (communitiesOf t)) a = call′ .starts ∙ starts-made t a b ok′ (room a b p q) in
+          let e4 : b′ ≡ over (memberTable (communitiesOf t)) b = call′ .members ∙ members-made t a b ok′ (room a b p q) in
+          rw (e1, e2, e3, e4, ← f .1)
+          (same-sets s t r ok (drop (length (startTable (communitiesOf s))) ss₀) (drop (length (memberTable (communitiesOf s))) ms₀)
+          (drop (length (startTable (communitiesOf t))) a) (drop (length (memberTable (communitiesOf t))) b) P);
       same-roles = standings s t r ok;
     }
 

@@ -61,10 +61,10 @@ pub record SameStanding (a b : Known) : Type 0 where
 pub record Again (s t : List ℕ) (r : Renumbered s t) (ss₀ ms₀ ss ms : List ℕ) (g c : ℕ) : Type 1 where
   pub accepted : openOf t ≡ Site (headerOf t)
   pub not-refused : (ts us : List ℕ) (b : Planned) (ts′ us′ : List ℕ) → length ss₀ ≤ length ts → length ms₀ ≤ length us
-    → PlanCall t ts us b ts′ us′ → b ≡ Made g c
+      → PlanCall t ts us b ts′ us′ → b ≡ Made g c
   pub same-sets : (ts us : List ℕ) (b : Planned) (ts′ us′ : List ℕ) → length ss₀ ≤ length ts → length ms₀ ≤ length us
-    → PlanCall t ts us b ts′ us′
-    → (P : ℕ → Type 0) → Listed ss ms g P ↔ ((k : ℕ) × (k < g) × ((v : ℕ) → P v ↔ NumberedBack (r .map) (λ w. List·Memᴰ w (group ts′ us′ k)) v))
+      → PlanCall t ts us b ts′ us′
+      → (P : ℕ → Type 0) → Listed ss ms g P ↔ ((k : ℕ) × (k < g) × ((v : ℕ) → P v ↔ NumberedBack (r .map) (λ w. List·Memᴰ w (group ts′ us′ k)) v))
   pub same-roles : (v : ℕ) → v < handsetCount s → SameStanding (knownOf s v) (knownOf t (r .map .to v))
 
 -- tables ss and ms that are long enough for the image's plan
@@ -74,6 +74,6 @@ LongEnough s ss ms = (length (communitiesOf s) + 1 ≤ length ss) × (length (me
 -- The plan call on an accepted image with tables long enough is not refused, and what it writes is the plan; and for every renumbering, again.
 pub record Demand3 : Type 1 where
   pub planned : (s ss ms : List ℕ) (a : Planned) (ss′ ms′ : List ℕ) → Accepted s → LongEnough s ss ms → PlanCall s ss ms a ss′ ms′
-    → (g : ℕ) × (c : ℕ) × (a ≡ Made g c) × Plan s ss′ ms′ g c
+      → (g : ℕ) × (c : ℕ) × (a ≡ Made g c) × Plan s ss′ ms′ g c
   pub renumbered : (s t : List ℕ) (r : Renumbered s t) (ss ms : List ℕ) (ss′ ms′ : List ℕ) (g c : ℕ) → Accepted s
-    → PlanCall s ss ms (Made g c) ss′ ms′ → Again s t r ss ms ss′ ms′ g c
+      → PlanCall s ss ms (Made g c) ss′ ms′ → Again s t r ss ms ss′ ms′ g c

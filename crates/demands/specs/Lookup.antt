@@ -13,6 +13,6 @@ use Rattle.lookup.specs.declared.Looked.the-variants.{Found}
 
 pub record LookupOfPlan : Type 0 where
   pub members : (s ss ms ss′ ms′ : List ℕ) (g c k : ℕ) → Accepted s → PlanCall s ss ms (Made g c) ss′ ms′ → k < g
-    → membersOf ss′ ms′ k ≡ getD (communitiesOf s) k []
+      → membersOf ss′ ms′ k ≡ getD (communitiesOf s) k []
   pub found : (s ss ms ss′ ms′ : List ℕ) (g c k : ℕ) → Accepted s → PlanCall s ss ms (Made g c) ss′ ms′ → k < g
-    → lookedOf ss′ ms′ k ≡ Found
+      → lookedOf ss′ ms′ k ≡ Found

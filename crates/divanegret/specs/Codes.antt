@@ -20,6 +20,8 @@ use Rattle.planner.specs.declared.Known.the-variants as K
 use Rattle.scores.specs.declared.Tally.{Tally}
 use Rattle.scores.specs.declared.Tallied.{Tallied}
 use Rattle.scores.specs.declared.Tallied.the-variants as T
+use Rattle.reporting.specs.declared.Reported.{Reported}
+use Rattle.reporting.specs.declared.Reported.the-variants as R
 use Rattle.lookup.specs.declared.Looked.{Looked}
 use Rattle.lookup.specs.declared.Looked.the-variants as L
 
@@ -57,3 +59,8 @@ tallyCode (T.Refused r) = refusalCode r
 abbrev pub partCode : Looked → ℕ → ℤ
 partCode L.Found n = pos n
 partCode (L.Refused r) n = refusalCode r
+
+-- a report: the text's length, or the refusal's number made negative
+abbrev pub reportCode : Reported → ℤ
+reportCode (R.Written n) = pos (min n 9223372036854775807)
+reportCode (R.Refused r) = negℤ (pos (r .number))

@@ -7,15 +7,16 @@ ghost use lib.ListN.{length};
 ghost use Rattle.image.specs.Questions.{openOf};
 ghost use Rattle.planner.specs.Plan.{planOf, startsAfter, membersAfter, knownOf};
 ghost use Rattle.scores.specs.Scored.{talliedOf};
+ghost use Rattle.reporting.specs.Report.{reportOf, textAfter};
 ghost use Rattle.lookup.specs.Lookup.{membersOf, lookedOf};
-ghost use Rattle.divanegret.specs.Codes.{refusalCode, openCode, planCode, kindCode, roleCode, tallyCode, partCode};
-
+ghost use Rattle.divanegret.specs.Codes.{refusalCode, openCode, planCode, kindCode, roleCode, tallyCode, partCode, reportCode};
 use community::Role;
 use image::Opened;
 use image::Refusal;
 use lookup::Looked;
 use planner::Known;
 use planner::Planned;
+use reporting::Reported;
 use scores::Tallied;
 
 // The smaller of two numbers.
@@ -83,6 +84,24 @@ fn tally_code(t: Tallied) -> i64
         }
         Tallied::Refused(r) => refusal_code(r),
     }
+}
+
+// The text's length, or the refusal's number made negative, without its place.
+fn report_code(reported: Reported) -> i64
+    ensures { λ z. ⌜ z ≡ reportCode reported ⌝ }
+{
+    match reported {
+        Reported::Written(length) => at_most(length as u64, 9223372036854775807) as i64,
+        Reported::Refused(r) => -(r.number as i64),
+    }
+}
+
+// The report of an image, in the text buffer.
+#[no_mangle]
+pub extern "C" fn dvg_report(image: &[u8], text: &mut [u8]) -> i64
+    ensures { λ z. ⌜ (z ≡ reportCode (reportOf (now (image .entry)) (length (now (text .entry))))) × (now (text .exit) ≡ textAfter (now (image .entry)) (now (text .entry))) ⌝ }
+{
+    report_code(reporting::report(image, text))
 }
 
 // Questions 1 to 10.

@@ -53,19 +53,21 @@ accepted s h e =
     let a7 = pass-each (headerOf s .n) (outOfLimits (handsetRecords s)) _ _ (a6 .1) in
     let a8 = pass-each (headerOf s .m) (badEnd (edgeRecords s) (headerOf s .n)) _ _ (a7 .1) in
     let a9 = pass-each (headerOf s .m) (isLoop (edgeRecords s)) _ _ (a8 .1) in
-    let a10 = pass-each (headerOf s .m) (repeatsEarlier (edgeRecords s)) _ _ (a9 .1) in
-    (record {
-      q1 = a1 .0;
-      q2 = a2 .0;
-      q3 = a3 .0;
-      q4 = a4 .0;
-      q5 = a5 .0;
-      q6 = a6 .0;
-      q7 = any-none (handsetCount s) (outOfLimits (handsetRecords s)) (a7 .0);
-      q8 = any-none (edgeCount s) (badEnd (edgeRecords s) (handsetCount s)) (a8 .0);
-      q9 = any-none (edgeCount s) (isLoop (edgeRecords s)) (a9 .0);
-      q10 = any-none (edgeCount s) (repeatsEarlier (edgeRecords s)) (a10 .0);
-    }, sym (same (a10 .1)))
+    let a10 = pass-each (headerOf s .m) (repeatsEarlier (edgeRecords s)) _ _ (a9 .1) in (
+      record {
+        q1 = a1 .0;
+        q2 = a2 .0;
+        q3 = a3 .0;
+        q4 = a4 .0;
+        q5 = a5 .0;
+        q6 = a6 .0;
+        q7 = any-none (handsetCount s) (outOfLimits (handsetRecords s)) (a7 .0);
+        q8 = any-none (edgeCount s) (badEnd (edgeRecords s) (handsetCount s)) (a8 .0);
+        q9 = any-none (edgeCount s) (isLoop (edgeRecords s)) (a9 .0);
+        q10 = any-none (edgeCount s) (repeatsEarlier (edgeRecords s)) (a10 .0);
+      },
+      sym (same (a10 .1)),
+    )
 
 pub opened : (s : List ℕ) → Accepted s → openOf s ≡ Site (headerOf s)
 unfolding openOf askHeader askRecords askEach headerOf
@@ -162,12 +164,14 @@ header-yes h g e =
     let a3 = pass (countsFit h) _ _ _ e in
     let a4 = pass (eqb (h .reserved) 0) _ _ _ (a3 .1) in
     let a5 = pass (thresholdsFit h) _ _ _ (a4 .1) in
-    let a6 = pass (tablesFit h) _ _ _ (a5 .1) in
-    (fits h (a3 .0) (a5 .0) (a6 .0), λ next.
-      go-on (countsFit h) _ _ _ (a3 .0)
-      ∙ go-on (eqb (h .reserved) 0) _ _ _ (a4 .0)
-      ∙ go-on (thresholdsFit h) _ _ _ (a5 .0)
-      ∙ go-on (tablesFit h) _ _ _ (a6 .0))
+    let a6 = pass (tablesFit h) _ _ _ (a5 .1) in (
+      fits h (a3 .0) (a5 .0) (a6 .0),
+      λ next.
+          go-on (countsFit h) _ _ _ (a3 .0)
+          ∙ go-on (eqb (h .reserved) 0) _ _ _ (a4 .0)
+          ∙ go-on (thresholdsFit h) _ _ _ (a5 .0)
+          ∙ go-on (tablesFit h) _ _ _ (a6 .0),
+    )
 
 stop : {r : Refusal} (b : Bool) (k p : ℕ) (x y : Opened) → (x ≡ Refused r → y ≡ Refused r) → ask b k p x ≡ Refused r → ask b k p y ≡ Refused r
 unfolding ask

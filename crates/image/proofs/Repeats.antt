@@ -39,11 +39,13 @@ same-pair a b u v ha hb hu hv = T-ext ((eqb a u && eqb b v) || (eqb a v && eqb b
         (λ w. eqb-of (pairCell a b) (pairCell u v) (omega (arith, eqb→eq a u (and-left (eqb a u) (eqb b v) w), eqb→eq b v (and-right (eqb a u) (eqb b v) w))))
         (λ w. eqb-of (pairCell a b) (pairCell u v) (omega (arith, eqb→eq a v (and-left (eqb a v) (eqb b u) w), eqb→eq b u (and-right (eqb a v) (eqb b u) w))))
         (or-cases (eqb a u && eqb b v) (eqb a v && eqb b u) t)
+
     either : pairCell a b ≡ pairCell u v → Dec (a ≡ u) → T ((eqb a u && eqb b v) || (eqb a v && eqb b u))
     either e (yes d) =
         or-left (eqb a u && eqb b v) (eqb a v && eqb b u) (and-make (eqb a u) (eqb b v) (eqb-of a u d) (eqb-of b v (omega arith)))
     either e (no d) =
         or-right (eqb a u && eqb b v) (eqb a v && eqb b u) (and-make (eqb a v) (eqb b u) (eqb-of a v (omega arith)) (eqb-of b u (omega arith)))
+
     back : T (eqb (pairCell a b) (pairCell u v)) → T ((eqb a u && eqb b v) || (eqb a v && eqb b u))
     back t = either (eqb→eq (pairCell a b) (pairCell u v) t) (ℕ-discrete a u)
 
@@ -53,9 +55,9 @@ unfolding repeatsEarlier joins
 repeats-cell part k small =
     any-cong k (joins part (endA part k) (endB part k)) (λ (j : ℕ). eqb (edgeCell part j) (edgeCell part k))
     (λ j h.
-      let x = small j (omega arith) in
-      let y = small k (omega arith) in
-      same-pair (endA part j) (endB part j) (endA part k) (endB part k) (x .0) (x .1) (y .0) (y .1))
+    let x = small j (omega arith) in
+    let y = small k (omega arith) in
+    same-pair (endA part j) (endB part j) (endA part k) (endB part k) (x .0) (x .1) (y .0) (y .1))
 
 pub Seen : List ℕ → ℕ → List ℕ → Type 0
 Seen part k seen = (i : ℕ) → eqb (bitAt seen i) 1 ≡ any k (λ (j : ℕ). eqb (edgeCell part j) i)

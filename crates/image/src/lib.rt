@@ -1,7 +1,7 @@
 // The site image: the numbers in its bytes, and the reader that puts questions 1 to 10 to it.
 //
 // `open` answers the header of an image that is accepted, or the number and place of the first no. Callers read the records on by `read2`
-// and `coordinate`, and cite `accepted` and `Limits` of proofs/Acceptance for what an accepted image keeps to.
+// and `coordinate`, and cite `accepted`, `accepted-fits`, `ends-below` and `x-limits` of proofs/Acceptance for what an accepted image keeps to.
 ghost use mathlib.Core.Path.{_≡_};
 ghost use Prim.Native.Nat.{ℕ, _+_, _*_, _≤_, _<_, min, max};
 ghost use lib.Dec.{leb};
@@ -11,6 +11,7 @@ ghost use Rattle.image.specs.Bytes.{le, number};
 ghost use Rattle.image.specs.Image.{coreSize, shifted, endA, endB};
 ghost use Rattle.image.specs.Questions.{headerOf, countsFit, thresholdsFit, tablesFit, inLimits, outOfLimits, badEnd, isLoop, repeatsEarlier, ask, askEach, askRecords, askHeader, openOf, refusalOf};
 
+// The header's numbers as they stand: `limit` is G, and a blank `mu` is still 0 (`core_size`).
 pub struct Header {
     pub n: u16,
     pub m: u16,
@@ -24,11 +25,13 @@ pub struct Header {
     pub reserved: u16,
 }
 
+// The paper's number and place.
 pub struct Refusal {
     pub number: u32,
     pub place: usize,
 }
 
+// The reader's answer.
 pub enum Opened {
     Site(Header),
     Refused(Refusal),
@@ -38,13 +41,10 @@ pub enum Opened {
 fn stands(len: usize, at: usize, w: usize) -> bool
     ensures { λ r. ⌜ r ≡ leb (at + w) len ⌝ }
 {
-    if len < w {
-        false
-    } else {
-        at <= len - w
-    }
+    if len < w { false } else { at <= len - w }
 }
 
+// A byte, wide enough for the sums.
 fn wide(x: u8) -> u64
     ensures { λ r. ⌜ (r ≡ x) × (r < 256) ⌝ }
 {
@@ -59,7 +59,7 @@ fn two(s: &[u8], at: usize) -> u64
     wide(s[at]) + 256 * wide(s[at + 1])
 }
 
-// The number in four bytes: a flat sum of multiples, which the compiler reads as one word.
+// The number in four bytes: its two halves, which the compiler reads as one word.
 fn four(s: &[u8], at: usize) -> u64
     requires { ⌜ at + 4 ≤ length (now s) ⌝ }
     ensures { λ r. ⌜ (r ≡ le 4 (now (s .entry)) at) × (r < 4294967296) ⌝ }
@@ -67,7 +67,7 @@ fn four(s: &[u8], at: usize) -> u64
     two(s, at) + 65536 * two(s, at + 2)
 }
 
-// The number in the two bytes at a place; 0 where fewer stand there. So for four and eight.
+// The number in the two bytes at a place; 0 where fewer stand there.
 pub fn read2(s: &[u8], at: usize) -> u16
     ensures { λ r. ⌜ r ≡ number 2 (now (s .entry)) at ⌝ }
 {
@@ -78,6 +78,7 @@ pub fn read2(s: &[u8], at: usize) -> u16
     }
 }
 
+// The same for four bytes.
 pub fn read4(s: &[u8], at: usize) -> u32
     ensures { λ r. ⌜ r ≡ number 4 (now (s .entry)) at ⌝ }
 {
@@ -88,6 +89,7 @@ pub fn read4(s: &[u8], at: usize) -> u32
     }
 }
 
+// The same for eight.
 fn read8(s: &[u8], at: usize) -> u64
     ensures { λ r. ⌜ r ≡ number 8 (now (s .entry)) at ⌝ }
 {
@@ -109,11 +111,7 @@ pub fn coordinate(part: &[u8], at: usize) -> u64
 pub fn core_size(mu: u16) -> u16
     ensures { λ r. ⌜ r ≡ coreSize mu ⌝ }
 {
-    if mu == 0 {
-        3
-    } else {
-        mu
-    }
+    if mu == 0 { 3 } else { mu }
 }
 
 // The header's numbers as they stand; 0 for one that is not there.
@@ -160,6 +158,7 @@ fn tables_fit(h: Header) -> bool
     (32 <= a) & ((32 <= b) & ((a_end <= len) & ((b_end <= len) & ((a_end <= b) | (b_end <= a)))))
 }
 
+// The answer of a no.
 fn refused(number: u32, place: usize) -> Opened
     ensures { λ r. ⌜ r ≡ Opened.Refused (record { number = number; place = place }) ⌝ }
 {
@@ -170,11 +169,7 @@ fn refused(number: u32, place: usize) -> Opened
 fn put_question(yes: bool, number: u32, place: usize, next: Opened) -> Opened
     ensures { λ r. ⌜ r ≡ ask yes number place next ⌝ }
 {
-    if yes {
-        next
-    } else {
-        refused(number, place)
-    }
+    if yes { next } else { refused(number, place) }
 }
 
 // Questions 3 to 6, of the header alone.
@@ -194,6 +189,7 @@ fn in_limits(x: u64) -> bool
     (2146483648 <= x) & (x <= 2148483648)
 }
 
+// Whether handset v has a coordinate out of its limits.
 fn out_of_limits(part: &[u8], v: u16) -> bool
     ensures { λ r. ⌜ r ≡ outOfLimits (now (part .entry)) v ⌝ }
 {
@@ -201,6 +197,7 @@ fn out_of_limits(part: &[u8], v: u16) -> bool
     !(in_limits(coordinate(part, at)) & in_limits(coordinate(part, at + 4)))
 }
 
+// Whether edge k has an end that is no handset.
 fn bad_end(part: &[u8], n: u16, k: u16) -> bool
     ensures { λ r. ⌜ r ≡ badEnd (now (part .entry)) n k ⌝ }
 {
@@ -208,6 +205,7 @@ fn bad_end(part: &[u8], n: u16, k: u16) -> bool
     !((read2(part, at) < n) & (read2(part, at + 2) < n))
 }
 
+// Whether edge k goes from a handset to itself.
 fn is_loop(part: &[u8], k: u16) -> bool
     ensures { λ r. ⌜ r ≡ isLoop (now (part .entry)) k ⌝ }
 {
@@ -264,11 +262,7 @@ fn cell_of(part: &[u8], k: u16) -> usize
     let at = 4 * (k as usize);
     let a = read2(part, at) as usize;
     let b = read2(part, at + 2) as usize;
-    if a < b {
-        a * 512 + b
-    } else {
-        b * 512 + a
-    }
+    if a < b { a * 512 + b } else { b * 512 + a }
 }
 
 // Question 10: the first edge that joins what an earlier one joins, or m where there is none. Each edge seen sets a bit, so each is looked at once.
@@ -357,6 +351,9 @@ pub fn refusal_of(o: Opened) -> Refusal
 {
     match o {
         Opened::Refused(r) => r,
-        Opened::Site(_) => Refusal { number: 0, place: 0 },
+        Opened::Site(_) => Refusal {
+            number: 0,
+            place: 0,
+        },
     }
 }

@@ -67,9 +67,9 @@ module _ (s : List ℕ) (ok : Accepted s) where
       record {
         answer = p ∙ ap (λ (gs : List (List ℕ)). planned gs (length ss) (length ms)) e ∙ sym (ap (λ (o : Opened). planFor s o (length ss) (length ms)) (opened s ok));
         starts = q ∙ ap (λ (gs : List (List ℕ)). byRoom gs (length ss) (length ms) ss ss (over (startTable gs) ss)) e
-          ∙ sym (ap (λ (o : Opened). tableFor s o (length ss) (length ms) (startTable (communitiesOf s)) ss) (opened s ok));
+            ∙ sym (ap (λ (o : Opened). tableFor s o (length ss) (length ms) (startTable (communitiesOf s)) ss) (opened s ok));
         members = r ∙ ap (λ (gs : List (List ℕ)). byRoom gs (length ss) (length ms) ms ms (over (memberTable gs) ms)) e
-          ∙ sym (ap (λ (o : Opened). tableFor s o (length ss) (length ms) (memberTable (communitiesOf s)) ms) (opened s ok));
+            ∙ sym (ap (λ (o : Opened). tableFor s o (length ss) (length ms) (memberTable (communitiesOf s)) ms) (opened s ok));
       }
 
   pub cores-found : {ws : List ℕ} → SetOf ws (coreIn (network s)) → CoreWords s ws
@@ -81,7 +81,7 @@ module _ (s : List ℕ) (ok : Accepted s) where
   known-past v h =
       sym (ap (λ (o : Opened). knownFor s o v) (opened s ok)
       ∙ ap (λ (b : Bool). cond b (K.Handset (standing s v)) (K.Refused (refusal 13)))
-        (T-false (ltb v (handsetCount s)) (not-T (ltb v (handsetCount s)) (λ t. omega (arith, ltb→lt v (handsetCount s) t)))))
+      (T-false (ltb v (handsetCount s)) (not-T (ltb v (handsetCount s)) (λ t. omega (arith, ltb→lt v (handsetCount s) t)))))
 
   -- the bit of a handset in the set of cores says whether it is one
   core-bit : {ws : List ℕ} → SetOf ws (coreIn (network s)) → (v : ℕ) → v < handsetCount s → eqb (bitAt ws v) 1 ≡ isCore (network s) v

@@ -9,7 +9,7 @@
 --     row-more, common-more      the marks of a row, and those of two rows in common, counted a word at a time
 --     near-size, near-common, similar-size     these counts are those of the network
 --     cores-set                  the cores by the counts of the similarity table
-use Prim.Native.Nat.{ℕ, zero, suc, _+_, _*_, _-_, _/_, _^_, _≤_, _<_, min}
+use Prim.Native.Nat.{ℕ, zero, suc, _+_, _*_, _-_, _^_, _≤_, _<_, min}
 use native.Mathlib.Omega.{arith}
 use native.Mathlib.Nat.{add-sub-cancel-left}
 use native.Mathlib.Numerals.{add-one}
@@ -22,13 +22,13 @@ use lib.Bits.{bitAnd, and-lt}
 use lib.Count.{ones}
 use lib.Dec.{T, leb, ltb, eqb, ltb→lt, lt→ltb, eqb→eq, eqb-refl, T-not, not-T}
 use lib.ListN.{length, getD, take, drop, length-replicate}
-use Rattle.sets.specs.Below.{any, bit, count, sum}
-use Rattle.sets.specs.Bits.{bitOf, bitAt, cell, withBit}
+use Rattle.sets.specs.Below.{bit, count, sum}
+use Rattle.sets.specs.Bits.{bitAt, cell, withBit}
 use Rattle.sets.proofs.Tests.{and-make, and-left, and-right, or-left, or-right, or-cases, decide, T-true, T-false, T-ext, any-make, any-take, eqb-of, eqb-not}
-use Rattle.sets.proofs.Counting.{bit-true, bit-false, count-cong, count-sum, count-wide, count-at, count-le, sum-cong}
+use Rattle.sets.proofs.Counting.{bit-true, count-cong, count-sum, count-wide, count-at, count-le, sum-cong}
 use Rattle.sets.proofs.Bits.{bitOf-and, bitAt-set-same, bitAt-set-other, length-withBit, cell-word, sum-word, bitAt-zeros, zeros}
 use Rattle.image.specs.Bytes.{number}
-use Rattle.image.specs.Image.{handsetCount, edgeCount, handsetOffset, edgeOffset, imageLength, limitSquared, epsilonNum, epsilonDen, muField, mu, coreSize, handsetRecords, edgeRecords, gap, xAt, yAt, distanceAt, distanceSquared, endA, endB, joins, adjacent, within, neighbour}
+use Rattle.image.specs.Image.{handsetCount, edgeCount, limitSquared, epsilonNum, epsilonDen, muField, mu, coreSize, handsetRecords, edgeRecords, gap, xAt, yAt, distanceAt, distanceSquared, endA, endB, joins, adjacent, within, neighbour}
 use Rattle.image.specs.Questions.{Accepted, headerOf, isLoop}
 use Rattle.image.specs.declared.Header.{Header}
 use Rattle.image.proofs.Acceptance.{Fits, ends-below, accepted-fits, length-is, x-limits, y-limits}
@@ -83,9 +83,9 @@ module _ (n : ℕ) (part : List ℕ) (R : ℕ → ℕ → Bool) (k : ℕ) where
   unfolding marked
   marked-skip t =
       table-cong (marked n part R k) (marked n part R (k + 1)) (λ u v h l.
-        sym (ap (λ (j : ℕ). marked n part R j u v) (add-one k)
-        ∙ ap (λ (x : Bool). (joins part u v k && x) || marked n part R k u v) (T-false (R (endA part k) (endB part k)) t)
-        ∙ drop-false (joins part u v k) (marked n part R k u v)))
+      sym (ap (λ (j : ℕ). marked n part R j u v) (add-one k)
+      ∙ ap (λ (x : Bool). (joins part u v k && x) || marked n part R k u v) (T-false (R (endA part k) (endB part k)) t)
+      ∙ drop-false (joins part u v k) (marked n part R k u v)))
 
   -- a cell after both cells of the edge are marked
   cell-both : (ws : List ℕ) (u v : ℕ) (x : Bool) → length ws ≡ 4096 → endA part k < 512 → endB part k < 512 → u < 512 → v < 512 → cell ws u v ≡ bit x
@@ -94,10 +94,13 @@ module _ (n : ℕ) (part : List ℕ) (R : ℕ → ℕ → Bool) (k : ℕ) where
     where
       a : ℕ
       a = endA part k
+
       b : ℕ
       b = endB part k
+
       on : T (joins part u v k) → 1 ≡ bit (joins part u v k || x)
       on t = sym (bit-true (joins part u v k || x) (or-left (joins part u v k) x t))
+
       pick : Dec (u * 512 + v ≡ b * 512 + a) → Dec (u * 512 + v ≡ a * 512 + b) → cell (withBit (withBit ws (a * 512 + b)) (b * 512 + a)) u v ≡ bit (joins part u v k || x)
       pick (yes p) d =
           ap (bitAt (withBit (withBit ws (a * 512 + b)) (b * 512 + a))) p
@@ -113,11 +116,11 @@ module _ (n : ℕ) (part : List ℕ) (R : ℕ → ℕ → Bool) (k : ℕ) where
           ∙ bitAt-set-other ws (a * 512 + b) (u * 512 + v) d
           ∙ e
           ∙ ap (λ (y : Bool). bit (y || x))
-            (sym (T-false (joins part u v k) (not-T (joins part u v k) (λ t.
-              ⊎-elim
-              (λ w. d (ap₂ (λ (i j : ℕ). i * 512 + j) (sym (w .0)) (sym (w .1))))
-              (λ w. p (ap₂ (λ (i j : ℕ). i * 512 + j) (sym (w .1)) (sym (w .0))))
-              (joins-cases part u v k t)))))
+          (sym (T-false (joins part u v k) (not-T (joins part u v k) (λ t.
+          ⊎-elim
+          (λ w. d (ap₂ (λ (i j : ℕ). i * 512 + j) (sym (w .0)) (sym (w .1))))
+          (λ w. p (ap₂ (λ (i j : ℕ). i * 512 + j) (sym (w .1)) (sym (w .0))))
+          (joins-cases part u v k t)))))
 
   -- one edge more whose ends are in R
   pub marked-yes : {ws : List ℕ} → endA part k < 512 → endB part k < 512 → T (R (endA part k) (endB part k)) → Table ws (marked n part R k)
@@ -126,10 +129,10 @@ module _ (n : ℕ) (part : List ℕ) (R : ℕ → ℕ → Bool) (k : ℕ) where
   marked-yes {ws} ha hb t m = record {
     size = length-withBit (withBit ws (endA part k * 512 + endB part k)) (endB part k * 512 + endA part k) ∙ length-withBit ws (endA part k * 512 + endB part k) ∙ m .size;
     bits = λ u v hu hv.
-      cell-both ws u v (marked n part R k u v) (m .size) ha hb hu hv (m .bits u v hu hv)
-      ∙ ap bit (sym (ap (λ (j : ℕ). marked n part R j u v) (add-one k)
+        cell-both ws u v (marked n part R k u v) (m .size) ha hb hu hv (m .bits u v hu hv)
+        ∙ ap bit (sym (ap (λ (j : ℕ). marked n part R j u v) (add-one k)
         ∙ ap (λ (x : Bool). (joins part u v k && x) || marked n part R k u v) (T-true (R (endA part k) (endB part k)) t)
-        ∙ ap (λ (x : Bool). x || marked n part R k u v) (and-true (joins part u v k))))
+        ∙ ap (λ (x : Bool). x || marked n part R k u v) (and-true (joins part u v k))));
   }
 
 pub marked-none : (n : ℕ) (part : List ℕ) (R : ℕ → ℕ → Bool) {ws : List ℕ} → Table ws (λ u v. ltb u n && eqb u v) → Table ws (marked n part R 0)
@@ -194,23 +197,23 @@ module _ (s : List ℕ) (ok : Accepted s) (R : ℕ → ℕ → Bool) (along : Al
   marked-is u v =
       T-ext (marked (handsetCount s) (edgeRecords s) R (edgeCount s) u v) (both (network s) u v && R u v)
       (λ m.
-        ⊎-elim
-        (λ r. let h = ends-of u v (r .0) (r .1) (r .2) in make-both u v (h .0) (h .1) (subst (λ (x : Bool). T x) (at-ends u v (r .0) (r .2)) (r .3)))
-        (λ r. make-both u v (r .0) (omega (arith, r .0, r .1)) (subst (λ (x : ℕ). T (R u x)) (r .1) (along .self u)))
-        (marked-take (handsetCount s) (edgeRecords s) R (edgeCount s) u v m))
+      ⊎-elim
+      (λ r. let h = ends-of u v (r .0) (r .1) (r .2) in make-both u v (h .0) (h .1) (subst (λ (x : Bool). T x) (at-ends u v (r .0) (r .2)) (r .3)))
+      (λ r. make-both u v (r .0) (omega (arith, r .0, r .1)) (subst (λ (x : ℕ). T (R u x)) (r .1) (along .self u)))
+      (marked-take (handsetCount s) (edgeRecords s) R (edgeCount s) u v m))
       (λ t.
-        let b = and-left (both (network s) u v) (R u v) t in
-        let r = and-right (both (network s) u v) (R u v) t in
-        ⊎-elim
-        (λ e.
-          subst (λ (x : ℕ). T (marked (handsetCount s) (edgeRecords s) R (edgeCount s) u x)) e
-          (marked-self (handsetCount s) (edgeRecords s) R (edgeCount s) u
-            (ltb→lt u (handsetCount s) (and-left (ltb u (handsetCount s)) (ltb v (handsetCount s)) b))))
-        (λ w.
-          let i = any-take (edgeCount s) (joins (edgeRecords s) u v) w in
-          marked-make (handsetCount s) (edgeRecords s) R (edgeCount s) u v (i .0) (i .1) (i .2)
-          (subst (λ (x : Bool). T x) (sym (at-ends u v (i .0) (i .2))) r))
-        (along .only u v r))
+      let b = and-left (both (network s) u v) (R u v) t in
+      let r = and-right (both (network s) u v) (R u v) t in
+      ⊎-elim
+      (λ e.
+      subst (λ (x : ℕ). T (marked (handsetCount s) (edgeRecords s) R (edgeCount s) u x)) e
+      (marked-self (handsetCount s) (edgeRecords s) R (edgeCount s) u
+      (ltb→lt u (handsetCount s) (and-left (ltb u (handsetCount s)) (ltb v (handsetCount s)) b))))
+      (λ w.
+      let i = any-take (edgeCount s) (joins (edgeRecords s) u v) w in
+      marked-make (handsetCount s) (edgeRecords s) R (edgeCount s) u v (i .0) (i .1) (i .2)
+      (subst (λ (x : Bool). T x) (sym (at-ends u v (i .0) (i .2))) r))
+      (along .only u v r))
 
   pub marked-all : {ws : List ℕ} → Table ws (marked (handsetCount s) (edgeRecords s) R (edgeCount s)) → Table ws (λ u v. both (network s) u v && R u v)
   marked-all t =
@@ -234,7 +237,7 @@ module _ (s : List ℕ) (ok : Accepted s) where
   similar-along = record {
     symmetric = similar-sym (accepted-sound s ok);
     self = λ u. similar-self (accepted-sound s ok) u (neighbour-self s u);
-    only = λ u v t. near-only u v (and-left (neighbour s u v) (meetsEpsilon (network s) (commonNeighbours (network s) u v) (neighbourhoodSize (network s) u) (neighbourhoodSize (network s) v)) t)
+    only = λ u v t. near-only u v (and-left (neighbour s u v) (meetsEpsilon (network s) (commonNeighbours (network s) u v) (neighbourhoodSize (network s) u) (neighbourhoodSize (network s) v)) t);
   }
 
   pub similar-table : {ws : List ℕ} → Table ws (marked (handsetCount s) (edgeRecords s) (similar (network s)) (edgeCount s)) → Table ws (similarIn (network s))
@@ -376,7 +379,7 @@ none-below u b = T-false (ltb u 0 && b) (not-T (ltb u 0 && b) (λ t. absurd (ome
 pub selves-none : Table (zeros 4096) (λ u v. ltb u 0 && eqb u v)
 selves-none = record {
   size = length-replicate {A = ℕ} 4096 0;
-  bits = λ u v h l. bitAt-zeros 4096 (u * 512 + v) ∙ ap bit (sym (none-below u (eqb u v)))
+  bits = λ u v h l. bitAt-zeros 4096 (u * 512 + v) ∙ ap bit (sym (none-below u (eqb u v)));
 }
 
 pub selves-more : (ws : List ℕ) (k : ℕ) → k < 512 → Table ws (λ u v. ltb u k && eqb u v) → Table (withBit ws (k * 513)) (λ u v. ltb u (k + 1) && eqb u v)
@@ -389,6 +392,7 @@ selves-more ws k hk t = record { size = length-withBit ws (k * 513) ∙ t .size;
         T-ext (ltb u k && eqb u v) (ltb u (k + 1) && eqb u v)
         (λ x. absurd (T-not (eqb u v) n (and-right (ltb u k) (eqb u v) x)))
         (λ x. absurd (T-not (eqb u v) n (and-right (ltb u (k + 1)) (eqb u v) x)))
+
     go : (u v : ℕ) → u < 512 → v < 512 → Dec (u * 512 + v ≡ k * 513) → cell (withBit ws (k * 513)) u v ≡ bit (ltb u (k + 1) && eqb u v)
     go u v h l (yes e) =
         let p : u ≡ k = omega arith in
@@ -489,7 +493,7 @@ module _ (g : Network) (small : g .n ≤ 512) where
   pub similar-test : {ws : List ℕ} (u v a b p q : ℕ) → Table ws (nearIn g) → u < g .n → v < g .n
       → a ≡ neighbourhoodSize g u → b ≡ neighbourhoodSize g v → p ≡ g .p → q ≡ g .q
       → (eqb (cell ws u v) 1 && leb (p * p * (a * b)) (sum 512 (λ w. min (cell ws u w) (cell ws v w)) * sum 512 (λ w. min (cell ws u w) (cell ws v w)) * (q * q)))
-        ≡ similar g u v
+      ≡ similar g u v
   unfolding similar meetsEpsilon
   similar-test {ws} u v a b p q t hu hv ea eb ep eq =
       ap₂ _&&_ (ap (λ (x : ℕ). eqb x 1) (t .bits u v (omega arith) (omega arith)) ∙ one-bit (nearIn g u v) ∙ near-is u v hu hv)
@@ -502,9 +506,9 @@ module _ (g : Network) (small : g .n ≤ 512) where
   cores-set {ws} {alike} n m en em t c = record {
     size = c .size;
     bits = λ u h. c .bits u h ∙ ap₂ (λ (x y : ℕ). bit (ltb u x && leb y (sum 512 (λ w. cell alike u w)))) en em ∙ ap bit (
-      ⊎-elim
-      (λ y. ap (λ (x : ℕ). ltb u (g .n) && leb (g .mu) x) (similar-size u t (ltb→lt u (g .n) y)))
-      (λ n. ap (λ (b : Bool). b && leb (g .mu) (sum 512 (λ w. cell alike u w))) (T-false (ltb u (g .n)) n)
+        ⊎-elim
+        (λ y. ap (λ (x : ℕ). ltb u (g .n) && leb (g .mu) x) (similar-size u t (ltb→lt u (g .n) y)))
+        (λ n. ap (λ (b : Bool). b && leb (g .mu) (sum 512 (λ w. cell alike u w))) (T-false (ltb u (g .n)) n)
         ∙ sym (ap (λ (b : Bool). b && leb (g .mu) (count (g .n) (similar g u))) (T-false (ltb u (g .n)) n)))
-      (decide (ltb u (g .n))))
+        (decide (ltb u (g .n))));
   }

@@ -39,11 +39,7 @@ fn mark_selves(table: &mut [u64], n: usize)
 fn gap_of(a: u64, b: u64) -> u64
     ensures { λ r. ⌜ r ≡ gap a b ⌝ }
 {
-    if a < b {
-        b - a
-    } else {
-        a - b
-    }
+    if a < b { b - a } else { a - b }
 }
 
 // The squared distance of two handsets whose positions keep the limits, from the part of the image that the handset records stand in.
@@ -51,8 +47,14 @@ fn squared_distance(handsets: &[u8], u: usize, v: usize) -> u64
     requires { ⌜ (u < 512) × (v < 512) × (gap (xAt (now handsets) u) (xAt (now handsets) v) ≤ 2000000) × (gap (yAt (now handsets) u) (yAt (now handsets) v) ≤ 2000000) ⌝ }
     ensures { λ r. ⌜ r ≡ distanceAt (now (handsets .entry)) u v ⌝ }
 {
-    let dx = gap_of(image::coordinate(handsets, 8 * u), image::coordinate(handsets, 8 * v));
-    let dy = gap_of(image::coordinate(handsets, 8 * u + 4), image::coordinate(handsets, 8 * v + 4));
+    let dx = gap_of(
+        image::coordinate(handsets, 8 * u),
+        image::coordinate(handsets, 8 * v),
+    );
+    let dy = gap_of(
+        image::coordinate(handsets, 8 * u + 4),
+        image::coordinate(handsets, 8 * v + 4),
+    );
     dx * dx + dy * dy
 }
 
@@ -183,7 +185,13 @@ fn mark_cores(alike: &[u64], n: usize, mu: u32, cores: &mut [u64])
 }
 
 // Fills three empty tables: the neighbours and the similar handsets of each handset, and the cores.
-pub(crate) fn survey(image: &[u8], h: Header, near: &mut [u64], alike: &mut [u64], cores: &mut [u64])
+pub(crate) fn survey(
+    image: &[u8],
+    h: Header,
+    near: &mut [u64],
+    alike: &mut [u64],
+    cores: &mut [u64],
+)
     requires { ⌜ (Accepted (now image)) × (h ≡ headerOf (now image)) × (now near ≡ replicate 4096 0) × (now alike ≡ replicate 4096 0) × (now cores ≡ replicate 8 0) ⌝ }
     ensures { λ _. ⌜ Survey (network (now (image .entry))) (now (near .exit)) (now (alike .exit)) (now (cores .exit)) ⌝ }
 {

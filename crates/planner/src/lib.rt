@@ -14,7 +14,6 @@ ghost use Rattle.community.specs.Network.{role, neighbourhoodSize};
 ghost use Rattle.community.specs.Site.{network};
 ghost use Rattle.planner.specs.Plan.{PlanCall, CoreWords, knownOf, standing};
 ghost use Rattle.planner.specs.Held.{Found, roleFor};
-
 use community::Role;
 use community::Standing;
 use image::Header;
@@ -40,7 +39,13 @@ pub enum Known {
 }
 
 // Works out an accepted site: its neighbourhoods, its cores, and its communities as the first rows; their number is the answer.
-fn find_communities(image: &[u8], h: Header, near: &mut [u64], cores: &mut [u64], rows: &mut [u64]) -> usize
+fn find_communities(
+    image: &[u8],
+    h: Header,
+    near: &mut [u64],
+    cores: &mut [u64],
+    rows: &mut [u64],
+) -> usize
     requires { ⌜ (Accepted (now image)) × (h ≡ headerOf (now image)) × (now near ≡ replicate 4096 0) × (now cores ≡ replicate 8 0) × (length (now rows) ≡ 4096) ⌝ }
     ensures { λ r. ⌜ Found (network (now (image .entry))) (now (near .exit)) (now (cores .exit)) (now (rows .exit)) r ⌝ }
 {

@@ -55,14 +55,14 @@ count-but zero f k h t = absurd (omega arith)
 count-but (suc n) f k h t =
     ⊎-elim
     (λ e.
-      let p : bit (f n) ≡ 1 = bit-true (f n) (rw (← e) t) in
-      let q : bit (but f k n) ≡ 0 = rw e (bit-false (but f n n) (but-self f n)) in
-      let r : count n (but f k) ≡ count n f = count-cong n (but f k) f (λ v l. but-other f k v (omega arith)) in
-      omega arith)
+    let p : bit (f n) ≡ 1 = bit-true (f n) (rw (← e) t) in
+    let q : bit (but f k n) ≡ 0 = rw e (bit-false (but f n n) (but-self f n)) in
+    let r : count n (but f k) ≡ count n f = count-cong n (but f k) f (λ v l. but-other f k v (omega arith)) in
+    omega arith)
     (λ l.
-      let p : bit (but f k n) ≡ bit (f n) = ap bit (but-other f k n (omega arith)) in
-      let r : count n f ≡ suc (count n (but f k)) = count-but n f k l t in
-      omega arith)
+    let p : bit (but f k n) ≡ bit (f n) = ap bit (but-other f k n (omega arith)) in
+    let r : count n f ≡ suc (count n (but f k)) = count-but n f k l t in
+    omega arith)
     (below h)
 
 -- what passes f is paired with what passes g, and no two of it with the same
@@ -76,29 +76,31 @@ count-pairs zero f m g R o = omega arith
 count-pairs (suc n) f m g R o =
     ⊎-elim
     (λ t.
-      let a : bit (f n) ≡ 1 = bit-true (f n) t in
-      let x = o .pair n (omega arith) t in
-      let b : count m g ≡ suc (count m (but g (x .0))) = count-but m g (x .0) (x .1) (x .2) in
-      let c : count n f ≤ count m (but g (x .0)) =
-        count-pairs n f m (but g (x .0)) R (record {
-          pair = λ v h s.
-            let y = o .pair v (omega arith) s in
-            (y .0, y .1,
-             and-make (g (y .0)) (not (eqb (y .0) (x .0))) (y .2)
-             (not-T (eqb (y .0) (x .0)) (λ e.
-               differ v h (o .apart v n (x .0) (omega arith) (omega arith) s t (subst (R v) (eqb→eq (y .0) (x .0) e) (y .3)) (x .3)))),
-             y .3);
-          apart = λ v w z h k x y. o .apart v w z (omega arith) (omega arith) x y
-        }) in
-      omega arith)
+    let a : bit (f n) ≡ 1 = bit-true (f n) t in
+    let x = o .pair n (omega arith) t in
+    let b : count m g ≡ suc (count m (but g (x .0))) = count-but m g (x .0) (x .1) (x .2) in
+    let c : count n f ≤ count m (but g (x .0)) =
+    count-pairs n f m (but g (x .0)) R (record {
+      pair = λ v h s.
+          let y = o .pair v (omega arith) s in (
+            y .0,
+            y .1,
+            and-make (g (y .0)) (not (eqb (y .0) (x .0))) (y .2)
+                (not-T (eqb (y .0) (x .0)) (λ e.
+                differ v h (o .apart v n (x .0) (omega arith) (omega arith) s t (subst (R v) (eqb→eq (y .0) (x .0) e) (y .3)) (x .3)))),
+            y .3,
+          );
+      apart = λ v w z h k x y. o .apart v w z (omega arith) (omega arith) x y;
+    }) in
+    omega arith)
     (λ t.
-      let a : bit (f n) ≡ 0 = bit-false (f n) t in
-      let c : count n f ≤ count m g =
-        count-pairs n f m g R (record {
-          pair = λ v h s. o .pair v (omega arith) s;
-          apart = λ v w z h k x y. o .apart v w z (omega arith) (omega arith) x y
-        }) in
-      omega arith)
+    let a : bit (f n) ≡ 0 = bit-false (f n) t in
+    let c : count n f ≤ count m g =
+    count-pairs n f m g R (record {
+      pair = λ v h s. o .pair v (omega arith) s;
+      apart = λ v w z h k x y. o .apart v w z (omega arith) (omega arith) x y;
+    }) in
+    omega arith)
     (decide (f n))
   where
     differ : (v : ℕ) → v < n → v ≡ n → ⊥
@@ -116,11 +118,11 @@ count-across {n} r f g e =
     le-antisymm
     (count-pairs n f n g (λ v w. r .to v ≡ w) (record {
       pair = λ v h x. (r .to v, r .to-below v h, rw (e v h) x, refl);
-      apart = λ v w z h k x y a b. to-apart r v w h k (a ∙ sym b)
+      apart = λ v w z h k x y a b. to-apart r v w h k (a ∙ sym b);
     }))
     (count-pairs n g n f (λ v w. r .back v ≡ w) (record {
       pair = λ v h x. (r .back v, r .back-below v h, rw (← e (r .back v) (r .back-below v h), r .to-back v h) x, refl);
-      apart = λ v w z h k x y a b. back-apart r v w h k (a ∙ sym b)
+      apart = λ v w z h k x y a b. back-apart r v w h k (a ∙ sym b);
     }))
 
 abbrev pub inverse : {n : ℕ} → Renumbering n → Renumbering n
@@ -130,7 +132,7 @@ inverse r = record {
   to-below = r .back-below;
   back-below = r .to-below;
   back-to = r .to-back;
-  to-back = r .back-to
+  to-back = r .back-to;
 }
 
 -- one more, as a loop counts
@@ -202,7 +204,7 @@ count-eqb n a =
     le-trans
     (count-pairs n (λ v. eqb a v) 1 (λ w. true) (λ v w. w ≡ 0) (record {
       pair = λ v h t. (0, omega arith, tt, refl);
-      apart = λ v w z h k x y p q. sym (eqb→eq a v x) ∙ eqb→eq a w y
+      apart = λ v w z h k x y p q. sym (eqb→eq a v x) ∙ eqb→eq a w y;
     }))
     (count-le 1 (λ w. true))
 
@@ -248,5 +250,5 @@ pub sum-across : {n : ℕ} (r : Renumbering n) (f g : ℕ → ℕ) (b : ℕ) →
 sum-across {n} r f g b h e =
     sum-by-level n b f h
     ∙ sum-cong b (λ i. count n (λ v. ltb i (f v))) (λ i. count n (λ v. ltb i (g v)))
-      (λ i l. count-across r (λ v. ltb i (f v)) (λ v. ltb i (g v)) (λ v q. ap (ltb i) (e v q)))
+    (λ i l. count-across r (λ v. ltb i (f v)) (λ v. ltb i (g v)) (λ v q. ap (ltb i) (e v q)))
     ∙ sym (sum-by-level n b g (λ v l. rw (← r .to-back v l, e (r .back v) (r .back-below v l)) (h (r .back v) (r .back-below v l))))

@@ -42,10 +42,10 @@ mem-select (suc n) f v h t =
     ⊎-elim
     (λ e. rw (select-yes n f (rw (← e) t)) (Memᴰ·append-right (select n f) (List·Memᴰ·head e)))
     (λ l.
-      ⊎-elim
-      (λ y. rw (select-yes n f y) (Memᴰ·append-left (n ∷ []) (mem-select n f v l t)))
-      (λ y. rw (select-no n f y) (mem-select n f v l t))
-      (decide (f n)))
+    ⊎-elim
+    (λ y. rw (select-yes n f y) (Memᴰ·append-left (n ∷ []) (mem-select n f v l t)))
+    (λ y. rw (select-no n f y) (mem-select n f v l t))
+    (decide (f n)))
     (below h)
 
 pub select-mem : (n : ℕ) (f : ℕ → Bool) (v : ℕ) → List·Memᴰ v (select n f) → (v < n) × T (f v)
@@ -54,10 +54,10 @@ select-mem zero f v m = absurd (List·Memᴰ·not-nil m)
 select-mem (suc n) f v m =
     ⊎-elim
     (λ y.
-      ⊎-elim
-      (λ x. let r = select-mem n f v x in (omega arith, r .1))
-      (λ x. let e : v ≡ n = List·Memᴰ·eq-of-singleton x in (omega arith, rw e y))
-      (List·Memᴰ·append-cases (select n f) (rw (select-yes n f y) at m)))
+    ⊎-elim
+    (λ x. let r = select-mem n f v x in (omega arith, r .1))
+    (λ x. let e : v ≡ n = List·Memᴰ·eq-of-singleton x in (omega arith, rw e y))
+    (List·Memᴰ·append-cases (select n f) (rw (select-yes n f y) at m)))
     (λ y. let r = select-mem n f v (rw (select-no n f y) at m) in (omega arith, r .1))
     (decide (f n))
 
@@ -94,15 +94,15 @@ select-ascends zero f i j h k = absurd (omega arith)
 select-ascends (suc n) f i j h k =
     ⊎-elim
     (λ y.
-      rw (select-yes n f y)
-      (let k′ : j < suc (length (select n f)) = omega (arith, rw (select-yes n f y) at k, length-append (select n f) (n ∷ [])) in
-      ⊎-elim
-      (λ e.
-        let i′ : i < length (select n f) = omega arith in
-        rw (List·getD-append (select n f) (n ∷ []) 0 i i′, getD-at (select n f) n [] 0 j (sym e)) (select-below n f i i′))
-      (λ l.
-        let i′ : i < length (select n f) = omega arith in
-        rw (List·getD-append (select n f) (n ∷ []) 0 i i′, List·getD-append (select n f) (n ∷ []) 0 j l) (select-ascends n f i j h l))
-      (below k′)))
+    rw (select-yes n f y)
+    (let k′ : j < suc (length (select n f)) = omega (arith, rw (select-yes n f y) at k, length-append (select n f) (n ∷ [])) in
+    ⊎-elim
+    (λ e.
+    let i′ : i < length (select n f) = omega arith in
+    rw (List·getD-append (select n f) (n ∷ []) 0 i i′, getD-at (select n f) n [] 0 j (sym e)) (select-below n f i i′))
+    (λ l.
+    let i′ : i < length (select n f) = omega arith in
+    rw (List·getD-append (select n f) (n ∷ []) 0 i i′, List·getD-append (select n f) (n ∷ []) 0 j l) (select-ascends n f i j h l))
+    (below k′)))
     (λ y. rw (select-no n f y) (select-ascends n f i j h (rw (select-no n f y) at k)))
     (decide (f n))

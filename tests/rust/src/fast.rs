@@ -103,6 +103,16 @@ impl<'a> Image<'a> {
         self.ties.iter().map(|record| Tie::from_le_bytes(*record))
     }
 
+    /// Calls `each` with every tie, four to a turn of the loop: a short loop's speed depends much on
+    /// where its jump happens to stand.
+    fn for_each_tie(&self, mut each: impl FnMut(Tie)) {
+        let (fours, rest) = self.ties.as_chunks::<4>();
+        for four in fours {
+            four.iter().for_each(|record| each(Tie::from_le_bytes(*record)));
+        }
+        rest.iter().for_each(|record| each(Tie::from_le_bytes(*record)));
+    }
+
     /// Question 7. The whole table is tested without a branch; only a fault is searched for.
     fn check_positions(&self) -> Result<(), Refusal> {
         let outside = |coordinate: i32| {
@@ -129,10 +139,10 @@ impl<'a> Image<'a> {
     fn check_ties<const W: usize, const R: usize>(&self) -> Result<(), Refusal> {
         let mut seen = [[0; W]; R];
         let mut repeated = false;
-        for tie in self.ties() {
+        self.for_each_tie(|tie| {
             let (u, v) = ends(tie);
             repeated |= set_bit::<W, R>(&mut seen, u.min(v), u.max(v));
-        }
+        });
         if repeated | !self.ends_are_good() {
             return Err(self.tie_fault());
         }
@@ -233,12 +243,12 @@ impl<const W: usize, const R: usize> Network<W, R> {
     fn read(&mut self, image: &Image) -> Result<(), Refusal> {
         image.check_positions()?;
         let mut repeated = false;
-        for tie in image.ties() {
+        image.for_each_tie(|tie| {
             let (u, v) = ends(tie);
             repeated |= set_bit(&mut self.rows, u, v);
             set_bit(&mut self.rows, v, u);
             self.change_degrees(tie, 1);
-        }
+        });
         if repeated | !image.ends_are_good() {
             return Err(image.tie_fault());
         }

@@ -37,13 +37,13 @@ enum-told c = search needs
 returns : tie.Need-returns
 returns c =
     let e : kindCode (c .before .before .before .before .args .role) ≡ 0 + 65536 * c .at-most .result =
-      ap kindCode (c .before .before .role .given .1) ∙ ap (λ (a : ℕ). 0 + 65536 * a) (sym (c .at-most .ensures)) in
+    ap kindCode (c .before .before .role .given .1) ∙ ap (λ (a : ℕ). 0 + 65536 * a) (sym (c .at-most .ensures)) in
     (omega arith, omega (arith, c .at-most .ensures))
 
 returns-2 : tie.Need-returns-2
 returns-2 c =
     let e : kindCode (c .before .before .before .before .args .role) ≡ 1 + 65536 * c .at-most2 .result =
-      ap kindCode (c .before .before .role2 .given .1) ∙ ap (λ (a : ℕ). 1 + 65536 * a) (sym (c .at-most2 .ensures)) in
+    ap kindCode (c .before .before .role2 .given .1) ∙ ap (λ (a : ℕ). 1 + 65536 * a) (sym (c .at-most2 .ensures)) in
     (sym e, omega (arith, c .at-most2 .ensures))
 
 returns-3 : tie.Need-returns-3

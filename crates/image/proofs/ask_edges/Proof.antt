@@ -44,11 +44,11 @@ returns-2 : tie.Need-returns-2
 returns-2 c = c .refused2 .ensures ∙ sym (yes8 (c .before .before .before .before) _ ∙ each-no _ _ _ (c .before .before .before .first-loop .ensures) 9 _ (c .before .if2 .taken))
 
 first-repeat-requires : tie.Need-first-repeat-requires
-first-repeat-requires c κs = 
+first-repeat-requires c κs =
     λ k h.
-      let s = c .before .before .before .before .before .before .before in
-      let g = good-ends (now (s .args .part)) (s .args .h .n) k (each-passed _ _ _ (c .before .before .before .before .before .first-bad-end .ensures) (c .before .before .before .if1 .left) k h) in
-      (omega (arith, g .0, s .pre), omega (arith, g .1, s .pre))
+    let s = c .before .before .before .before .before .before .before in
+    let g = good-ends (now (s .args .part)) (s .args .h .n) k (each-passed _ _ _ (c .before .before .before .before .before .first-bad-end .ensures) (c .before .before .before .if1 .left) k h) in
+    (omega (arith, g .0, s .pre), omega (arith, g .1, s .pre))
 
 cast-refused-3 : tie.Need-cast-refused-3
 cast-refused-3 c = omega arith

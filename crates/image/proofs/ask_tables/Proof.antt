@@ -55,7 +55,7 @@ ask-records-requires : tie.Need-ask-records-requires
 ask-records-requires c κs = omega arith
 
 returns : tie.Need-returns
-returns c = 
+returns c =
     let a = c .before .before .before .before .before .before .before .before .args in
     let s = now (a .image) in
     c .ask-records .ensures

@@ -23,7 +23,7 @@ out-of-limits-requires : tie.Need-out-of-limits-requires Inv-loop μ-loop
 out-of-limits-requires c κs = tt
 
 returns : tie.Need-returns Inv-loop μ-loop
-returns c = 
+returns c =
     let l = c .before .before .before .loop in
     scan-found _ _ (l .v) (omega arith) (l .inv .1) (sym (c .before .out-of-limits .ensures) ∙ c .if1 .taken)
 
@@ -34,7 +34,7 @@ loop-less : tie.Need-loop-less Inv-loop μ-loop
 loop-less c = omega arith
 
 loop-again : tie.Need-loop-again Inv-loop μ-loop
-loop-again c = 
+loop-again c =
     let l = c .before .before .before .loop in
     (omega arith, scan-more _ (l .v) (l .inv .1) (sym (c .before .out-of-limits .ensures) ∙ c .if1 .left))
 

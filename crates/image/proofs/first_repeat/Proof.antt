@@ -45,7 +45,7 @@ has-requires : tie.Need-has-requires Inv-loop μ-loop
 has-requires c κs = tt
 
 returns : tie.Need-returns Inv-loop μ-loop
-returns c = 
+returns c =
     let l = c .before .before .before .before .before .loop in
     scan-found _ _ (l .k) (omega arith) (l .inv .1 .0) (told (c .before) ∙ c .if1 .taken)
 
@@ -62,7 +62,7 @@ loop-less : tie.Need-loop-less Inv-loop μ-loop
 loop-less c = omega arith
 
 loop-again : tie.Need-loop-again Inv-loop μ-loop
-loop-again c = 
+loop-again c =
     let m = c .before .before .before .before in
     let l = m .before .before .before .before .loop in
     let part = now (m .before .before .before .before .before .before .args .part) in

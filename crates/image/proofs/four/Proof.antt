@@ -1,5 +1,7 @@
 -- `image::four` meets its contract. A number of four bytes is made of two of two bytes.
+use Prim.Native.Nat.{ℕ, _+_, _*_}
 use native.Mathlib.Omega.{arith}
+use mathlib.Core.Path.{sym, ap₂, _∙_}
 use denote.Ref.{now}
 use Rattle.image.proofs.Bytes.{le-split}
 use Rattle.image.proofs.four.Statement.{statement}
@@ -21,9 +23,9 @@ add-result : tie.Need-add-result
 add-result c = omega arith
 
 returns : tie.Need-returns
-returns c = 
+returns c =
     let a = c .before .before .before .args in
-    (omega (arith, le-split 2 2 (now (a .s)) (a .at)), omega arith)
+    (ap₂ (λ (x y : ℕ). x + 65536 * y) (c .before .two .ensures .0) (c .two2 .ensures .0) ∙ sym (le-split 2 2 (now (a .s)) (a .at)), omega arith)
 
 pub four-spec : {M : Type 1} → statement M
 four-spec = tie.close (tie.spec two-requires add-two two-requires-2 mul-result add-result returns)

@@ -43,7 +43,7 @@ refused-requires-2 : tie.Need-refused-requires-2
 refused-requires-2 c κs = tt
 
 returns-2 : tie.Need-returns-2
-returns-2 c = 
+returns-2 c =
     let h = c .before .before .before .read-header in
     c .refused2 .ensures ∙ sym (open-other (now (c .before .before .before .before .before .before .args .image)) (c .before .before .before .before .if1 .left) (λ e. c .before .if2 .taken (ap (λ (x : Header). x .len) (h .ensures) ∙ e)))
 
@@ -57,13 +57,13 @@ enum-told-2 : tie.Need-enum-told-2
 enum-told-2 c = search needs
 
 returns-3 : tie.Need-returns-3
-returns-3 c = 
+returns-3 c =
     let a = c .before .before in
     let e = c .enum-told2 .given .1 in
     e ∙ sym (going a ∙ header-no _ _ (sym (a .ask-header .ensures) ∙ e) _)
 
 ask-tables-requires : tie.Need-ask-tables-requires
-ask-tables-requires c κs = 
+ask-tables-requires c κs =
     let f = passed c .0 in
     let same = c .before .before .before .if2 .left in
     (f .n-limit, omega (arith, f .handsets-to, same), omega (arith, f .edges-to, same))

@@ -1,13 +1,22 @@
 -- `image::read8` meets its contract. Where all bytes are there the number is made of two of four bytes, else it is 0.
-use Prim.Native.Nat.{_+_, _≤_}
+use Prim.Native.Nat.{_<_, ℕ, _+_, _*_, _≤_}
 use native.Mathlib.Omega.{arith}
-use mathlib.Core.Path.{sym, _∙_}
+use mathlib.Core.Path.{sym, ap₂, _∙_}
 use lib.ListN.{length}
 use borrow.Author.Tests.{leb-true}
 use denote.Ref.{now}
+use mir.Syntax.{w64}
+use mir.Val.{Fits}
 use Rattle.image.proofs.Bytes.{number-le, number-none, le-split}
 use Rattle.image.proofs.read8.Statement.{statement}
 use Rattle.image.proofs.read8.Tie as tie
+
+-- eight bytes fit
+high : (y : ℕ) → y < 4294967296 → Fits w64 (4294967296 * y)
+high y h = omega arith
+
+both : (x y : ℕ) → x < 4294967296 → y < 4294967296 → Fits w64 (x + 4294967296 * y)
+both x y h k = omega arith
 
 -- the test that was taken says that the bytes are there
 room : (c : tie.Then1) → c .before .before .before .args .at + 8 ≤ length (now (c .before .before .before .args .s))
@@ -26,15 +35,16 @@ four-requires-2 : tie.Need-four-requires-2
 four-requires-2 c κs = omega (arith, room (c .before))
 
 mul-result : tie.Need-mul-result
-mul-result c = omega arith
+mul-result c = high _ (c .four2 .ensures .1)
 
 add-result : tie.Need-add-result
-add-result c = omega arith
+add-result c = both _ _ (c .before .four .ensures .1) (c .four2 .ensures .1)
 
 returns : tie.Need-returns
-returns c = 
+returns c =
     let a = c .before .before .before .before .before .args in
-    omega (arith, le-split 4 4 (now (a .s)) (a .at), number-le 8 (now (a .s)) (a .at) (room (c .before .before)))
+    ap₂ (λ (x y : ℕ). x + 4294967296 * y) (c .before .four .ensures .0) (c .four2 .ensures .0)
+    ∙ sym (number-le 8 (now (a .s)) (a .at) (room (c .before .before)) ∙ le-split 4 4 (now (a .s)) (a .at))
 
 returns-2 : tie.Need-returns-2
 returns-2 c = let a = c .before .before .before .args in sym (number-none 8 (now (a .s)) (a .at) (sym (c .before .stands .ensures) ∙ c .if1 .left))

@@ -13,7 +13,7 @@ returns : tie.Need-returns
 returns c = let a = c .before .args in sym (lt-leb (a .at + a .w) (a .len) (omega arith))
 
 returns-2 : tie.Need-returns-2
-returns-2 c = 
+returns-2 c =
     let a = c .before .args in
     T-ext _ _
     (λ t. le→leb (a .at + a .w) (a .len) (omega (arith, leb→le (a .at) (a .len - a .w) t)))

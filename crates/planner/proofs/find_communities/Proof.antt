@@ -39,13 +39,13 @@ returns c =
       core-set = y .core-set;
       most = f .find-groups .ensures .most;
       grouped =
-        f .find-groups .ensures .groups (network image)
-        (record {
-          sound = accepted-sound image (s .pre .0);
-          most = handsets-most image (s .pre .0);
-          similar-table = y .similar-table;
-          core-set = y .core-set;
-        });
+          f .find-groups .ensures .groups (network image)
+          (record {
+            sound = accepted-sound image (s .pre .0);
+            most = handsets-most image (s .pre .0);
+            similar-table = y .similar-table;
+            core-set = y .core-set;
+          });
     }
 
 pub find-communities-spec : {M : Type 1} → statement M

@@ -25,7 +25,7 @@ returns c = let told = c .before .enum-told .given .1 in
     let s = c .before .before .before .before .before .before .before in
     let image = s .args .image .now in
     let e : openOf image ≡ O.Refused (c .refusal-of .result) =
-      sym (c .before .before .before .«open» .ensures) ∙ told ∙ ap O.Refused (sym (c .refusal-of .ensures ∙ ap refusalOf told)) in
+    sym (c .before .before .before .«open» .ensures) ∙ told ∙ ap O.Refused (sym (c .refusal-of .ensures ∙ ap refusalOf told)) in
     (plan-refused image (c .refusal-of .result) e (s .args .starts .now) (s .args .members .now), cores-refused image (c .refusal-of .result) e)
 
 slice-aggregate-find-communities : tie.Need-slice-aggregate-find-communities

@@ -4,8 +4,9 @@
 //!
 //!     differential [--seed N] [--count N | --seconds N] [--program PATH] [--save DIRECTORY]
 //!
-//! Case i has the seed N + i, so a failing case is run again alone with its own seed and `--count 1`.
-//! Its image is written into the directory. With `--program` the report program is run as well.
+//! Named sites and site S with every choice of faults come first, whatever the count. Then case i has
+//! the seed N + i, so a failing case is run again alone with its own seed and `--count 1`. Its image is
+//! written into the directory. With `--program` the report program is run as well.
 
 use std::any::Any;
 use std::panic::{catch_unwind, AssertUnwindSafe};

@@ -1,6 +1,7 @@
+-- `planner::graph::are_similar` meets its contract: it is the near bit, and where that is set the test of the counts.
 use lib.ListN.{getD}
 use Prim.Native.Nat.{ℕ, _*_}
-use mathlib.Core.Path.{_≡_, refl, sym, _∙_, subst}
+use mathlib.Core.Path.{_≡_, sym, _∙_, subst}
 use lib.Dec.{leb}
 use borrow.Author.Needs.{needs}
 use Rattle.planner.proofs.graph.are_similar.Statement.{statement}

@@ -1,3 +1,5 @@
+-- `planner::graph::common` meets its contract. After j words the count is that of the first 64 j columns marked in both rows, since the ones of the
+-- `and` of two words are the places where both have a one. The measure is what is left of eight words.
 use lib.ListN.{getD}
 use lib.Bits.{and-lt}
 use lib.Count.{ones-le}
@@ -65,8 +67,7 @@ loop-less c = omega arith
 loop-again : tie.Need-loop-again Inv-loop μ-loop
 loop-again c =
     let a = c .before .before .before .before .args in
-    let l = c .before .before .before .loop in
-    (
+    let l = c .before .before .before .loop in (
       omega arith,
       omega (arith, ones-le 64 _ (and-lt 64 _ _ (first-lt c) (second-lt c))),
       omega (arith, common-more (a .near .now) (a .u) (a .v) (l .j) (first-lt c) (second-lt c), l .inv .2),

@@ -1,3 +1,4 @@
+-- `planner::graph::mark_both` meets its contract: each of the two calls sets one bit.
 use borrow.Author.Needs.{needs}
 use Rattle.planner.proofs.graph.mark_both.Statement.{statement}
 use Rattle.planner.proofs.graph.mark_both.Tie as tie

@@ -1,3 +1,5 @@
+-- `planner::graph::mark_cores` meets its contract. At u the set holds the handsets below u whose row has mu marks or more. The measure is what is left
+-- of n.
 use Prim.Native.Nat.{ℕ, _+_, _≤_, _-_}
 use native.Mathlib.Omega.{arith}
 use mathlib.Core.Path.{_≡_, sym, ap, _∙_, subst}
@@ -41,18 +43,17 @@ loop-again c =
     let l = c .before .before .before .loop in
     let s = c .before .before .before .before .before .before in
     let size : ℕ = sum 512 (λ w. cell (s .args .alike .now) (l .u) w) in
-    let f : ℕ → Bool = λ x. leb (s .args .mu) (sum 512 (λ w. cell (s .args .alike .now) x w)) in
-    (
+    let f : ℕ → Bool = λ x. leb (s .args .mu) (sum 512 (λ w. cell (s .args .alike .now) x w)) in (
       omega arith,
       ⊎-elim
-      (λ w.
-        subst (λ (ws : List ℕ). SetOf ws (λ x. ltb x (l .u + 1) && f x)) (sym (w .5 ∙ w .2 .ensures))
-        (passed-yes (l .cores) f (l .u) (omega arith) (le→leb (s .args .mu) size (omega (arith, w .0 .taken, c .before .row-size .ensures))) (l .inv .1)))
-      (λ w.
-        subst (λ (ws : List ℕ). SetOf ws (λ x. ltb x (l .u + 1) && f x)) (sym (w .1))
-        (passed-no (l .cores) f (l .u)
-        (not-T (leb (s .args .mu) size) (λ t. omega (arith, leb→le (s .args .mu) size t, w .0 .left, c .before .row-size .ensures))) (l .inv .1)))
-      (c .if1 .came),
+          (λ w.
+          subst (λ (ws : List ℕ). SetOf ws (λ x. ltb x (l .u + 1) && f x)) (sym (w .5 ∙ w .2 .ensures))
+          (passed-yes (l .cores) f (l .u) (omega arith) (le→leb (s .args .mu) size (omega (arith, w .0 .taken, c .before .row-size .ensures))) (l .inv .1)))
+          (λ w.
+          subst (λ (ws : List ℕ). SetOf ws (λ x. ltb x (l .u + 1) && f x)) (sym (w .1))
+          (passed-no (l .cores) f (l .u)
+          (not-T (leb (s .args .mu) size) (λ t. omega (arith, leb→le (s .args .mu) size t, w .0 .left, c .before .row-size .ensures))) (l .inv .1)))
+          (c .if1 .came),
     )
 
 same-length : tie.Need-same-length Inv-loop μ-loop

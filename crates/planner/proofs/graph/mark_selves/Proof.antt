@@ -1,3 +1,5 @@
+-- `planner::graph::mark_selves` meets its contract. At u the table holds each handset below u with itself; the empty table holds none. The measure is
+-- what is left of n.
 use Prim.Native.Nat.{ℕ, _≤_, _-_}
 use native.Mathlib.Omega.{arith}
 use mathlib.Core.Path.{_≡_, sym, ap, _∙_, subst}

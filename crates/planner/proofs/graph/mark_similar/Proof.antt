@@ -1,4 +1,6 @@
-use Prim.Native.Nat.{ℕ, _+_, _*_, _-_, _≤_, _<_}
+-- `planner::graph::mark_similar` meets its contract. After k edges the table holds each handset with itself and the ends of those of the k edges that
+-- are similar; the test of an edge is the definition's, since the table and the sizes are those of the network. The measure is what is left of m.
+use Prim.Native.Nat.{ℕ, _-_, _≤_, _<_}
 use native.Mathlib.Omega.{arith}
 use mathlib.Core.Path.{_≡_, sym, ap, _∙_, subst}
 use mathlib.Core.Logic.{⊎-elim}
@@ -10,7 +12,7 @@ use Rattle.image.specs.Image.{handsetCount, edgeCount, edgeRecords, endA, endB}
 use Rattle.community.specs.Network.{neighbourhoodSize, similar}
 use Rattle.community.specs.Site.{network}
 use Rattle.planner.specs.Held.{Table}
-use Rattle.planner.proofs.GraphLaws.{marked, marked-none, similar-table, similar-test, size-le, edge-yes, edge-no, header-is, end-a, end-b, ends-read, selves-none}
+use Rattle.planner.proofs.GraphLaws.{marked, marked-none, similar-table, similar-test, size-le, edge-yes, edge-no, Read, header-is, end-a, end-b, ends-read, selves-none}
 use Rattle.planner.proofs.graph.mark_similar.Statement.{statement}
 use Rattle.planner.proofs.graph.mark_similar.Tie as tie
 
@@ -20,6 +22,10 @@ Inv-loop image h near sizes alike₀ n m a b edges k₀ alike k =
 
 abbrev μ-loop : tie.MeasureT-loop
 μ-loop image h near sizes alike₀ n m a b edges k₀ alike k = m - k
+
+-- the numbers of the header are those of the image, and keep to their limits
+facts : (c : tie.Start Inv-loop μ-loop) → Read (c .args .image .now) (c .args .h)
+facts c = header-is (c .args .image .now) (c .args .h) (c .pre .0 .0) (c .pre .0 .1)
 
 cast-n : tie.Need-cast-n Inv-loop μ-loop
 cast-n c = search needs
@@ -43,23 +49,22 @@ part-edges-start : tie.Need-part-edges-start Inv-loop μ-loop
 part-edges-start c = search needs
 
 part-edges-end : tie.Need-part-edges-end Inv-loop μ-loop
-part-edges-end c = let r = header-is (c .before .before .before .before .before .before .before .args .image .now) (c .before .before .before .before .before .before .before .args .h) (c .before .before .before .before .before .before .before .pre .0 .0) (c .before .before .before .before .before .before .before .pre .0 .1) in omega (arith, r .length-of, r .fits .edges-to)
+part-edges-end c = let r = facts (c .before .before .before .before .before .before .before) in omega (arith, r .length-of, r .fits .edges-to)
 
 mark-selves-requires : tie.Need-mark-selves-requires Inv-loop μ-loop
-mark-selves-requires c κs = let r = header-is (c .before .before .before .before .before .before .before .before .before .args .image .now) (c .before .before .before .before .before .before .before .before .before .args .h) (c .before .before .before .before .before .before .before .before .before .pre .0 .0) (c .before .before .before .before .before .before .before .before .before .pre .0 .1) in (c .before .before .before .before .before .before .before .before .before .pre .0 .3, r .fits .n-limit)
+mark-selves-requires c κs = let r = facts (c .before .before .before .before .before .before .before .before .before) in (c .before .before .before .before .before .before .before .before .before .pre .0 .3, r .fits .n-limit)
 
 loop-holds : tie.Need-loop-holds Inv-loop μ-loop
 loop-holds c =
     let a = c .before .before .before .before .before .before .before .before .before .before .before .before .args in
-    let r = header-is (c .before .before .before .before .before .before .before .before .before .before .before .before .args .image .now) (c .before .before .before .before .before .before .before .before .before .before .before .before .args .h) (c .before .before .before .before .before .before .before .before .before .before .before .before .pre .0 .0) (c .before .before .before .before .before .before .before .before .before .before .before .before .pre .0 .1) in
-    (
+    let r = facts (c .before .before .before .before .before .before .before .before .before .before .before .before) in (
       omega arith,
       marked-none (handsetCount (a .image .now)) (edgeRecords (a .image .now)) (similar (network (a .image .now)))
-      (subst (λ (n : ℕ). Table (c .before .before .mark-selves .last .0) (λ u v. ltb u n && eqb u v)) (r .n-is) (c .before .before .mark-selves .ensures)),
+          (subst (λ (n : ℕ). Table (c .before .before .mark-selves .last .0) (λ u v. ltb u n && eqb u v)) (r .n-is) (c .before .before .mark-selves .ensures)),
     )
 
 mul-read2 : tie.Need-mul-read2 Inv-loop μ-loop
-mul-read2 c = let r = header-is (c .before .before .before .before .before .before .before .before .before .before .before .before .before .before .args .image .now) (c .before .before .before .before .before .before .before .before .before .before .before .before .before .before .args .h) (c .before .before .before .before .before .before .before .before .before .before .before .before .before .before .pre .0 .0) (c .before .before .before .before .before .before .before .before .before .before .before .before .before .before .pre .0 .1) in omega (arith, r .fits .m-limit)
+mul-read2 c = let r = facts (c .before .before .before .before .before .before .before .before .before .before .before .before .before .before) in omega (arith, r .fits .m-limit)
 
 read2-requires : tie.Need-read2-requires Inv-loop μ-loop
 read2-requires c κs = tt
@@ -68,10 +73,10 @@ cast-u : tie.Need-cast-u Inv-loop μ-loop
 cast-u c = search needs
 
 mul-read2-2 : tie.Need-mul-read2-2 Inv-loop μ-loop
-mul-read2-2 c = let r = header-is (c .before .before .before .before .before .before .before .before .before .before .before .before .before .before .before .args .image .now) (c .before .before .before .before .before .before .before .before .before .before .before .before .before .before .before .args .h) (c .before .before .before .before .before .before .before .before .before .before .before .before .before .before .before .pre .0 .0) (c .before .before .before .before .before .before .before .before .before .before .before .before .before .before .before .pre .0 .1) in omega (arith, r .fits .m-limit)
+mul-read2-2 c = let r = facts (c .before .before .before .before .before .before .before .before .before .before .before .before .before .before .before) in omega (arith, r .fits .m-limit)
 
 add-read2 : tie.Need-add-read2 Inv-loop μ-loop
-add-read2 c = let r = header-is (c .before .before .before .before .before .before .before .before .before .before .before .before .before .before .before .args .image .now) (c .before .before .before .before .before .before .before .before .before .before .before .before .before .before .before .args .h) (c .before .before .before .before .before .before .before .before .before .before .before .before .before .before .before .pre .0 .0) (c .before .before .before .before .before .before .before .before .before .before .before .before .before .before .before .pre .0 .1) in omega (arith, r .fits .m-limit)
+add-read2 c = let r = facts (c .before .before .before .before .before .before .before .before .before .before .before .before .before .before .before) in omega (arith, r .fits .m-limit)
 
 read2-requires-2 : tie.Need-read2-requires-2 Inv-loop μ-loop
 read2-requires-2 c κs = tt
@@ -79,36 +84,39 @@ read2-requires-2 c κs = tt
 cast-v : tie.Need-cast-v Inv-loop μ-loop
 cast-v c = search needs
 
+-- the function's entry, from where both ends are read
+abbrev start : (c : tie.After-read22 Inv-loop μ-loop) → tie.Start Inv-loop μ-loop
+start c = c .before .before .before .before .before .before .before .before .before .before .before .before .before .before .before .before
+
 -- what was read are the ends of the edge
-first-end : (c : tie.After-read22 Inv-loop μ-loop) → c .before .read2 .result ≡ endA (edgeRecords (c .before .before .before .before .before .before .before .before .before .before .before .before .before .before .before .before .args .image .now)) (c .before .before .before .loop .k)
-first-end c = let s = c .before .before .before .before .before .before .before .before .before .before .before .before .before .before .before .before in end-a (s .args .image .now) (s .args .h) (s .pre .0 .1) (c .before .read2 .result) (c .before .before .before .loop .k) (c .before .read2 .ensures)
+first-end : (c : tie.After-read22 Inv-loop μ-loop) → c .before .read2 .result ≡ endA (edgeRecords (start c .args .image .now)) (c .before .before .before .loop .k)
+first-end c = let s = start c in end-a (s .args .image .now) (s .args .h) (s .pre .0 .1) (c .before .read2 .result) (c .before .before .before .loop .k) (c .before .read2 .ensures)
 
-second-end : (c : tie.After-read22 Inv-loop μ-loop) → c .read22 .result ≡ endB (edgeRecords (c .before .before .before .before .before .before .before .before .before .before .before .before .before .before .before .before .args .image .now)) (c .before .before .before .loop .k)
-second-end c = let s = c .before .before .before .before .before .before .before .before .before .before .before .before .before .before .before .before in end-b (s .args .image .now) (s .args .h) (s .pre .0 .1) (c .read22 .result) (c .before .before .before .loop .k) (c .read22 .ensures)
+second-end : (c : tie.After-read22 Inv-loop μ-loop) → c .read22 .result ≡ endB (edgeRecords (start c .args .image .now)) (c .before .before .before .loop .k)
+second-end c = let s = start c in end-b (s .args .image .now) (s .args .h) (s .pre .0 .1) (c .read22 .result) (c .before .before .before .loop .k) (c .read22 .ensures)
 
-edge-below : (c : tie.After-read22 Inv-loop μ-loop) → c .before .before .before .loop .k < edgeCount (c .before .before .before .before .before .before .before .before .before .before .before .before .before .before .before .before .args .image .now)
-edge-below c = let r = header-is (c .before .before .before .before .before .before .before .before .before .before .before .before .before .before .before .before .args .image .now) (c .before .before .before .before .before .before .before .before .before .before .before .before .before .before .before .before .args .h) (c .before .before .before .before .before .before .before .before .before .before .before .before .before .before .before .before .pre .0 .0) (c .before .before .before .before .before .before .before .before .before .before .before .before .before .before .before .before .pre .0 .1) in omega (arith, r .m-is, c .before .before .loop-test .taken)
+edge-below : (c : tie.After-read22 Inv-loop μ-loop) → c .before .before .before .loop .k < edgeCount (start c .args .image .now)
+edge-below c = let r = facts (start c) in omega (arith, r .m-is, c .before .before .loop-test .taken)
 
-ends : (c : tie.After-read22 Inv-loop μ-loop) → (let u = c .before .read2 .result in let v = c .read22 .result in let n = handsetCount (c .before .before .before .before .before .before .before .before .before .before .before .before .before .before .before .before .args .image .now) in (u < n) × (v < n) × (u < 512) × (v < 512))
-ends c = let s = c .before .before .before .before .before .before .before .before .before .before .before .before .before .before .before .before in ends-read (s .args .image .now) (s .pre .0 .0) (c .before .before .before .loop .k) (c .before .read2 .result) (c .read22 .result) (edge-below c) (first-end c) (second-end c)
+ends : (c : tie.After-read22 Inv-loop μ-loop) → (let u = c .before .read2 .result in let v = c .read22 .result in let n = handsetCount (start c .args .image .now) in (u < n) × (v < n) × (u < 512) × (v < 512))
+ends c = let s = start c in ends-read (s .args .image .now) (s .pre .0 .0) (c .before .before .before .loop .k) (c .before .read2 .result) (c .read22 .result) (edge-below c) (first-end c) (second-end c)
 
-small : (c : tie.After-read22 Inv-loop μ-loop) → handsetCount (c .before .before .before .before .before .before .before .before .before .before .before .before .before .before .before .before .args .image .now) ≤ 512
-small c = let r = header-is (c .before .before .before .before .before .before .before .before .before .before .before .before .before .before .before .before .args .image .now) (c .before .before .before .before .before .before .before .before .before .before .before .before .before .before .before .before .args .h) (c .before .before .before .before .before .before .before .before .before .before .before .before .before .before .before .before .pre .0 .0) (c .before .before .before .before .before .before .before .before .before .before .before .before .before .before .before .before .pre .0 .1) in omega (arith, r .n-is, r .fits .n-limit)
+small : (c : tie.After-read22 Inv-loop μ-loop) → handsetCount (start c .args .image .now) ≤ 512
+small c = let r = facts (start c) in omega (arith, r .n-is, r .fits .n-limit)
 
 -- the sizes of the neighbourhoods
-first-size : (c : tie.After-read22 Inv-loop μ-loop) → getD (c .before .before .before .before .before .before .before .before .before .before .before .before .before .before .before .before .args .sizes .now) (c .before .read2 .result) 0 ≡ neighbourhoodSize (network (c .before .before .before .before .before .before .before .before .before .before .before .before .before .before .before .before .args .image .now)) (c .before .read2 .result)
-first-size c = let r = header-is (c .before .before .before .before .before .before .before .before .before .before .before .before .before .before .before .before .args .image .now) (c .before .before .before .before .before .before .before .before .before .before .before .before .before .before .before .before .args .h) (c .before .before .before .before .before .before .before .before .before .before .before .before .before .before .before .before .pre .0 .0) (c .before .before .before .before .before .before .before .before .before .before .before .before .before .before .before .before .pre .0 .1) in c .before .before .before .before .before .before .before .before .before .before .before .before .before .before .before .before .pre .1 .1 (c .before .read2 .result) (omega (arith, r .n-is, ends c .0))
+first-size : (c : tie.After-read22 Inv-loop μ-loop) → getD (start c .args .sizes .now) (c .before .read2 .result) 0 ≡ neighbourhoodSize (network (start c .args .image .now)) (c .before .read2 .result)
+first-size c = let r = facts (start c) in start c .pre .1 .1 (c .before .read2 .result) (omega (arith, r .n-is, ends c .0))
 
-second-size : (c : tie.After-read22 Inv-loop μ-loop) → getD (c .before .before .before .before .before .before .before .before .before .before .before .before .before .before .before .before .args .sizes .now) (c .read22 .result) 0 ≡ neighbourhoodSize (network (c .before .before .before .before .before .before .before .before .before .before .before .before .before .before .before .before .args .image .now)) (c .read22 .result)
-second-size c = let r = header-is (c .before .before .before .before .before .before .before .before .before .before .before .before .before .before .before .before .args .image .now) (c .before .before .before .before .before .before .before .before .before .before .before .before .before .before .before .before .args .h) (c .before .before .before .before .before .before .before .before .before .before .before .before .before .before .before .before .pre .0 .0) (c .before .before .before .before .before .before .before .before .before .before .before .before .before .before .before .before .pre .0 .1) in c .before .before .before .before .before .before .before .before .before .before .before .before .before .before .before .before .pre .1 .1 (c .read22 .result) (omega (arith, r .n-is, ends c .1))
+second-size : (c : tie.After-read22 Inv-loop μ-loop) → getD (start c .args .sizes .now) (c .read22 .result) 0 ≡ neighbourhoodSize (network (start c .args .image .now)) (c .read22 .result)
+second-size c = let r = facts (start c) in start c .pre .1 .1 (c .read22 .result) (omega (arith, r .n-is, ends c .1))
 
 are-similar-requires : tie.Need-are-similar-requires Inv-loop μ-loop
 are-similar-requires c κs =
-    let s = c .before .before .before .before .before .before .before .before .before .before .before .before .before .before .before .before in
+    let s = start c in
     let e = ends c in
-    let r = header-is (c .before .before .before .before .before .before .before .before .before .before .before .before .before .before .before .before .args .image .now) (c .before .before .before .before .before .before .before .before .before .before .before .before .before .before .before .before .args .h) (c .before .before .before .before .before .before .before .before .before .before .before .before .before .before .before .before .pre .0 .0) (c .before .before .before .before .before .before .before .before .before .before .before .before .before .before .before .before .pre .0 .1) in
-    let g = network (s .args .image .now) in
-    (
+    let r = facts (start c) in
+    let g = network (s .args .image .now) in (
       (e .2, e .3, s .pre .0 .2 .size, s .pre .1 .0, omega (arith, r .fits .p-q, r .fits .q-limit), r .fits .q-limit),
       (
         omega (arith, first-size c, size-le g (small c) (c .before .read2 .result)),
@@ -120,32 +128,41 @@ mark-both-requires : tie.Need-mark-both-requires Inv-loop μ-loop
 mark-both-requires c κs = let e = ends (c .before .before .before) in (e .2, e .3)
 
 add-k : tie.Need-add-k Inv-loop μ-loop
-add-k c = let r = header-is (c .before .before .before .before .before .before .before .before .before .before .before .before .before .before .before .before .before .before .args .image .now) (c .before .before .before .before .before .before .before .before .before .before .before .before .before .before .before .before .before .before .args .h) (c .before .before .before .before .before .before .before .before .before .before .before .before .before .before .before .before .before .before .pre .0 .0) (c .before .before .before .before .before .before .before .before .before .before .before .before .before .before .before .before .before .before .pre .0 .1) in omega (arith, r .fits .m-limit)
+add-k c = let r = facts (c .before .before .before .before .before .before .before .before .before .before .before .before .before .before .before .before .before .before) in omega (arith, r .fits .m-limit)
 
 loop-less : tie.Need-loop-less Inv-loop μ-loop
 loop-less c = omega arith
+
+-- the test of an edge is the definition's
+same-test : (c : tie.After-are-similar Inv-loop μ-loop)
+    → c .are-similar .result ≡ similar (network (start (c .before) .args .image .now)) (c .before .before .read2 .result) (c .before .read22 .result)
+same-test c =
+    let r = c .before in
+    let s = start r in
+    let h = facts s in
+    c .are-similar .ensures
+    ∙ similar-test (network (s .args .image .now)) (small r) (r .before .read2 .result) (r .read22 .result)
+    (getD (s .args .sizes .now) (r .before .read2 .result) 0) (getD (s .args .sizes .now) (r .read22 .result) 0) (s .args .h .p) (s .args .h .q)
+    (s .pre .0 .2) (ends r .0) (ends r .1) (first-size r) (second-size r) (h .p-is) (h .q-is)
 
 loop-again : tie.Need-loop-again Inv-loop μ-loop
 loop-again c =
     let r = c .before .before in
     let l = c .before .before .before .before .before .loop in
-    let s = c .before .before .before .before .before .before .before .before .before .before .before .before .before .before .before .before .before .before in
+    let s = start r in
     let g = s .args .image .now in
-    let h = header-is (c .before .before .before .before .before .before .before .before .before .before .before .before .before .before .before .before .before .before .args .image .now) (c .before .before .before .before .before .before .before .before .before .before .before .before .before .before .before .before .before .before .args .h) (c .before .before .before .before .before .before .before .before .before .before .before .before .before .before .before .before .before .before .pre .0 .0) (c .before .before .before .before .before .before .before .before .before .before .before .before .before .before .before .before .before .before .pre .0 .1) in
     let u = r .before .read2 .result in
     let v = r .read22 .result in
-    let test = c .before .are-similar .ensures
-      ∙ similar-test (network g) (small r) u v _ _ (s .args .h .p) (s .args .h .q) (s .pre .0 .2) (ends r .0) (ends r .1) (first-size r) (second-size r) (h .p-is) (h .q-is) in
-    (
+    let test = same-test (c .before) in (
       omega arith,
       ⊎-elim
-      (λ w.
-        edge-yes g (s .pre .0 .0) (similar (network g)) (l .k) u v (edge-below r) (first-end r) (second-end r) (l .alike) (c .if1 .alike)
-        (subst (λ (x : Bool). T x) (sym (w .0 .taken) ∙ test) tt) (w .5 ∙ w .2 .ensures) (l .inv .1))
-      (λ w.
-        edge-no g (s .pre .0 .0) (similar (network g)) (l .k) u v (edge-below r) (first-end r) (second-end r) (l .alike) (c .if1 .alike)
-        (subst (λ (x : Bool). T (not x)) (sym (w .0 .left) ∙ test) tt) (w .1) (l .inv .1))
-      (c .if1 .came),
+          (λ w.
+          edge-yes g (s .pre .0 .0) (similar (network g)) (l .k) u v (edge-below r) (first-end r) (second-end r) (l .alike) (c .if1 .alike)
+          (subst (λ (x : Bool). T x) (sym (w .0 .taken) ∙ test) tt) (w .5 ∙ w .2 .ensures) (l .inv .1))
+          (λ w.
+          edge-no g (s .pre .0 .0) (similar (network g)) (l .k) u v (edge-below r) (first-end r) (second-end r) (l .alike) (c .if1 .alike)
+          (subst (λ (x : Bool). T (not x)) (sym (w .0 .left) ∙ test) tt) (w .1) (l .inv .1))
+          (c .if1 .came),
     )
 
 same-length : tie.Need-same-length Inv-loop μ-loop
@@ -156,7 +173,7 @@ returns c =
     let l = c .before .loop in
     let s = c .before .before .before .before .before .before .before .before .before .before .before .before .before .before in
     let g = s .args .image .now in
-    let e : l .k ≡ edgeCount g = let r = header-is (c .before .before .before .before .before .before .before .before .before .before .before .before .before .before .args .image .now) (c .before .before .before .before .before .before .before .before .before .before .before .before .before .before .args .h) (c .before .before .before .before .before .before .before .before .before .before .before .before .before .before .pre .0 .0) (c .before .before .before .before .before .before .before .before .before .before .before .before .before .before .pre .0 .1) in omega (arith, r .m-is, c .loop-test .left) in
+    let e : l .k ≡ edgeCount g = let r = facts (c .before .before .before .before .before .before .before .before .before .before .before .before .before .before) in omega (arith, r .m-is, c .loop-test .left) in
     similar-table g (s .pre .0 .0) (subst (λ (k : ℕ). Table (l .alike) (marked (handsetCount g) (edgeRecords g) (similar (network g)) k)) e (l .inv .1))
 
 pub mark-similar-spec : {M : Type 1} → statement M

@@ -1,3 +1,4 @@
+-- `planner::graph::measure` meets its contract. At u each entry below u is the size of its row; the store at u leaves those alone.
 use Prim.Native.Nat.{ℕ, _≤_, _<_, _-_}
 use native.Mathlib.Omega.{arith}
 use mathlib.Core.Path.{_≡_, refl, _∙_}
@@ -36,13 +37,12 @@ loop-less c = omega arith
 
 loop-again : tie.Need-loop-again Inv-loop μ-loop
 loop-again c =
-    let l = c .before .before .loop in
-    (
+    let l = c .before .before .loop in (
       omega arith,
       length-set (l .sizes) (l .u) (c .row-size .result) ∙ l .inv .1,
       below-more (λ (x : ℕ). getD (set (l .sizes) (l .u) (c .row-size .result)) x 0 ≡ sum 512 (λ w. cell (c .before .before .before .before .before .args .table .now) x w)) (l .u)
-      (λ x h. getD-set-other (l .sizes) (l .u) x (c .row-size .result) 0 (λ e. omega arith) ∙ l .inv .2 x h)
-      (getD-set-same (l .sizes) (l .u) (c .row-size .result) 0 (omega arith) ∙ c .row-size .ensures),
+          (λ x h. getD-set-other (l .sizes) (l .u) x (c .row-size .result) 0 (λ e. omega arith) ∙ l .inv .2 x h)
+          (getD-set-same (l .sizes) (l .u) (c .row-size .result) 0 (omega arith) ∙ c .row-size .ensures),
     )
 
 same-length : tie.Need-same-length Inv-loop μ-loop

@@ -1,3 +1,4 @@
+-- `planner::graph::meets_epsilon` meets its contract: with sizes up to 512 and p and q up to 1,000 no product wraps.
 use native.Mathlib.Nat.{mul-le-mul}
 use mir.Facts.{fits-le, fits-lit}
 use borrow.Author.Needs.{needs}

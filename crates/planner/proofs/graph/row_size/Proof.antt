@@ -1,5 +1,7 @@
+-- `planner::graph::row_size` meets its contract. After j words the count is the sum of the row's first 64 j bits, since the ones of a word are its bits'
+-- sum. The measure is what is left of eight words.
 use lib.ListN.{getD}
-use lib.Count.{ones, ones-le}
+use lib.Count.{ones-le}
 use Prim.Native.Nat.{ℕ, _≤_, _<_, _+_, _*_, _-_, _^_}
 use native.Mathlib.Omega.{arith}
 use mathlib.Core.Path.{_≡_, refl, ap, _∙_}

@@ -1,3 +1,5 @@
+-- `planner::graph::squared_distance` meets its contract. The coordinates that are read are those of the records, so the two gaps are theirs, and with
+-- gaps of at most 2,000,000 neither the squares nor their sum wrap.
 use Prim.Native.Nat.{ℕ, _+_, _*_, _≤_}
 use native.Mathlib.Nat.{mul-le-mul}
 use native.Mathlib.Omega.{arith}

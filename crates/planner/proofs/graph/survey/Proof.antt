@@ -1,10 +1,16 @@
+-- `planner::graph::survey` meets its contract. Each table is what the call that fills it ensures; the sizes are those of the neighbourhoods, since the
+-- near table is the neighbour relation, and the cores are those of the network, since the similarity table is its similarity.
 use native.Mathlib.Omega.{arith}
 use mathlib.Core.Path.{_∙_}
 use Rattle.community.specs.Site.{network}
-use Rattle.planner.proofs.GraphLaws.{header-is, near-size, cores-set, core-size-is}
+use Rattle.planner.proofs.GraphLaws.{Read, header-is, near-size, cores-set, core-size-is}
 use borrow.Author.Needs.{needs}
 use Rattle.planner.proofs.graph.survey.Statement.{statement}
 use Rattle.planner.proofs.graph.survey.Tie as tie
+
+-- the numbers of the header are those of the image, and keep to their limits
+facts : (c : tie.Start) → Read (c .args .image .now) (c .args .h)
+facts c = header-is (c .args .image .now) (c .args .h) (c .pre .0) (c .pre .1)
 
 cast-n : tie.Need-cast-n
 cast-n c = search needs
@@ -16,7 +22,7 @@ slice-aggregate-measure : tie.Need-slice-aggregate-measure
 slice-aggregate-measure c = search needs
 
 measure-requires : tie.Need-measure-requires
-measure-requires c κs = let r = header-is (c .before .before .before .before .before .before .before .before .before .before .before .args .image .now) (c .before .before .before .before .before .before .before .before .before .before .before .args .h) (c .before .before .before .before .before .before .before .before .before .before .before .pre .0) (c .before .before .before .before .before .before .before .before .before .before .before .pre .1) in (c .before .before .before .before .mark-neighbours .ensures .size, r .fits .n-limit, r .fits .n-limit)
+measure-requires c κs = let r = facts (c .before .before .before .before .before .before .before .before .before .before .before) in (c .before .before .before .before .mark-neighbours .ensures .size, r .fits .n-limit, r .fits .n-limit)
 
 slice-aggregate-mark-similar : tie.Need-slice-aggregate-mark-similar
 slice-aggregate-mark-similar c = search needs
@@ -25,9 +31,8 @@ mark-similar-requires : tie.Need-mark-similar-requires
 mark-similar-requires c κs =
     let s = c .before .before .before .before .before .before .before .before .before .before .before .before .before .before .before .before in
     let g = network (s .args .image .now) in
-    let r = header-is (c .before .before .before .before .before .before .before .before .before .before .before .before .before .before .before .before .args .image .now) (c .before .before .before .before .before .before .before .before .before .before .before .before .before .before .before .before .args .h) (c .before .before .before .before .before .before .before .before .before .before .before .before .before .before .before .before .pre .0) (c .before .before .before .before .before .before .before .before .before .before .before .before .before .before .before .before .pre .1) in
-    let near = c .before .before .before .before .before .before .before .before .before .mark-neighbours .ensures in
-    (
+    let r = facts (c .before .before .before .before .before .before .before .before .before .before .before .before .before .before .before .before) in
+    let near = c .before .before .before .before .before .before .before .before .before .mark-neighbours .ensures in (
       (s .pre .0, s .pre .1, near, s .pre .3),
       (
         c .before .before .before .before .measure .kept .1 .1 .0,
@@ -42,7 +47,7 @@ cast-mark-cores : tie.Need-cast-mark-cores
 cast-mark-cores c = search needs
 
 mark-cores-requires : tie.Need-mark-cores-requires
-mark-cores-requires c κs = let r = header-is (c .before .before .before .before .before .before .before .before .before .before .before .before .before .before .before .before .before .before .before .before .before .before .args .image .now) (c .before .before .before .before .before .before .before .before .before .before .before .before .before .before .before .before .before .before .before .before .before .before .args .h) (c .before .before .before .before .before .before .before .before .before .before .before .before .before .before .before .before .before .before .before .before .before .before .pre .0) (c .before .before .before .before .before .before .before .before .before .before .before .before .before .before .before .before .before .before .before .before .before .before .pre .1) in (c .before .before .before .before .before .mark-similar .ensures .size, r .fits .n-limit, c .before .before .before .before .before .before .before .before .before .before .before .before .before .before .before .before .before .before .before .before .before .before .pre .4)
+mark-cores-requires c κs = let r = facts (c .before .before .before .before .before .before .before .before .before .before .before .before .before .before .before .before .before .before .before .before .before .before) in (c .before .before .before .before .before .mark-similar .ensures .size, r .fits .n-limit, c .before .before .before .before .before .before .before .before .before .before .before .before .before .before .before .before .before .before .before .before .before .before .pre .4)
 
 same-length : tie.Need-same-length
 same-length c = search needs
@@ -57,14 +62,14 @@ returns : tie.Need-returns
 returns c =
     let s = c .before .before .before .before .before .before .before .before .before .before .before .before .before .before .before .before .before .before .before .before .before .before .before .before .before in
     let g = s .args .image .now in
-    let r = header-is (c .before .before .before .before .before .before .before .before .before .before .before .before .before .before .before .before .before .before .before .before .before .before .before .before .before .args .image .now) (c .before .before .before .before .before .before .before .before .before .before .before .before .before .before .before .before .before .before .before .before .before .before .before .before .before .args .h) (c .before .before .before .before .before .before .before .before .before .before .before .before .before .before .before .before .before .before .before .before .before .before .before .before .before .pre .0) (c .before .before .before .before .before .before .before .before .before .before .before .before .before .before .before .before .before .before .before .before .before .before .before .before .before .pre .1) in
+    let r = facts (c .before .before .before .before .before .before .before .before .before .before .before .before .before .before .before .before .before .before .before .before .before .before .before .before .before) in
     record {
       near-table = c .before .before .before .before .before .before .before .before .before .before .before .before .before .before .before .before .before .before .mark-neighbours .ensures;
       similar-table = c .before .before .before .before .before .before .before .before .mark-similar .ensures;
       core-set =
-        cores-set (network g) (omega (arith, r .n-is, r .fits .n-limit)) (s .args .h .n) (c .before .before .before .before .core-size .result) (r .n-is)
-        (core-size-is g (c .before .before .before .before .core-size .result) (s .args .h .mu) (c .before .before .before .before .core-size .ensures) (r .mu-is))
-        (c .before .before .before .before .before .before .before .before .mark-similar .ensures) (c .before .before .mark-cores .ensures);
+          cores-set (network g) (omega (arith, r .n-is, r .fits .n-limit)) (s .args .h .n) (c .before .before .before .before .core-size .result) (r .n-is)
+          (core-size-is g (c .before .before .before .before .core-size .result) (s .args .h .mu) (c .before .before .before .before .core-size .ensures) (r .mu-is))
+          (c .before .before .before .before .before .before .before .before .mark-similar .ensures) (c .before .before .mark-cores .ensures);
     }
 
 pub survey-spec : {M : Type 1} → statement M
