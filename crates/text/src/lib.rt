@@ -71,7 +71,7 @@ pub fn put_decimal(text: &mut [u8], at: usize, n: u64) -> usize
 fn put_number(text: &mut [u8], at: usize, n: u64) -> usize
     ensures { λ r. ⌜ Wrote (now (text .entry)) at (32 ∷ decimal n) (now (text .exit)) r ⌝ }
 {
-    let next = put(text, at, 32);
+    let next = put_all(text, at, b" ");
     put_decimal(text, next, n)
 }
 

@@ -1,9 +1,9 @@
+-- `text::put_digits` meets its contract. A number below 10 is one digit; of a larger one the digits of its tenth come first, and then the last. The
+-- measure is the count of digits allowed.
 use borrow.Author.Needs.{needs}
 use native.Mathlib.Omega.{arith}
-use mathlib.Core.Path.{refl, ap, _∙_}
-use lib.ListN.{length}
-use lib.Seq.{length-sets}
-use Rattle.text.specs.Text.{Wrote, digitsOf}
+use mathlib.Core.Path.{refl}
+use Rattle.text.specs.Text.{digitsOf}
 use Rattle.text.proofs.Writing.{chain, digits-small, digits-large}
 use Prim.Native.Nat.{ℕ, _<_}
 use borrow.Fn.Kinds.{In}
@@ -27,7 +27,6 @@ abbrev put-digits-below : ℕ → In 1 put-digits-kinds.ps
 put-digits-below t =
     and 1 put-digits-kinds.ps (falls 1 put-digits-kinds.ps _<_ μ-put-digits t) put-digits.Pre
 
--- src/lib.rt:44:9
 put-digits-capped-requires : (t : ℕ) → put-digits-lts.Need-capped-requires (
   capped-reads.Asked,
   capped-reads.Learnt,
@@ -38,7 +37,6 @@ put-digits-capped-requires : (t : ℕ) → put-digits-lts.Need-capped-requires (
 ) (put-digits-at t) put-digits.Post
 put-digits-capped-requires t c κs = search needs
 
--- src/lib.rt:44:9
 put-digits-returns : (t : ℕ) → put-digits-lts.Need-returns (
   capped-reads.Asked,
   capped-reads.Learnt,
@@ -50,7 +48,6 @@ put-digits-returns : (t : ℕ) → put-digits-lts.Need-returns (
 unfolding digitsOf
 put-digits-returns t c = rw (c .before .if1 .taken) (record { list = refl; next = omega (arith, c .capped .ensures) })
 
--- src/lib.rt:47:30
 put-digits-add-put : (t : ℕ) → put-digits-lts.Need-add-put (
   capped-reads.Asked,
   capped-reads.Learnt,
@@ -61,7 +58,6 @@ put-digits-add-put : (t : ℕ) → put-digits-lts.Need-add-put (
 ) (put-digits-at t) put-digits.Post
 put-digits-add-put t c = search needs
 
--- src/lib.rt:47:29
 put-digits-cast-put : (t : ℕ) → put-digits-lts.Need-cast-put (
   capped-reads.Asked,
   capped-reads.Learnt,
@@ -72,7 +68,6 @@ put-digits-cast-put : (t : ℕ) → put-digits-lts.Need-cast-put (
 ) (put-digits-at t) put-digits.Post
 put-digits-cast-put t c = search needs
 
--- src/lib.rt:47:9
 put-digits-put-requires : (t : ℕ) → put-digits-lts.Need-put-requires (
   capped-reads.Asked,
   capped-reads.Learnt,
@@ -83,7 +78,6 @@ put-digits-put-requires : (t : ℕ) → put-digits-lts.Need-put-requires (
 ) (put-digits-at t) put-digits.Post
 put-digits-put-requires t c κs = search needs
 
--- src/lib.rt:47:9
 put-digits-same-length : (t : ℕ) → put-digits-lts.Need-same-length (
   capped-reads.Asked,
   capped-reads.Learnt,
@@ -94,7 +88,6 @@ put-digits-same-length : (t : ℕ) → put-digits-lts.Need-same-length (
 ) (put-digits-at t) put-digits.Post
 put-digits-same-length t c = search needs
 
--- src/lib.rt:47:9
 put-digits-returns-2 : (t : ℕ) → put-digits-lts.Need-returns-2 (
   capped-reads.Asked,
   capped-reads.Learnt,
@@ -107,7 +100,6 @@ put-digits-returns-2 t c =
     let a = c .before .before .before .before .before .before .before .args in
     rw (digits-small (a .k) (a .n) (c .before .before .before .before .before .if1 .left) (omega arith)) (c .before .before .put .ensures)
 
--- src/lib.rt:49:33
 put-digits-sub-put-digits : (t : ℕ) → put-digits-lts.Need-sub-put-digits (
   capped-reads.Asked,
   capped-reads.Learnt,
@@ -118,7 +110,6 @@ put-digits-sub-put-digits : (t : ℕ) → put-digits-lts.Need-sub-put-digits (
 ) (put-digits-at t) put-digits.Post
 put-digits-sub-put-digits t c = search needs
 
--- src/lib.rt:49:9
 put-digits-put-digits-requires : (t : ℕ) → put-digits-lts.Need-put-digits-requires (
   capped-reads.Asked,
   capped-reads.Learnt,
@@ -129,7 +120,6 @@ put-digits-put-digits-requires : (t : ℕ) → put-digits-lts.Need-put-digits-re
 ) (put-digits-at t) put-digits.Post
 put-digits-put-digits-requires t c κs = search needs
 
--- src/lib.rt:50:18
 put-digits-add-put-2 : (t : ℕ) → put-digits-lts.Need-add-put-2 (
   capped-reads.Asked,
   capped-reads.Learnt,
@@ -140,7 +130,6 @@ put-digits-add-put-2 : (t : ℕ) → put-digits-lts.Need-add-put-2 (
 ) (put-digits-at t) put-digits.Post
 put-digits-add-put-2 t c = search needs
 
--- src/lib.rt:50:17
 put-digits-cast-put-2 : (t : ℕ) → put-digits-lts.Need-cast-put-2 (
   capped-reads.Asked,
   capped-reads.Learnt,
@@ -151,7 +140,6 @@ put-digits-cast-put-2 : (t : ℕ) → put-digits-lts.Need-cast-put-2 (
 ) (put-digits-at t) put-digits.Post
 put-digits-cast-put-2 t c = search needs
 
--- src/lib.rt:50:5
 put-digits-put-requires-2 : (t : ℕ) → put-digits-lts.Need-put-requires-2 (
   capped-reads.Asked,
   capped-reads.Learnt,
@@ -162,7 +150,6 @@ put-digits-put-requires-2 : (t : ℕ) → put-digits-lts.Need-put-requires-2 (
 ) (put-digits-at t) put-digits.Post
 put-digits-put-requires-2 t c κs = search needs
 
--- src/lib.rt:40:1
 put-digits-same-length-2 : (t : ℕ) → put-digits-lts.Need-same-length-2 (
   capped-reads.Asked,
   capped-reads.Learnt,
@@ -173,7 +160,6 @@ put-digits-same-length-2 : (t : ℕ) → put-digits-lts.Need-same-length-2 (
 ) (put-digits-at t) put-digits.Post
 put-digits-same-length-2 t c = search needs
 
--- src/lib.rt:40:1
 put-digits-returns-3 : (t : ℕ) → put-digits-lts.Need-returns-3 (
   capped-reads.Asked,
   capped-reads.Learnt,

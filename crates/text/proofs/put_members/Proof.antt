@@ -16,11 +16,6 @@ use Rattle.text.specs.Text.{Wrote, numbers, membersOf}
 use Rattle.text.proofs.Writing.{chain, nothing, members-yes, members-no}
 use Rattle.text.proofs.put_members.Statement.{statement}
 use Rattle.text.proofs.put_members.Tie as tie
-use Rattle.text.proofs.put_members.Reads as reads
-use Rattle.text.proofs.put_members.Lts as lts
-use Rattle.sets.proofs.has.Reads as has-reads
-use Rattle.text.proofs.capped.Reads as capped-reads
-use Rattle.text.proofs.put_number.Reads as put-number-reads
 
 abbrev Inv-loop : tie.InvT-loop
 Inv-loop text₀ at set v₀ next₀ text v next = (v ≤ 512) × Wrote text₀ at (numbers (select v (λ u. eqb (bitAt set u) 1))) text next
@@ -56,11 +51,11 @@ loop-again c =
       omega arith,
       ⊎-elim
           (λ w.
-          let e : f v ≡ true = sym (c .before .has .ensures) ∙ w .0 .taken in
-          rw (members-yes f v (rw e tt), w .5, w .6) (chain (omega arith) (at-loop .loop .inv .1) (w .2 .ensures)))
+            let e : f v ≡ true = sym (c .before .has .ensures) ∙ w .0 .taken in
+            rw (members-yes f v (rw e tt), w .5, w .6) (chain (omega arith) (at-loop .loop .inv .1) (w .2 .ensures)))
           (λ w.
-          let e : f v ≡ false = sym (c .before .has .ensures) ∙ w .0 .left in
-          rw (members-no f v (rw e tt), w .1, w .2) (at-loop .loop .inv .1))
+            let e : f v ≡ false = sym (c .before .has .ensures) ∙ w .0 .left in
+            rw (members-no f v (rw e tt), w .1, w .2) (at-loop .loop .inv .1))
           (c .if1 .came),
     )
 

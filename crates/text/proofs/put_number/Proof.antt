@@ -5,8 +5,11 @@ use borrow.Author.Needs.{needs}
 use Rattle.text.proofs.put_number.Statement.{statement}
 use Rattle.text.proofs.put_number.Tie as tie
 
-put-requires : tie.Need-put-requires
-put-requires c κs = search needs
+slice-aggregate-put-all : tie.Need-slice-aggregate-put-all
+slice-aggregate-put-all c = search needs
+
+put-all-requires : tie.Need-put-all-requires
+put-all-requires c κs = search needs
 
 put-decimal-requires : tie.Need-put-decimal-requires
 put-decimal-requires c κs = search needs
@@ -15,7 +18,7 @@ same-length : tie.Need-same-length
 same-length c = search needs
 
 returns : tie.Need-returns
-returns c = chain (omega arith) (c .before .before .before .before .before .before .put .ensures) (c .before .before .put-decimal .ensures)
+returns c = chain (omega arith) (c .before .before .before .before .before .before .put-all .ensures) (c .before .before .put-decimal .ensures)
 
 pub put-number-spec : {M : Type 1} → statement M
-put-number-spec = tie.close (tie.spec put-requires put-decimal-requires same-length returns)
+put-number-spec = tie.close (tie.spec slice-aggregate-put-all put-all-requires put-decimal-requires same-length returns)

@@ -1,0 +1,104 @@
+-- The cases of the report's answer: of a refused image, and of a text that fits the buffer or does not; and what the program makes of each.
+--
+--     site-answer, refused-answer          the call's answer and the buffer after it, for an accepted image and for a refused one
+--     program-long                         an input of more than 65,536 bytes
+--     program-written, program-refused     what the program prints after either answer
+use Prim.Native.Nat.{ℕ, zero, suc, _+_, _≤_, _<_}
+use native.Mathlib.Omega.{arith}
+use mathlib.Core.Path.{_≡_, refl, sym, ap, _∙_, subst}
+use mathlib.Core.Bool.{Bool, true, false, cond}
+use mathlib.Core.List.{List, [], _∷_, _++_}
+use lib.Dec.{leb, ltb}
+use lib.ListN.{length, drop}
+use lib.Seq.{sets}
+use borrow.Author.Tests.{leb-true, le-leb, lt-ltb, le-ltb}
+use Rattle.sets.proofs.Writing.{sets-front}
+use Rattle.image.specs.Questions.{openOf}
+use Rattle.image.specs.declared.Header.{Header}
+use Rattle.image.specs.declared.Refusal.{Refusal}
+use Rattle.image.specs.declared.Opened.{Opened}
+use Rattle.image.specs.declared.Opened.the-variants as O
+use Rattle.text.specs.Text.{Wrote}
+use Rattle.reporting.specs.Report.{reportText, writtenOf, writtenIn, reportFor, reportOf, afterFor, textAfter, refusedText, refusal15, refusal16, printed, programText, ReportCall}
+use Rattle.reporting.specs.Held.{Filled}
+use Rattle.reporting.specs.declared.Reported.{Reported}
+use Rattle.reporting.specs.declared.Reported.the-variants as R
+
+pub site-answer : {s l l′ : List ℕ} {r : Reported} (h : Header) → openOf s ≡ O.Site h → Filled (reportText s) l r l′ → ReportCall s l r l′
+unfolding reportOf textAfter
+site-answer {s} {l} h e f = record {
+  answer = f .answer ∙ sym (ap (λ (o : Opened). reportFor s o (length l)) e);
+  text = f .text ∙ sym (ap (λ (o : Opened). afterFor s o l) e);
+}
+
+pub refused-answer : (s l : List ℕ) (r : Refusal) → openOf s ≡ O.Refused r → ReportCall s l (R.Refused r) l
+unfolding reportOf textAfter
+refused-answer s l r e = record {
+  answer = sym (ap (λ (o : Opened). reportFor s o (length l)) e);
+  text = sym (ap (λ (o : Opened). afterFor s o l) e);
+}
+
+-- a written answer is that of a text that fits
+written-fits : (t l : List ℕ) (k : ℕ) → R.Written k ≡ writtenOf t (length l) → (k ≡ length t) × (length t ≤ length l)
+unfolding writtenOf
+written-fits t l k q = go (leb (length t) (length l)) refl q
+  where
+    go : (b : Bool) → leb (length t) (length l) ≡ b → R.Written k ≡ cond b (R.Written (length t)) (R.Refused refusal16) → (k ≡ length t) × (length t ≤ length l)
+    go true e q = (cc, leb-true (length t) (length l) e)
+    go false e q = let z : _≡_ {A = ℕ} 0 1 = cc in absurd (omega arith)
+
+-- a refusal leaves the buffer as it was
+refused-keeps : (t l : List ℕ) (r : Refusal) → R.Refused r ≡ writtenOf t (length l) → writtenIn t l ≡ l
+unfolding writtenOf writtenIn
+refused-keeps t l r q = go (leb (length t) (length l)) refl q
+  where
+    go : (b : Bool) → leb (length t) (length l) ≡ b → R.Refused r ≡ cond b (R.Written (length t)) (R.Refused refusal16) → cond (leb (length t) (length l)) (t ++ drop (length t) l) l ≡ l
+    go true e q = let z : _≡_ {A = ℕ} 0 1 = cc in absurd (omega arith)
+    go false e q = rw e
+
+in-front : (t l : List ℕ) → length t ≤ length l → writtenIn t l ≡ t ++ drop (length t) l
+unfolding writtenIn
+in-front t l h = simp (le-leb _ _ h)
+
+pub program-long : (s : List ℕ) (room : ℕ) → 65536 < length s → programText s room ≡ refusedText refusal15
+unfolding programText
+program-long s room h = simp (lt-ltb _ _ h)
+
+program-short : (s : List ℕ) (room : ℕ) → length s ≤ 65536 → programText s room ≡ printed s (reportOf s room)
+unfolding programText
+program-short s room h = simp (le-ltb _ _ h)
+
+module _ (s l : List ℕ) (short : length s ≤ 65536) where
+  written-text : (l′ : List ℕ) (k : ℕ) → length l < 9223372036854775808 → ReportCall s l (R.Written k) l′ → Wrote l 0 (reportText s) l′ k
+  unfolding reportOf textAfter
+  written-text l′ k small call = go (openOf s) refl (call .answer)
+    where
+      go : (o : Opened) → openOf s ≡ o → R.Written k ≡ reportFor s o (length l) → Wrote l 0 (reportText s) l′ k
+      go (O.Refused r) e q = let z : _≡_ {A = ℕ} 0 1 = cc in absurd (omega arith)
+      go (O.Site h) e q =
+          let f = written-fits (reportText s) l k q in
+          record {
+            list = call .text ∙ ap (λ (o : Opened). afterFor s o l) e ∙ in-front (reportText s) l (f .1) ∙ sym (sets-front l (reportText s) (f .1));
+            next = omega (arith, f .0, f .1);
+          }
+
+  refused-same : (l′ : List ℕ) (r : Refusal) → ReportCall s l (R.Refused r) l′ → l′ ≡ l
+  unfolding reportOf textAfter
+  refused-same l′ r call = call .text ∙ go (openOf s) refl (call .answer)
+    where
+      go : (o : Opened) → openOf s ≡ o → R.Refused r ≡ reportFor s o (length l) → afterFor s (openOf s) l ≡ l
+      go (O.Refused x) e q = ap (λ (o : Opened). afterFor s o l) e
+      go (O.Site h) e q = ap (λ (o : Opened). afterFor s o l) e ∙ refused-keeps (reportText s) l r q
+
+  pub program-written : (l′ : List ℕ) (k : ℕ) (answer : Reported) → length l < 9223372036854775808 → answer ≡ R.Written k
+      → ReportCall s l answer l′ → Wrote l 0 (programText s (length l)) l′ k
+  program-written l′ k answer small d call =
+      let w : ReportCall s l (R.Written k) l′ = subst (λ (r : Reported). ReportCall s l r l′) d call in
+      subst (λ (t : List ℕ). Wrote l 0 t l′ k) (ap (printed s) (w .answer) ∙ sym (program-short s (length l) short)) (written-text l′ k small w)
+
+  pub program-refused : (l′ l″ : List ℕ) (r : Refusal) (k : ℕ) (answer : Reported) → answer ≡ R.Refused r
+      → ReportCall s l answer l′ → Wrote l′ 0 (refusedText r) l″ k → Wrote l 0 (programText s (length l)) l″ k
+  program-refused l′ l″ r k answer d call wrote =
+      let w : ReportCall s l (R.Refused r) l′ = subst (λ (x : Reported). ReportCall s l x l′) d call in
+      subst (λ (t : List ℕ). Wrote l 0 t l″ k) (ap (printed s) (w .answer) ∙ sym (program-short s (length l) short))
+      (subst (λ (m : List ℕ). Wrote m 0 (refusedText r) l″ k) (refused-same l′ r w) wrote)

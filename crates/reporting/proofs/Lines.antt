@@ -1,0 +1,50 @@
+-- The texts that the report's loops write, one step more; and the text from the tables is the report's.
+use Prim.Native.Nat.{ℕ, zero, suc, _+_, _*_, _≤_, _<_}
+use native.Mathlib.Omega.{arith}
+use native.Mathlib.Numerals.{add-one}
+use mathlib.Core.Path.{_≡_, refl, sym, ap, ap₂, _∙_}
+use mathlib.Core.List.{List, [], _∷_, _++_, append-assoc}
+use lib.ListN.{length, getD}
+use Rattle.lookup.specs.Lookup.{membersOf}
+use Rattle.scores.specs.Scored.{scoresFor}
+use Rattle.text.specs.Text.{decimal}
+use Rattle.text.specs.Text as X
+use Rattle.image.specs.declared.Refusal.{Refusal}
+use Rattle.reporting.specs.Report.{headLine, groupLine, listLine, refusedText, newline, handsetsWord, tiesWord, groupsWord, membershipsWord, coresWord, outliersWord, refusedWord}
+use Rattle.reporting.specs.Held.{tallyAt, tableLines, tableText}
+
+pub lines-more : (starts members ts : List ℕ) (k : ℕ)
+    → tableLines starts members ts (k + 1) ≡ tableLines starts members ts k ++ groupLine k (scoresFor (tallyAt ts k)) (membersOf starts members k)
+unfolding tableLines
+lines-more starts members ts k = ap (tableLines starts members ts) (add-one k)
+
+-- line one as its five writes leave it
+pub head-parts : (n m groups memberships : ℕ) → headLine n m groups memberships
+    ≡ ((((handsetsWord ++ decimal n) ++ (tiesWord ++ decimal m)) ++ (groupsWord ++ decimal groups)) ++ (membershipsWord ++ decimal memberships)) ++ newline
+unfolding headLine
+head-parts n m groups memberships =
+    sym (five (handsetsWord ++ decimal n) (tiesWord ++ decimal m) (groupsWord ++ decimal groups) (membershipsWord ++ decimal memberships) newline
+    ∙ append-assoc handsetsWord (decimal n) _
+    ∙ ap (λ (l : List ℕ). handsetsWord ++ (decimal n ++ l)) (append-assoc tiesWord (decimal m) _
+    ∙ ap (λ (l : List ℕ). tiesWord ++ (decimal m ++ l)) (append-assoc groupsWord (decimal groups) _
+    ∙ ap (λ (l : List ℕ). groupsWord ++ (decimal groups ++ l)) (append-assoc membershipsWord (decimal memberships) newline))))
+  where
+    five : (a b c d e : List ℕ) → (((a ++ b) ++ c) ++ d) ++ e ≡ a ++ (b ++ (c ++ (d ++ e)))
+    five a b c d e = simp append-assoc
+
+-- the text as its four writes leave it
+pub text-parts : (n m groups memberships : ℕ) (starts members ts cores outliers : List ℕ) → tableText n m groups memberships starts members ts cores outliers
+    ≡ ((headLine n m groups memberships ++ tableLines starts members ts groups) ++ listLine coresWord (X.membersOf cores)) ++ listLine outliersWord (X.membersOf outliers)
+unfolding tableText
+text-parts n m groups memberships starts members ts cores outliers =
+    sym (four (headLine n m groups memberships) (tableLines starts members ts groups) (listLine coresWord (X.membersOf cores)) (listLine outliersWord (X.membersOf outliers)))
+  where
+    four : (a b c d : List ℕ) → ((a ++ b) ++ c) ++ d ≡ a ++ (b ++ (c ++ d))
+    four a b c d = simp append-assoc
+
+-- a refusal as its three writes leave it
+pub refused-parts : (r : Refusal) → refusedText r ≡ ((refusedWord ++ decimal (r .number)) ++ ((32 ∷ []) ++ decimal (r .place))) ++ newline
+unfolding refusedText
+refused-parts r =
+    sym (append-assoc (refusedWord ++ decimal (r .number)) ((32 ∷ []) ++ decimal (r .place)) newline
+    ∙ append-assoc refusedWord (decimal (r .number)) _)

@@ -1,0 +1,86 @@
+-- The plan that the report works from: an accepted image has at most 512 communities and 8,704 memberships, so that its plan fits the two tables.
+--
+--     plan-held        the plan's counts and tables, and the set of cores
+--     plan-refused     the plan is not refused
+use Prim.Native.Nat.{ℕ, _+_, _*_, _≤_, _<_}
+use native.Mathlib.Omega.{arith}
+use mathlib.Core.Path.{_≡_, refl, sym, ap, ap₂, _∙_}
+use mathlib.Core.Bool.{Bool, _&&_, cond}
+use mathlib.Core.List.{List, [], _∷_, _++_}
+use lib.Dec.{ltb, leb}
+use lib.ListN.{length, replicate, length-replicate}
+use borrow.Author.Tests.{lt-ltb, le-leb}
+use Rattle.sets.specs.Below.{bit}
+use Rattle.image.specs.Image.{handsetCount, edgeCount}
+use Rattle.image.specs.Questions.{Accepted, headerOf, openOf}
+use Rattle.image.specs.declared.Header.{Header}
+use Rattle.image.specs.declared.Refusal.{Refusal}
+use Rattle.image.specs.declared.Opened.{Opened}
+use Rattle.image.proofs.Acceptance.{accepted-fits, opened}
+use Rattle.community.specs.Network.{isCore, communities}
+use Rattle.community.specs.Site.{network}
+use Rattle.community.specs.Tables.{startTable, memberTable}
+use Rattle.community.proofs.Bound.{memberships-bound}
+use Rattle.planner.specs.Held.{SetOf}
+use Rattle.planner.specs.Plan.{byRoom, over, communitiesOf, planned, planFor, planOf, tableFor, startsAfter, membersAfter, coreFor, PlanCall, CoreWords}
+use Rattle.planner.specs.declared.Planned.{Planned}
+use Rattle.planner.specs.declared.Planned.the-variants as P
+use Rattle.reporting.specs.Held.{PlanHeld}
+use Rattle.reporting.proofs.Whole.{communities-few}
+
+in-room : {X : Type 0} (gs : List (List ℕ)) (a b : ℕ) (x y z : X) → length gs < a → length (memberTable gs) ≤ b → byRoom gs a b x y z ≡ z
+in-room gs a b x y z h l = simp (lt-ltb _ _ h, le-leb _ _ l)
+
+abbrev pub blankStarts : List ℕ
+blankStarts = replicate 513 0
+
+abbrev pub blankMembers : List ℕ
+blankMembers = replicate 8704 0
+
+module _ (s : List ℕ) (a : Accepted s) where
+  few : length (communities (network s)) < length blankStarts
+  unfolding headerOf
+  few = omega (arith, communities-few (network s), accepted-fits s a .n-limit, length-replicate {A = ℕ} 513 0)
+
+  bound : length (memberTable (communities (network s))) ≤ length blankMembers
+  unfolding headerOf
+  bound = omega (arith, memberships-bound s a, accepted-fits s a .n-limit, accepted-fits s a .m-limit, length-replicate {A = ℕ} 8704 0)
+
+  plan-made : planOf s (length blankStarts) (length blankMembers) ≡ P.Made (length (communities (network s))) (length (memberTable (communities (network s))))
+  unfolding planOf communitiesOf
+  plan-made = ap (λ (o : Opened). planFor s o (length blankStarts) (length blankMembers)) (opened s a) ∙ in-room (communities (network s)) _ _ _ _ _ few bound
+
+  starts-made : startsAfter s blankStarts (length blankMembers) ≡ over (startTable (communities (network s))) blankStarts
+  unfolding startsAfter communitiesOf
+  starts-made =
+      ap (λ (o : Opened). tableFor s o (length blankStarts) (length blankMembers) (startTable (communities (network s))) blankStarts) (opened s a)
+      ∙ in-room (communities (network s)) _ _ _ _ _ few bound
+
+  members-made : membersAfter s (length blankStarts) blankMembers ≡ over (memberTable (communities (network s))) blankMembers
+  unfolding membersAfter communitiesOf
+  members-made =
+      ap (λ (o : Opened). tableFor s o (length blankStarts) (length blankMembers) (memberTable (communities (network s))) blankMembers) (opened s a)
+      ∙ in-room (communities (network s)) _ _ _ _ _ few bound
+
+  cores-held : (ws : List ℕ) → CoreWords s ws → SetOf ws (λ v. ltb v (handsetCount s) && isCore (network s) v)
+  unfolding headerOf
+  cores-held ws c = record { size = c .size; bits = λ v h. c .bits v h ∙ ap (λ (o : Opened). bit (coreFor s o v)) (opened s a) }
+
+  pub plan-held : (h : Header) (groups memberships : ℕ) (answer : Planned) (starts table ws : List ℕ) → h ≡ headerOf s → answer ≡ P.Made groups memberships
+      → PlanCall s blankStarts blankMembers answer starts table → CoreWords s ws → PlanHeld s h groups memberships starts table ws
+  plan-held h groups memberships answer starts table ws e d p c =
+      let m : P.Made groups memberships ≡ P.Made (length (communities (network s))) (length (memberTable (communities (network s)))) = sym d ∙ p .answer ∙ plan-made in
+      record {
+        accepted = a;
+        header = e;
+        groups-are = cc;
+        memberships-are = cc;
+        starts-are = p .starts ∙ starts-made;
+        members-are = p .members ∙ members-made;
+        cores-are = cores-held ws c;
+      }
+
+  pub plan-refused : (r : Refusal) (answer : Planned) (starts table : List ℕ) → answer ≡ P.Refused r → PlanCall s blankStarts blankMembers answer starts table → ⊥
+  plan-refused r answer starts table d p =
+      let m : P.Refused r ≡ P.Made (length (communities (network s))) (length (memberTable (communities (network s)))) = sym d ∙ p .answer ∙ plan-made in
+      let z : _≡_ {A = ℕ} 0 1 = cc in omega arith

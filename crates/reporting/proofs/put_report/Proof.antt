@@ -1,0 +1,54 @@
+-- `reporting::put_report` meets its contract: line one, the groups, the cores, the outliers.
+use native.Mathlib.Omega.{arith}
+use Rattle.text.proofs.Writing.{chain}
+use Rattle.reporting.proofs.Lines.{text-parts}
+use Prim.Native.Nat.{_≤_}
+use lib.ListN.{length}
+use denote.Ref.{now}
+use borrow.Author.Needs.{needs}
+use Rattle.reporting.proofs.put_report.Statement.{statement}
+use Rattle.reporting.proofs.put_report.Tie as tie
+
+put-head-requires : tie.Need-put-head-requires
+put-head-requires c κs = search needs
+
+put-groups-requires : tie.Need-put-groups-requires
+put-groups-requires c κs = search needs
+
+slice-aggregate-put-set : tie.Need-slice-aggregate-put-set
+slice-aggregate-put-set c = search needs
+
+put-set-requires : tie.Need-put-set-requires
+put-set-requires c κs = search needs
+
+slice-aggregate-put-set-2 : tie.Need-slice-aggregate-put-set-2
+slice-aggregate-put-set-2 c = search needs
+
+put-set-requires-2 : tie.Need-put-set-requires-2
+put-set-requires-2 c κs = search needs
+
+same-length : tie.Need-same-length
+same-length c = search needs
+
+returns : tie.Need-returns
+returns c = 
+    let w4 = c .before .before in
+    let w3 = w4 .before .before .before .before .before in
+    let w2 = w3 .before .before .before .before .before in
+    let w1 = w2 .before .before .before .before in
+    let start = w1 .before .before .before .before .before .before .before .before in
+    let h : length (now (start .args .text)) ≤ 9223372036854775808 = omega (arith, start .good .0 .1) in
+    rw text-parts (chain h (chain h (chain h (w1 .put-head .ensures) (w2 .put-groups .ensures)) (w3 .put-set .ensures)) (w4 .put-set2 .ensures))
+
+pub put-report-spec : {M : Type 1} → statement M
+put-report-spec =
+    tie.close
+    (tie.spec
+    put-head-requires
+    put-groups-requires
+    slice-aggregate-put-set
+    put-set-requires
+    slice-aggregate-put-set-2
+    put-set-requires-2
+    same-length
+    returns)

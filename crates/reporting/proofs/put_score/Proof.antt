@@ -1,0 +1,56 @@
+-- `reporting::put_score` meets its contract: the two cases of a score.
+use native.Mathlib.Omega.{arith}
+use Rattle.text.proofs.Writing.{chain}
+use Rattle.reporting.specs.Report.{scoreText}
+use borrow.Author.Needs.{needs}
+use Rattle.reporting.proofs.put_score.Statement.{statement}
+use Rattle.reporting.proofs.put_score.Tie as tie
+
+enum-known-score : tie.Need-enum-known-score
+enum-known-score c = search needs
+
+put-decimal-requires : tie.Need-put-decimal-requires
+put-decimal-requires c κs = search needs
+
+slice-aggregate-put-labelled : tie.Need-slice-aggregate-put-labelled
+slice-aggregate-put-labelled c = search needs
+
+put-labelled-requires : tie.Need-put-labelled-requires
+put-labelled-requires c κs = search needs
+
+enum-told : tie.Need-enum-told
+enum-told c = search needs
+
+put-requires : tie.Need-put-requires
+put-requires c κs = search needs
+
+same-length : tie.Need-same-length
+same-length c = search needs
+
+returns : tie.Need-returns
+unfolding scoreText
+returns c = 
+    let ratio = c .before .before .before .before .before .before .before .before .before .before .score .given .1 in
+    rw ratio (chain (omega arith) (c .before .before .before .before .before .before .before .put-decimal .ensures) (c .before .before .put-labelled .ensures))
+
+same-length-2 : tie.Need-same-length-2
+same-length-2 c = search needs
+
+returns-2 : tie.Need-returns-2
+unfolding scoreText
+returns-2 c = rw (c .before .before .before .before .enum-told .given .1) (c .before .before .put .ensures)
+
+pub put-score-spec : {M : Type 1} → statement M
+put-score-spec =
+    tie.close
+    (tie.spec
+    enum-known-score
+    put-decimal-requires
+    slice-aggregate-put-labelled
+    put-labelled-requires
+    enum-told
+    put-requires
+    same-length
+    returns
+    same-length-2
+    returns-2)

@@ -1,0 +1,112 @@
+-- `reporting::report_plan` meets its contract: the tables that its calls make are those of the image, and the text from them is the report's.
+use native.Mathlib.Omega.{arith}
+use Prim.Native.Nat.{ℕ}
+use mathlib.Core.Path.{_≡_, refl, subst}
+use mathlib.Core.List.{List}
+use denote.Ref.{now}
+use Rattle.reporting.specs.Held.{Filled}
+use Rattle.reporting.proofs.Whole.{groups-few, handsets-few, edges-fit, members-fit, text-held}
+use borrow.Author.Needs.{needs}
+use Rattle.reporting.proofs.report_plan.Statement.{statement}
+use Rattle.reporting.proofs.report_plan.Tie as tie
+
+cast-a : tie.Need-cast-a
+cast-a c = search needs
+
+cast-b : tie.Need-cast-b
+cast-b c = search needs
+
+mul-b : tie.Need-mul-b
+mul-b c = search needs
+
+add-b : tie.Need-add-b
+add-b c = search needs
+
+sub-tally-groups : tie.Need-sub-tally-groups
+sub-tally-groups c = search needs
+
+part-tally-groups-start : tie.Need-part-tally-groups-start
+part-tally-groups-start c = search needs
+
+part-tally-groups-end : tie.Need-part-tally-groups-end
+part-tally-groups-end c = edges-fit (c .before .before .before .before .before .before .before .pre)
+
+slice-aggregate-tally-groups : tie.Need-slice-aggregate-tally-groups
+slice-aggregate-tally-groups c = search needs
+
+tally-groups-requires : tie.Need-tally-groups-requires
+tally-groups-requires c κs = (groups-few (c .before .before .before .before .before .before .before .before .before .pre), refl)
+
+slice-aggregate-mark-below : tie.Need-slice-aggregate-mark-below
+slice-aggregate-mark-below c = search needs
+
+cast-mark-below : tie.Need-cast-mark-below
+cast-mark-below c = search needs
+
+mark-below-requires : tie.Need-mark-below-requires
+mark-below-requires c κs = (handsets-few (c .before .before .before .before .before .before .before .before .before .before .before .before .before .pre), refl)
+
+slice-aggregate-unmark-all : tie.Need-slice-aggregate-unmark-all
+slice-aggregate-unmark-all c = search needs
+
+sub-unmark-all : tie.Need-sub-unmark-all
+sub-unmark-all c = search needs
+
+part-unmark-all-start : tie.Need-part-unmark-all-start
+part-unmark-all-start c = search needs
+
+part-unmark-all-end : tie.Need-part-unmark-all-end
+part-unmark-all-end c = members-fit (c .before .before .before .before .before .before .before .before .before .before .before .before .before .before .before .before .pre)
+
+unmark-all-requires : tie.Need-unmark-all-requires
+unmark-all-requires c κs = search needs
+
+slice-aggregate-write-report : tie.Need-slice-aggregate-write-report
+slice-aggregate-write-report c = search needs
+
+slice-aggregate-write-report-2 : tie.Need-slice-aggregate-write-report-2
+slice-aggregate-write-report-2 c = search needs
+
+write-report-requires : tie.Need-write-report-requires
+write-report-requires c κs = groups-few (c .before .before .before .before .before .before .before .before .before .before .before .before .before .before .before .before .before .before .before .before .before .before .pre)
+
+same-length : tie.Need-same-length
+same-length c = search needs
+
+returns : tie.Need-returns
+returns c = 
+    let wrote = c .before .before in
+    let left = wrote .before .before .before .before .before in
+    let low = left .before .before .before .before in
+    let tallied = low .before .before .before .before in
+    let start = tallied .before .before .before .before .before .before .before .before .before .before in
+    subst (λ (t : List ℕ). Filled t (now (start .args .text)) (wrote .write-report .result) (wrote .write-report .last .0))
+    (text-held (start .pre) _ _ _ (tallied .tally-groups .ensures) (low .mark-below .ensures) (left .unmark-all .ensures))
+    (wrote .write-report .ensures)
+
+pub report-plan-spec : {M : Type 1} → statement M
+report-plan-spec =
+    tie.close
+    (tie.spec
+    cast-a
+    cast-b
+    mul-b
+    add-b
+    sub-tally-groups
+    part-tally-groups-start
+    part-tally-groups-end
+    slice-aggregate-tally-groups
+    tally-groups-requires
+    slice-aggregate-mark-below
+    cast-mark-below
+    mark-below-requires
+    slice-aggregate-unmark-all
+    sub-unmark-all
+    part-unmark-all-start
+    part-unmark-all-end
+    unmark-all-requires
+    slice-aggregate-write-report
+    slice-aggregate-write-report-2
+    write-report-requires
+    same-length
+    returns)

@@ -1,0 +1,179 @@
+-- The text of a report, and the answers of the calls that write it (paper 01, "Scores, lookup, report").
+--
+--     headLine, groupLine, listLine    the kinds of lines, each ended by byte 10
+--     reportText s                     the whole text for an accepted image: its exact bytes
+--     outliers g                       the handsets in no community, ascending
+--     reportOf s room                  the answer for an image and a buffer of room bytes: its refusal, 16, or the text's length
+--     textAfter s buffer               every byte of the buffer after the call
+--     ReportCall                       the outcome of a call: its answer and the buffer
+--     refusedText                      what the program prints for a refusal
+--     programText s room               what the report program prints for an input, with a buffer of room bytes
+--     refusalIn                        the paper's number and place for each case of the answer
+use Prim.Native.Nat.{ℕ, zero, suc}
+use mathlib.Core.Path.{_≡_}
+use mathlib.Core.Bool.{Bool, true, false, cond}
+use mathlib.Core.List.{List, [], _∷_, _++_}
+use lib.Dec.{leb, ltb}
+use lib.ListN.{length, getD, drop}
+use Rattle.sets.specs.Below.{select}
+use Rattle.image.specs.Image.{handsetCount, edgeCount}
+use Rattle.image.specs.Questions.{openOf}
+use Rattle.image.specs.declared.Refusal.{Refusal}
+use Rattle.image.specs.declared.Opened.{Opened}
+use Rattle.image.specs.declared.Opened.the-variants as O
+use Rattle.community.specs.Network.{Network, communities, cores, role}
+use Rattle.community.specs.Tables.{memberTable}
+use Rattle.community.specs.Site.{network}
+use Rattle.community.specs.declared.Role.{Role}
+use Rattle.community.specs.declared.Role.the-variants.{Core, Border, Outlier}
+use Rattle.scores.specs.declared.Score.{Score}
+use Rattle.scores.specs.declared.Score.the-variants.{Ratio, Nothing}
+use Rattle.scores.specs.declared.Scores.{Scores}
+use Rattle.scores.specs.Scored.{tallyOf, scoresFor}
+use Rattle.text.specs.Text.{decimal, numbers}
+use Rattle.reporting.specs.declared.Reported.{Reported}
+use Rattle.reporting.specs.declared.Reported.the-variants as R
+
+-- ---- the words of the report
+
+-- "handsets "
+abbrev pub handsetsWord : List ℕ
+handsetsWord = 104 ∷ 97 ∷ 110 ∷ 100 ∷ 115 ∷ 101 ∷ 116 ∷ 115 ∷ 32 ∷ []
+
+-- " ties "
+abbrev pub tiesWord : List ℕ
+tiesWord = 32 ∷ 116 ∷ 105 ∷ 101 ∷ 115 ∷ 32 ∷ []
+
+-- " groups "
+abbrev pub groupsWord : List ℕ
+groupsWord = 32 ∷ 103 ∷ 114 ∷ 111 ∷ 117 ∷ 112 ∷ 115 ∷ 32 ∷ []
+
+-- " memberships "
+abbrev pub membershipsWord : List ℕ
+membershipsWord = 32 ∷ 109 ∷ 101 ∷ 109 ∷ 98 ∷ 101 ∷ 114 ∷ 115 ∷ 104 ∷ 105 ∷ 112 ∷ 115 ∷ 32 ∷ []
+
+-- "group "
+abbrev pub groupWord : List ℕ
+groupWord = 103 ∷ 114 ∷ 111 ∷ 117 ∷ 112 ∷ 32 ∷ []
+
+-- " density "
+abbrev pub densityWord : List ℕ
+densityWord = 32 ∷ 100 ∷ 101 ∷ 110 ∷ 115 ∷ 105 ∷ 116 ∷ 121 ∷ 32 ∷ []
+
+-- " conductance "
+abbrev pub conductanceWord : List ℕ
+conductanceWord = 32 ∷ 99 ∷ 111 ∷ 110 ∷ 100 ∷ 117 ∷ 99 ∷ 116 ∷ 97 ∷ 110 ∷ 99 ∷ 101 ∷ 32 ∷ []
+
+-- "cores:"
+abbrev pub coresWord : List ℕ
+coresWord = 99 ∷ 111 ∷ 114 ∷ 101 ∷ 115 ∷ 58 ∷ []
+
+-- "outliers:"
+abbrev pub outliersWord : List ℕ
+outliersWord = 111 ∷ 117 ∷ 116 ∷ 108 ∷ 105 ∷ 101 ∷ 114 ∷ 115 ∷ 58 ∷ []
+
+-- "refused "
+abbrev pub refusedWord : List ℕ
+refusedWord = 114 ∷ 101 ∷ 102 ∷ 117 ∷ 115 ∷ 101 ∷ 100 ∷ 32 ∷ []
+
+-- ---- the lines
+
+abbrev pub newline : List ℕ
+newline = 10 ∷ []
+
+-- n, m, and the plan's two counts
+unfoldable pub headLine : ℕ → ℕ → ℕ → ℕ → List ℕ
+headLine n m groups memberships =
+    handsetsWord ++ (decimal n ++ (tiesWord ++ (decimal m ++ (groupsWord ++ (decimal groups ++ (membershipsWord ++ (decimal memberships ++ newline)))))))
+
+-- two numbers with a slash between, not reduced; a hyphen for no score
+unfoldable pub scoreText : Score → List ℕ
+scoreText (Ratio a b) = decimal a ++ (47 ∷ decimal b)
+scoreText Nothing = 45 ∷ []
+
+-- the number of a group, its scores, a colon, its members
+unfoldable pub groupLine : ℕ → Scores → List ℕ → List ℕ
+groupLine k c l =
+    groupWord ++ (decimal k ++ (densityWord ++ (scoreText (c .density) ++ (conductanceWord ++ (scoreText (c .conductance) ++ ((58 ∷ []) ++ (numbers l ++ newline)))))))
+
+-- a word and the numbers of a list
+unfoldable pub listLine : List ℕ → List ℕ → List ℕ
+listLine word l = word ++ (numbers l ++ newline)
+
+-- ---- the report of an accepted image
+
+-- the lines of the first k groups
+unfoldable pub groupLines : List ℕ → List (List ℕ) → ℕ → List ℕ
+groupLines s gs zero = []
+groupLines s gs (suc k) = groupLines s gs k ++ groupLine k (scoresFor (tallyOf s (getD gs k []))) (getD gs k [])
+
+unfoldable pub isOutlier : Role → Bool
+isOutlier (Core k) = false
+isOutlier (Border k) = false
+isOutlier Outlier = true
+
+unfoldable pub outliers : Network → List ℕ
+outliers g = select (g .n) (λ v. isOutlier (role g v))
+
+-- of an image with the communities gs
+unfoldable pub reportWith : List ℕ → List (List ℕ) → List ℕ
+reportWith s gs =
+    headLine (handsetCount s) (edgeCount s) (length gs) (length (memberTable gs))
+    ++ (groupLines s gs (length gs) ++ (listLine coresWord (cores (network s)) ++ listLine outliersWord (outliers (network s))))
+
+unfoldable pub reportText : List ℕ → List ℕ
+reportText s = reportWith s (communities (network s))
+
+-- ---- the call's answer
+
+abbrev pub refusal16 : Refusal
+refusal16 = record { number = 16; place = 0 }
+
+-- for a text and a buffer of room bytes
+unfoldable pub writtenOf : List ℕ → ℕ → Reported
+writtenOf t room = cond (leb (length t) room) (R.Written (length t)) (R.Refused refusal16)
+
+-- a buffer that begins with the text and past it holds what it held; as before where the text does not fit
+unfoldable pub writtenIn : List ℕ → List ℕ → List ℕ
+writtenIn t buffer = cond (leb (length t) (length buffer)) (t ++ drop (length t) buffer) buffer
+
+abbrev pub reportFor : List ℕ → Opened → ℕ → Reported
+reportFor s (O.Site h) room = writtenOf (reportText s) room
+reportFor s (O.Refused r) room = R.Refused r
+
+unfoldable pub reportOf : List ℕ → ℕ → Reported
+reportOf s room = reportFor s (openOf s) room
+
+abbrev pub afterFor : List ℕ → Opened → List ℕ → List ℕ
+afterFor s (O.Site h) buffer = writtenIn (reportText s) buffer
+afterFor s (O.Refused r) buffer = buffer
+
+unfoldable pub textAfter : List ℕ → List ℕ → List ℕ
+textAfter s buffer = afterFor s (openOf s) buffer
+
+-- the paper's number and place for each case of the answer; 0 where the text is written
+abbrev pub refusalIn : Reported → Refusal
+refusalIn (R.Written k) = record { number = 0; place = 0 }
+refusalIn (R.Refused r) = r
+
+-- the outcome of a call: of the image s, the buffer l as lent, the answer r, and the buffer l′ after the call
+pub record ReportCall (s l : List ℕ) (r : Reported) (l′ : List ℕ) : Type 0 where
+  pub answer : r ≡ reportOf s (length l)
+  pub text : l′ ≡ textAfter s l
+
+-- ---- the report program
+
+-- "refused", number, place
+unfoldable pub refusedText : Refusal → List ℕ
+refusedText r = refusedWord ++ (decimal (r .number) ++ (32 ∷ (decimal (r .place) ++ newline)))
+
+abbrev pub refusal15 : Refusal
+refusal15 = record { number = 15; place = 0 }
+
+abbrev pub printed : List ℕ → Reported → List ℕ
+printed s (R.Written k) = reportText s
+printed s (R.Refused r) = refusedText r
+
+-- 15 for an input that does not end within 65,536 bytes
+unfoldable pub programText : List ℕ → ℕ → List ℕ
+programText s room = cond (ltb 65536 (length s)) (refusedText refusal15) (printed s (reportOf s room))

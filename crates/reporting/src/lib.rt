@@ -1,0 +1,295 @@
+// The report: the text of a site's plan, written into a lent buffer, and the text that the report program prints.
+use image::Header;
+use image::Opened;
+use image::Refusal;
+use planner::Planned;
+use scores::Score;
+use scores::Tallied;
+use scores::Tally;
+
+ghost use Prim.Native.Nat.{ℕ, _*_, _≤_, _<_};
+ghost use mathlib.Core.Path.{_≡_};
+ghost use mathlib.Core.List.{[], _∷_, _++_};
+ghost use lib.Dec.{ltb};
+ghost use lib.ListN.{length, getD, replicate};
+ghost use lib.Seq.{sets};
+ghost use Rattle.image.specs.Questions.{Accepted, headerOf};
+ghost use Rattle.planner.specs.Held.{SetOf};
+ghost use Rattle.scores.specs.Scored.{scoresFor};
+ghost use Rattle.text.specs.Text.{Wrote, decimal, membersOf};
+ghost use Rattle.reporting.specs.Report.{headLine, scoreText, groupLine, listLine, reportText, ReportCall, refusedText, programText};
+ghost use Rattle.reporting.specs.Held.{scoresPart, tallyAt, countedOf, threeOf, talliesIn, tableLines, tableText, Filled, Without, PlanHeld};
+
+// What a call for a report answers: the text's length, or the refusal.
+pub enum Reported {
+    Written(usize),
+    Refused(Refusal),
+}
+
+// Writes a word and a number.
+fn put_labelled(text: &mut [u8], at: usize, word: &[u8], n: u64) -> usize
+    ensures { λ r. ⌜ Wrote (now (text .entry)) at (now (word .entry) ++ decimal n) (now (text .exit)) r ⌝ }
+{
+    let next = text::put_all(text, at, word);
+    text::put_decimal(text, next, n)
+}
+
+// Writes line one: n, m, and the plan's two counts.
+fn put_head(text: &mut [u8], at: usize, n: u16, m: u16, groups: usize, memberships: usize) -> usize
+    ensures { λ r. ⌜ Wrote (now (text .entry)) at (headLine n m groups memberships) (now (text .exit)) r ⌝ }
+{
+    let p1 = put_labelled(text, at, b"handsets ", n as u64);
+    let p2 = put_labelled(text, p1, b" ties ", m as u64);
+    let p3 = put_labelled(text, p2, b" groups ", groups as u64);
+    let p4 = put_labelled(text, p3, b" memberships ", memberships as u64);
+    text::put(text, p4, 10)
+}
+
+// Writes a score: two numbers with a slash between, or a hyphen where there is none.
+fn put_score(text: &mut [u8], at: usize, score: Score) -> usize
+    ensures { λ r. ⌜ Wrote (now (text .entry)) at (scoreText score) (now (text .exit)) r ⌝ }
+{
+    match score {
+        Score::Ratio(a, b) => {
+            let p1 = text::put_decimal(text, at, a);
+            put_labelled(text, p1, b"/", b)
+        }
+        Score::Nothing => text::put(text, at, 45),
+    }
+}
+
+// Writes what stands before the members in a group's line: its number and its two scores.
+fn put_scores(text: &mut [u8], at: usize, k: usize, tally: Tally) -> usize
+    ensures { λ r. ⌜ Wrote (now (text .entry)) at (scoresPart k (scoresFor tally)) (now (text .exit)) r ⌝ }
+{
+    let scores = scores::scores_of(tally);
+    let density = scores.density;
+    let conductance = scores.conductance;
+    let p1 = put_labelled(text, at, b"group ", k as u64);
+    let p2 = text::put_all(text, p1, b" density ");
+    let p3 = put_score(text, p2, density);
+    let p4 = text::put_all(text, p3, b" conductance ");
+    put_score(text, p4, conductance)
+}
+
+// Writes the line of group k.
+fn put_group(text: &mut [u8], at: usize, k: usize, tally: Tally, members: &[u16]) -> usize
+    ensures { λ r. ⌜ Wrote (now (text .entry)) at (groupLine k (scoresFor tally) (now (members .entry))) (now (text .exit)) r ⌝ }
+{
+    let p1 = put_scores(text, at, k, tally);
+    let p2 = text::put(text, p1, 58);
+    let p3 = text::put_numbers(text, p2, members);
+    text::put(text, p3, 10)
+}
+
+// The tally of group k, which stands at three places of the table; 0 for a place past its end.
+fn tally_at(tallies: &[u32], k: usize) -> Tally
+    requires { ⌜ k < 512 ⌝ }
+    ensures { λ r. ⌜ r ≡ tallyAt (now (tallies .entry)) k ⌝ }
+{
+    Tally {
+        pairs: at_or_zero(tallies, 3 * k),
+        tied: at_or_zero(tallies, 3 * k + 1),
+        leaving: at_or_zero(tallies, 3 * k + 2),
+    }
+}
+
+// What stands at a place of a table; 0 past its end.
+fn at_or_zero(table: &[u32], i: usize) -> u32
+    ensures { λ r. ⌜ r ≡ getD (now (table .entry)) i 0 ⌝ }
+{
+    if i < table.len() {
+        table[i]
+    } else {
+        0
+    }
+}
+
+// Writes the lines of the first `groups` groups, from the plan's two tables and the tallies. With no group it writes nothing.
+fn put_groups<'a>(text: &mut [u8], at: usize, starts: &'a [u32], members: &'a [u16], tallies: &'a [u32], groups: usize) -> usize
+    requires { ⌜ (at ≤ 9223372036854775808) × (groups ≤ 512) ⌝ }
+    ensures { λ r. ⌜ Wrote (now (text .entry)) at (tableLines (now (starts .entry)) (now (members .entry)) (now (tallies .entry)) groups) (now (text .exit)) r ⌝ }
+{
+    let mut k: usize = 0;
+    let mut next = at;
+    while k < groups {
+        next = put_group(text, next, k, tally_at(tallies, k), lookup::members(starts, members, k));
+        k += 1;
+    }
+    next
+}
+
+// Writes a word, the members of a set of bits, and byte 10.
+fn put_set(text: &mut [u8], at: usize, word: &[u8], set: &[u64]) -> usize
+    ensures { λ r. ⌜ Wrote (now (text .entry)) at (listLine (now (word .entry)) (membersOf (now (set .entry)))) (now (text .exit)) r ⌝ }
+{
+    let p1 = text::put_all(text, at, word);
+    let p2 = text::put_members(text, p1, set);
+    text::put(text, p2, 10)
+}
+
+// Writes the whole report from the plan's counts and tables, the tallies, and the sets of cores and of outliers.
+fn put_report<'a>(text: &mut [u8], n: u16, m: u16, groups: usize, memberships: usize, starts: &'a [u32], members: &'a [u16], tallies: &'a [u32], cores: &'a [u64], outliers: &'a [u64]) -> usize
+    requires { ⌜ groups ≤ 512 ⌝ }
+    ensures { λ r. ⌜ Wrote (now (text .entry)) 0 (tableText n m groups memberships (now (starts .entry)) (now (members .entry)) (now (tallies .entry)) (now (cores .entry)) (now (outliers .entry))) (now (text .exit)) r ⌝ }
+{
+    let p1 = put_head(text, 0, n, m, groups, memberships);
+    let p2 = put_groups(text, p1, starts, members, tallies, groups);
+    let p3 = put_set(text, p2, b"cores:", cores);
+    put_set(text, p3, b"outliers:", outliers)
+}
+
+// Measures the report in a buffer of one byte, and writes it where it fits. Where it does not, the refusal 16, and nothing is written.
+fn write_report<'a>(text: &mut [u8], n: u16, m: u16, groups: usize, memberships: usize, starts: &'a [u32], members: &'a [u16], tallies: &'a [u32], cores: &'a [u64], outliers: &'a [u64]) -> Reported
+    requires { ⌜ groups ≤ 512 ⌝ }
+    ensures { λ r. ⌜ Filled (tableText n m groups memberships (now (starts .entry)) (now (members .entry)) (now (tallies .entry)) (now (cores .entry)) (now (outliers .entry))) (now (text .entry)) r (now (text .exit)) ⌝ }
+{
+    let mut none = [0u8; 1];
+    let need = put_report(&mut none, n, m, groups, memberships, starts, members, tallies, cores, outliers);
+    if need <= text.len() {
+        let length = put_report(text, n, m, groups, memberships, starts, members, tallies, cores, outliers);
+        return Reported::Written(length);
+    }
+    Reported::Refused(Refusal {
+        number: 16,
+        place: 0,
+    })
+}
+
+// Adds each number below n to an empty set.
+fn mark_below(set: &mut [u64], n: usize)
+    requires { ⌜ (n ≤ 512) × (now set ≡ replicate 8 0) ⌝ }
+    ensures { λ _. ⌜ SetOf (now (set .exit)) (λ (v : ℕ). ltb v n) ⌝ }
+{
+    let mut v: usize = 0;
+    while v < n {
+        sets::mark(set, v);
+        v += 1;
+    }
+}
+
+// A number of a table, as the sets take it.
+fn wide(x: u16) -> usize
+    ensures { λ r. ⌜ r ≡ x ⌝ }
+{
+    x as usize
+}
+
+// Takes each number of a table out of a set.
+fn unmark_all(set: &mut [u64], table: &[u16])
+    ensures { λ _. ⌜ Without (now (set .entry)) (now (table .entry)) (now (set .exit)) ⌝ }
+{
+    let mut i: usize = 0;
+    while i < table.len() {
+        sets::unmark(set, wide(table[i]));
+        i += 1;
+    }
+}
+
+// The tally of an answer; three zeros for a refusal, which no group of a plan gets.
+fn counted(answer: Tallied) -> Tally
+    ensures { λ r. ⌜ r ≡ countedOf answer ⌝ }
+{
+    match answer {
+        Tallied::Of(tally) => tally,
+        Tallied::Refused(_) => Tally {
+            pairs: 0,
+            tied: 0,
+            leaving: 0,
+        },
+    }
+}
+
+// Writes the tally of group k at its three places.
+fn set_tally(tallies: &mut [u32], k: usize, tally: Tally)
+    requires { ⌜ (k < 512) × (length (now tallies) ≡ 1536) ⌝ }
+    ensures { λ _. ⌜ now (tallies .exit) ≡ sets (now (tallies .entry)) (3 * k) (threeOf tally) ⌝ }
+{
+    tallies[3 * k] = tally.pairs;
+    tallies[3 * k + 1] = tally.tied;
+    tallies[3 * k + 2] = tally.leaving;
+}
+
+// Works out the tally of each of the first `groups` groups, once, for n handsets and the edge records of an image.
+fn tally_groups<'a>(n: u16, edges: &'a [u8], starts: &'a [u32], members: &'a [u16], groups: usize, tallies: &mut [u32])
+    requires { ⌜ (groups ≤ 512) × (length (now tallies) ≡ 1536) ⌝ }
+    ensures { λ _. ⌜ now (tallies .exit) ≡ sets (now (tallies .entry)) 0 (talliesIn n (now (edges .entry)) (now (starts .entry)) (now (members .entry)) groups) ⌝ }
+{
+    let mut k: usize = 0;
+    while k < groups {
+        let answer = scores::tally_part(n, edges, lookup::members(starts, members, k));
+        set_tally(tallies, k, counted(answer));
+        k += 1;
+    }
+}
+
+// Writes the report of an accepted image from its plan.
+fn report_plan<'a>(text: &mut [u8], image: &'a [u8], h: Header, groups: usize, memberships: usize, starts: &'a [u32], members: &'a [u16], cores: &'a [u64]) -> Reported
+    requires { ⌜ PlanHeld (now image) h groups memberships (now starts) (now members) (now cores) ⌝ }
+    ensures { λ r. ⌜ Filled (reportText (now (image .entry))) (now (text .entry)) r (now (text .exit)) ⌝ }
+{
+    let a = h.edges as usize;
+    let b = a + 4 * (h.m as usize);
+    let mut tallies = [0u32; 1536];
+    tally_groups(h.n, &image[a..b], starts, members, groups, &mut tallies);
+    let mut outliers = [0u64; 8];
+    mark_below(&mut outliers, h.n as usize);
+    unmark_all(&mut outliers, &members[0..memberships]);
+    write_report(text, h.n, h.m, groups, memberships, starts, members, &tallies, cores, &outliers)
+}
+
+// Writes the report of an accepted image. Its plan fits the two tables, so that it is never refused.
+fn report_site(text: &mut [u8], image: &[u8], h: Header) -> Reported
+    requires { ⌜ (Accepted (now image)) × (h ≡ headerOf (now image)) ⌝ }
+    ensures { λ r. ⌜ Filled (reportText (now (image .entry))) (now (text .entry)) r (now (text .exit)) ⌝ }
+{
+    let mut starts = [0u32; 513];
+    let mut members = [0u16; 8704];
+    let outcome = planner::plan_and_cores(image, &mut starts, &mut members);
+    let answer = outcome.answer;
+    let cores = outcome.cores;
+    match answer {
+        Planned::Made(groups, memberships) => report_plan(text, image, h, groups, memberships, &starts, &members, &cores),
+        Planned::Refused(refusal) => Reported::Refused(refusal),
+    }
+}
+
+// Writes the report of an image into the buffer, and answers the text's length. A refused image, or a buffer that does not hold the whole text
+// (16), is refused with nothing written; past the text the buffer holds what it held.
+pub fn report(image: &[u8], text: &mut [u8]) -> Reported
+    ensures { λ r. ⌜ ReportCall (now (image .entry)) (now (text .entry)) r (now (text .exit)) ⌝ }
+{
+    let opened = image::open(image);
+    let Opened::Site(h) = opened else {
+        return Reported::Refused(image::refusal_of(opened));
+    };
+    report_site(text, image, h)
+}
+
+// Writes a refusal as the program prints it: a word, the number, the place.
+fn put_refusal(text: &mut [u8], refusal: Refusal) -> usize
+    ensures { λ r. ⌜ Wrote (now (text .entry)) 0 (refusedText refusal) (now (text .exit)) r ⌝ }
+{
+    let p1 = put_labelled(text, 0, b"refused ", refusal.number as u64);
+    let p2 = put_labelled(text, p1, b" ", refusal.place as u64);
+    text::put(text, p2, 10)
+}
+
+// What the report program prints for an input, written at the front of the buffer; the answer is its length. An input of more than 65,536 bytes
+// is refused with 15.
+pub fn program_text(input: &[u8], out: &mut [u8]) -> usize
+    ensures { λ r. ⌜ Wrote (now (out .entry)) 0 (programText (now (input .entry)) (length (now (out .entry)))) (now (out .exit)) r ⌝ }
+{
+    if 65536 < input.len() {
+        let refusal = Refusal {
+            number: 15,
+            place: 0,
+        };
+        return put_refusal(out, refusal);
+    }
+    let reported = report(input, out);
+    match reported {
+        Reported::Written(length) => length,
+        Reported::Refused(refusal) => put_refusal(out, refusal),
+    }
+}
