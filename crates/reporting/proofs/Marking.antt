@@ -62,6 +62,7 @@ cleared m i u = pick (ℕ-discrete u i) (decLt (i / 64) (length m))
   where
     none : u ≡ i → bit (eqb (bitAt m u) 1 && not (eqb u i)) ≡ 0
     none e = rw (eq-eqb u i e, and-false (eqb (bitAt m u) 1))
+
     pick : Dec (u ≡ i) → Dec (i / 64 < length m) → bitAt (withoutBit m i) u ≡ bit (eqb (bitAt m u) 1 && not (eqb u i))
     pick (yes e) (yes l) = ap (bitAt (withoutBit m i)) e ∙ bitAt-clear-same m i l ∙ sym (none e)
     pick (yes e) (no l) =
@@ -96,6 +97,7 @@ without-more m₀ m l i h held u =
     both true true d = refl
     both true false d = refl
     both false b d = refl
+
     grown : contains u (take (i + 1) l) ≡ (contains u (take i l) || eqb u (getD l i 0))
     grown =
         ap (λ (k : ℕ). contains u (take k l)) (add-one i) ∙ ap (contains u) (take-suc l i 0 h)

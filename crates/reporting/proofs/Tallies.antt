@@ -43,12 +43,12 @@ module _ (n : ℕ) (part starts members : List ℕ) where
   number-at zero j i h l = absurd (omega arith)
   number-at (suc k) j i h l = ⊎-elim
       (λ e.
-        ap (λ (x : ℕ). getD (talliesIn n part starts members (suc k)) x 0) (let q : 3 * j + i ≡ length (talliesIn n part starts members k) + i = omega (arith, length-tallies k) in q)
-        ∙ getD-append-add (talliesIn n part starts members k) (threeOf (tallyFor k)) i 0
-        ∙ ap (λ (x : ℕ). getD (threeOf (tallyFor x)) i 0) (sym e))
+      ap (λ (x : ℕ). getD (talliesIn n part starts members (suc k)) x 0) (let q : 3 * j + i ≡ length (talliesIn n part starts members k) + i = omega (arith, length-tallies k) in q)
+      ∙ getD-append-add (talliesIn n part starts members k) (threeOf (tallyFor k)) i 0
+      ∙ ap (λ (x : ℕ). getD (threeOf (tallyFor x)) i 0) (sym e))
       (λ q.
-        List·getD-append (talliesIn n part starts members k) (threeOf (tallyFor k)) 0 (3 * j + i) (omega (arith, length-tallies k))
-        ∙ number-at k j i q l)
+      List·getD-append (talliesIn n part starts members k) (threeOf (tallyFor k)) 0 (3 * j + i) (omega (arith, length-tallies k))
+      ∙ number-at k j i q l)
       (below h)
 
   pub tally-held : (l : List ℕ) (k j : ℕ) → 3 * k ≤ length l → j < k → tallyAt (sets l 0 (talliesIn n part starts members k)) j ≡ tallyFor j
@@ -56,9 +56,9 @@ module _ (n : ℕ) (part starts members : List ℕ) where
   tally-held l k j h q =
       let t : List ℕ = talliesIn n part starts members k in
       let at : (i : ℕ) → i < 3 → getD (sets l 0 t) (3 * j + i) 0 ≡ getD (threeOf (tallyFor j)) i 0 = λ i r.
-        ap (λ (m : List ℕ). getD m (3 * j + i) 0) (sets-front l t (omega (arith, length-tallies k)))
-        ∙ List·getD-append t (drop (length t) l) 0 (3 * j + i) (omega (arith, length-tallies k))
-        ∙ number-at k j i q r in
+      ap (λ (m : List ℕ). getD m (3 * j + i) 0) (sets-front l t (omega (arith, length-tallies k)))
+      ∙ List·getD-append t (drop (length t) l) 0 (3 * j + i) (omega (arith, length-tallies k))
+      ∙ number-at k j i q r in
       three (ap (λ (i : ℕ). getD (sets l 0 t) i 0) (let e : 3 * j ≡ 3 * j + 0 = omega arith in e) ∙ at 0 (omega arith)) (at 1 (omega arith)) (at 2 (omega arith))
     where
       three : {x y z : ℕ} → x ≡ tallyFor j .pairs → y ≡ tallyFor j .tied → z ≡ tallyFor j .leaving → triple x y z ≡ tallyFor j

@@ -92,8 +92,11 @@ module _ {s : List ℕ} {h : Header} {groups memberships : ℕ} {starts table co
   unfolding countedOf headerOf
   tally-at k l =
       let inside : k < length (communities (network s)) = omega (arith, held .groups-are) in
-      rw (part-at k l, good-part s (held .accepted) (getD (communities (network s)) k [])
-        (omega (arith, community-few (network s) k inside, accepted-fits s (held .accepted) .n-limit)) (community-below (network s) k inside))
+      rw (
+        part-at k l,
+        good-part s (held .accepted) (getD (communities (network s)) k [])
+            (omega (arith, community-few (network s) k inside, accepted-fits s (held .accepted) .n-limit)) (community-below (network s) k inside),
+      )
 
   pub text-is : (ts outlier-set : List ℕ) → ts ≡ sets (replicate 1536 0) 0 (talliesIn (handsetCount s) (edgeRecords s) starts table groups)
       → ((v : ℕ) → v < 512 → bitAt outlier-set v ≡ bit (ltb v (handsetCount s) && not (contains v (memberTable (communities (network s))))))
@@ -104,18 +107,18 @@ module _ {s : List ℕ} {h : Header} {groups memberships : ℕ} {starts table co
       let gs : List (List ℕ) = communities (network s) in
       let few : n ≤ 512 = omega (arith, accepted-fits s (held .accepted) .n-limit) in
       let tallied : (j : ℕ) → j < groups → tallyAt ts j ≡ tallyOf s (getD gs j []) = λ j l.
-        ap (λ (t : List ℕ). tallyAt t j) e
-        ∙ tally-held n (edgeRecords s) starts table (replicate 1536 0) groups j (omega (arith, length-replicate {A = ℕ} 1536 0, groups-few)) l
-        ∙ tally-at j l in
+      ap (λ (t : List ℕ). tallyAt t j) e
+      ∙ tally-held n (edgeRecords s) starts table (replicate 1536 0) groups j (omega (arith, length-replicate {A = ℕ} 1536 0, groups-few)) l
+      ∙ tally-at j l in
       let core-list : X.membersOf cores-set ≡ select n (isCore (network s)) = held-members cores-set n (isCore (network s)) few (held .cores-are .bits) in
       let outlier-list : X.membersOf outlier-set ≡ select n (λ v. isOutlier (role (network s) v)) =
-        held-members outlier-set n (λ v. not (contains v (memberTable gs))) few o
-        ∙ select-cong n (λ v. not (contains v (memberTable gs))) (λ v. isOutlier (role (network s) v)) (λ v l. sym (outlier-test (accepted-sound s (held .accepted)) v l)) in
+      held-members outlier-set n (λ v. not (contains v (memberTable gs))) few o
+      ∙ select-cong n (λ v. not (contains v (memberTable gs))) (λ v. isOutlier (role (network s) v)) (λ v l. sym (outlier-test (accepted-sound s (held .accepted)) v l)) in
       ap₂ (λ (a b : List ℕ). a ++ b)
       (ap₂ (λ (a b : ℕ). headLine n (edgeCount s) a b) (held .groups-are) (held .memberships-are))
       (ap₂ (λ (a b : List ℕ). a ++ b)
-        (lines-are s gs starts table ts groups part-at tallied ∙ ap (groupLines s gs) (held .groups-are))
-        (ap₂ (λ (a b : List ℕ). listLine coresWord a ++ listLine outliersWord b) core-list outlier-list))
+      (lines-are s gs starts table ts groups part-at tallied ∙ ap (groupLines s gs) (held .groups-are))
+      (ap₂ (λ (a b : List ℕ). listLine coresWord a ++ listLine outliersWord b) core-list outlier-list))
 
   header-fits : (headerOf s .n ≤ 512) × (headerOf s .edges + 4 * headerOf s .m ≤ length s)
   unfolding headerOf
@@ -162,10 +165,10 @@ module _ {s : List ℕ} {h : Header} {groups memberships : ℕ} {starts table co
       let m : List ℕ = memberTable (communities (network s)) in
       ap (λ (x : Header). tableText (x .n) (x .m) groups memberships starts table ts cores-set outlier-set) (held .header)
       ∙ text-of-header ts outlier-set
-        (e
-        ∙ ap (λ (x : Header). sets (replicate 1536 0) 0 (talliesIn (x .n) (take ((x .edges + 4 * x .m) - x .edges) (drop (x .edges) s)) starts table groups)) (held .header)
-        ∙ ap (λ (part : List ℕ). sets (replicate 1536 0) 0 (talliesIn (headerOf s .n) part starts table groups)) edges-part)
-        (λ v l.
-          outside (h .n) p q v l
-          ∙ ap (λ (x : Header). bit (ltb v (x .n) && not (contains v (take (memberships - 0) (drop 0 table))))) (held .header)
-          ∙ ap (λ (part : List ℕ). bit (ltb v (headerOf s .n) && not (contains v part))) written-part)
+      (e
+      ∙ ap (λ (x : Header). sets (replicate 1536 0) 0 (talliesIn (x .n) (take ((x .edges + 4 * x .m) - x .edges) (drop (x .edges) s)) starts table groups)) (held .header)
+      ∙ ap (λ (part : List ℕ). sets (replicate 1536 0) 0 (talliesIn (headerOf s .n) part starts table groups)) edges-part)
+      (λ v l.
+      outside (h .n) p q v l
+      ∙ ap (λ (x : Header). bit (ltb v (x .n) && not (contains v (take (memberships - 0) (drop 0 table))))) (held .header)
+      ∙ ap (λ (part : List ℕ). bit (ltb v (headerOf s .n) && not (contains v part))) written-part)

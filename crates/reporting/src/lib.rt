@@ -6,7 +6,6 @@ use planner::Planned;
 use scores::Score;
 use scores::Tallied;
 use scores::Tally;
-
 ghost use Prim.Native.Nat.{ℕ, _*_, _≤_, _<_};
 ghost use mathlib.Core.Path.{_≡_};
 ghost use mathlib.Core.List.{[], _∷_, _++_};
@@ -98,22 +97,31 @@ fn tally_at(tallies: &[u32], k: usize) -> Tally
 fn at_or_zero(table: &[u32], i: usize) -> u32
     ensures { λ r. ⌜ r ≡ getD (now (table .entry)) i 0 ⌝ }
 {
-    if i < table.len() {
-        table[i]
-    } else {
-        0
-    }
+    if i < table.len() { table[i] } else { 0 }
 }
 
 // Writes the lines of the first `groups` groups, from the plan's two tables and the tallies. With no group it writes nothing.
-fn put_groups<'a>(text: &mut [u8], at: usize, starts: &'a [u32], members: &'a [u16], tallies: &'a [u32], groups: usize) -> usize
+fn put_groups<'a>(
+    text: &mut [u8],
+    at: usize,
+    starts: &'a [u32],
+    members: &'a [u16],
+    tallies: &'a [u32],
+    groups: usize,
+) -> usize
     requires { ⌜ (at ≤ 9223372036854775808) × (groups ≤ 512) ⌝ }
     ensures { λ r. ⌜ Wrote (now (text .entry)) at (tableLines (now (starts .entry)) (now (members .entry)) (now (tallies .entry)) groups) (now (text .exit)) r ⌝ }
 {
     let mut k: usize = 0;
     let mut next = at;
     while k < groups {
-        next = put_group(text, next, k, tally_at(tallies, k), lookup::members(starts, members, k));
+        next = put_group(
+            text,
+            next,
+            k,
+            tally_at(tallies, k),
+            lookup::members(starts, members, k),
+        );
         k += 1;
     }
     next
@@ -129,7 +137,18 @@ fn put_set(text: &mut [u8], at: usize, word: &[u8], set: &[u64]) -> usize
 }
 
 // Writes the whole report from the plan's counts and tables, the tallies, and the sets of cores and of outliers.
-fn put_report<'a>(text: &mut [u8], n: u16, m: u16, groups: usize, memberships: usize, starts: &'a [u32], members: &'a [u16], tallies: &'a [u32], cores: &'a [u64], outliers: &'a [u64]) -> usize
+fn put_report<'a>(
+    text: &mut [u8],
+    n: u16,
+    m: u16,
+    groups: usize,
+    memberships: usize,
+    starts: &'a [u32],
+    members: &'a [u16],
+    tallies: &'a [u32],
+    cores: &'a [u64],
+    outliers: &'a [u64],
+) -> usize
     requires { ⌜ groups ≤ 512 ⌝ }
     ensures { λ r. ⌜ Wrote (now (text .entry)) 0 (tableText n m groups memberships (now (starts .entry)) (now (members .entry)) (now (tallies .entry)) (now (cores .entry)) (now (outliers .entry))) (now (text .exit)) r ⌝ }
 {
@@ -140,14 +159,47 @@ fn put_report<'a>(text: &mut [u8], n: u16, m: u16, groups: usize, memberships: u
 }
 
 // Measures the report in a buffer of one byte, and writes it where it fits. Where it does not, the refusal 16, and nothing is written.
-fn write_report<'a>(text: &mut [u8], n: u16, m: u16, groups: usize, memberships: usize, starts: &'a [u32], members: &'a [u16], tallies: &'a [u32], cores: &'a [u64], outliers: &'a [u64]) -> Reported
+fn write_report<'a>(
+    text: &mut [u8],
+    n: u16,
+    m: u16,
+    groups: usize,
+    memberships: usize,
+    starts: &'a [u32],
+    members: &'a [u16],
+    tallies: &'a [u32],
+    cores: &'a [u64],
+    outliers: &'a [u64],
+) -> Reported
     requires { ⌜ groups ≤ 512 ⌝ }
     ensures { λ r. ⌜ Filled (tableText n m groups memberships (now (starts .entry)) (now (members .entry)) (now (tallies .entry)) (now (cores .entry)) (now (outliers .entry))) (now (text .entry)) r (now (text .exit)) ⌝ }
 {
     let mut none = [0u8; 1];
-    let need = put_report(&mut none, n, m, groups, memberships, starts, members, tallies, cores, outliers);
+    let need = put_report(
+        &mut none,
+        n,
+        m,
+        groups,
+        memberships,
+        starts,
+        members,
+        tallies,
+        cores,
+        outliers,
+    );
     if need <= text.len() {
-        let length = put_report(text, n, m, groups, memberships, starts, members, tallies, cores, outliers);
+        let length = put_report(
+            text,
+            n,
+            m,
+            groups,
+            memberships,
+            starts,
+            members,
+            tallies,
+            cores,
+            outliers,
+        );
         return Reported::Written(length);
     }
     Reported::Refused(Refusal {
@@ -211,7 +263,14 @@ fn set_tally(tallies: &mut [u32], k: usize, tally: Tally)
 }
 
 // Works out the tally of each of the first `groups` groups, once, for n handsets and the edge records of an image.
-fn tally_groups<'a>(n: u16, edges: &'a [u8], starts: &'a [u32], members: &'a [u16], groups: usize, tallies: &mut [u32])
+fn tally_groups<'a>(
+    n: u16,
+    edges: &'a [u8],
+    starts: &'a [u32],
+    members: &'a [u16],
+    groups: usize,
+    tallies: &mut [u32],
+)
     requires { ⌜ (groups ≤ 512) × (length (now tallies) ≡ 1536) ⌝ }
     ensures { λ _. ⌜ now (tallies .exit) ≡ sets (now (tallies .entry)) 0 (talliesIn n (now (edges .entry)) (now (starts .entry)) (now (members .entry)) groups) ⌝ }
 {
@@ -224,7 +283,16 @@ fn tally_groups<'a>(n: u16, edges: &'a [u8], starts: &'a [u32], members: &'a [u1
 }
 
 // Writes the report of an accepted image from its plan.
-fn report_plan<'a>(text: &mut [u8], image: &'a [u8], h: Header, groups: usize, memberships: usize, starts: &'a [u32], members: &'a [u16], cores: &'a [u64]) -> Reported
+fn report_plan<'a>(
+    text: &mut [u8],
+    image: &'a [u8],
+    h: Header,
+    groups: usize,
+    memberships: usize,
+    starts: &'a [u32],
+    members: &'a [u16],
+    cores: &'a [u64],
+) -> Reported
     requires { ⌜ PlanHeld (now image) h groups memberships (now starts) (now members) (now cores) ⌝ }
     ensures { λ r. ⌜ Filled (reportText (now (image .entry))) (now (text .entry)) r (now (text .exit)) ⌝ }
 {
@@ -235,7 +303,18 @@ fn report_plan<'a>(text: &mut [u8], image: &'a [u8], h: Header, groups: usize, m
     let mut outliers = [0u64; 8];
     mark_below(&mut outliers, h.n as usize);
     unmark_all(&mut outliers, &members[0..memberships]);
-    write_report(text, h.n, h.m, groups, memberships, starts, members, &tallies, cores, &outliers)
+    write_report(
+        text,
+        h.n,
+        h.m,
+        groups,
+        memberships,
+        starts,
+        members,
+        &tallies,
+        cores,
+        &outliers,
+    )
 }
 
 // Writes the report of an accepted image. Its plan fits the two tables, so that it is never refused.
@@ -249,7 +328,16 @@ fn report_site(text: &mut [u8], image: &[u8], h: Header) -> Reported
     let answer = outcome.answer;
     let cores = outcome.cores;
     match answer {
-        Planned::Made(groups, memberships) => report_plan(text, image, h, groups, memberships, &starts, &members, &cores),
+        Planned::Made(groups, memberships) => report_plan(
+            text,
+            image,
+            h,
+            groups,
+            memberships,
+            &starts,
+            &members,
+            &cores,
+        ),
         Planned::Refused(refusal) => Reported::Refused(refusal),
     }
 }

@@ -22,7 +22,7 @@ abbrev μ-loop : tie.MeasureT-loop
 μ-loop set₀ n v₀ set v = n - v
 
 loop-holds : tie.Need-loop-holds Inv-loop μ-loop
-loop-holds c = 
+loop-holds c =
     let e = c .before .pre .1 in (
       omega arith,
       ap length e ∙ length-replicate {A = ℕ} 8 0,
@@ -39,7 +39,7 @@ loop-less : tie.Need-loop-less Inv-loop μ-loop
 loop-less c = search needs
 
 loop-again : tie.Need-loop-again Inv-loop μ-loop
-loop-again c = 
+loop-again c =
     let l = c .before .before .before .before .before .loop in
     let e = c .before .before .mark .ensures in (
       omega arith,
@@ -51,7 +51,7 @@ same-length : tie.Need-same-length Inv-loop μ-loop
 same-length c = c .before .loop .inv .1 ∙ sym (ap length (c .before .before .before .pre .1) ∙ length-replicate {A = ℕ} 8 0)
 
 returns : tie.Need-returns Inv-loop μ-loop
-returns c = 
+returns c =
     let e : c .before .loop .v ≡ c .before .before .before .args .n = omega arith in
     record {
       size = c .before .loop .inv .1;

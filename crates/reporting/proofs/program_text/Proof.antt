@@ -33,7 +33,7 @@ same-length-2 : tie.Need-same-length-2
 same-length-2 c = search needs
 
 returns-2 : tie.Need-returns-2
-returns-2 c = 
+returns-2 c =
     let start = c .before .before .before .before .before .before .before .before .before .before in
     let written = c .before .reported .given in
     let small : length (now (start .args .out)) < 9223372036854775808 = omega (arith, start .good .1 .0 .1) in
@@ -43,7 +43,7 @@ same-length-3 : tie.Need-same-length-3
 same-length-3 c = search needs
 
 returns-3 : tie.Need-returns-3
-returns-3 c = 
+returns-3 c =
     let start = c .before .before .before .before .before .before .before .before .before .before .before .before .before .before in
     let refused = c .before .before .before .before .before .reported2 .given in
     program-refused (now (start .args .input)) (now (start .args .out)) (c .before .before .before .before .before .before .before .before .before .before .before .if1 .left) _ _ _ _ _ (refused .1) (c .before .before .before .before .before .before .before .before .before .report .ensures) (c .before .before .put-refusal2 .ensures)

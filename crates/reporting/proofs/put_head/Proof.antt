@@ -40,7 +40,7 @@ same-length : tie.Need-same-length
 same-length c = search needs
 
 returns : tie.Need-returns
-returns c = 
+returns c =
     let w5 = c .before .before in
     let w4 = w5 .before .before .before .before in
     let w3 = w4 .before .before .before .before .before in

@@ -29,7 +29,7 @@ same-length c = search needs
 
 returns : tie.Need-returns
 unfolding scoreText
-returns c = 
+returns c =
     let ratio = c .before .before .before .before .before .before .before .before .before .before .score .given .1 in
     rw ratio (chain (omega arith) (c .before .before .before .before .before .before .before .put-decimal .ensures) (c .before .before .put-labelled .ensures))
 

@@ -21,7 +21,7 @@ same-length c = search needs
 
 returns : tie.Need-returns
 unfolding listLine
-returns c = 
+returns c =
     let w3 = c .before .before in
     let w2 = w3 .before .before .before .before in
     let w1 = w2 .before .before .before .before in

@@ -22,11 +22,11 @@ refusal-of-requires : tie.Need-refusal-of-requires
 refusal-of-requires c κs = search needs
 
 returns : tie.Need-returns
-returns c = 
+returns c =
     let told = c .before .enum-told .given .1 in
     let start = c .before .before .before .before .before .before in
     let e : openOf (now (start .args .image)) ≡ O.Refused (c .refusal-of .result) =
-      sym (c .before .before .before .«open» .ensures) ∙ told ∙ ap O.Refused (sym (c .refusal-of .ensures ∙ ap refusalOf told)) in
+    sym (c .before .before .before .«open» .ensures) ∙ told ∙ ap O.Refused (sym (c .refusal-of .ensures ∙ ap refusalOf told)) in
     refused-answer (now (start .args .image)) (now (start .args .text)) (c .refusal-of .result) e
 
 report-site-requires : tie.Need-report-site-requires

@@ -74,7 +74,7 @@ same-length : tie.Need-same-length
 same-length c = search needs
 
 returns : tie.Need-returns
-returns c = 
+returns c =
     let wrote = c .before .before in
     let left = wrote .before .before .before .before .before in
     let low = left .before .before .before .before in

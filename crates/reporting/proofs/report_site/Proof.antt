@@ -29,7 +29,7 @@ slice-aggregate-report-plan-3 : tie.Need-slice-aggregate-report-plan-3
 slice-aggregate-report-plan-3 c = search needs
 
 report-plan-requires : tie.Need-report-plan-requires
-report-plan-requires c κs = 
+report-plan-requires c κs =
     let made = c .before .before .before .before .before .answer .given in
     let planned = c .before .before .before .before .before .before .before .before .before .before in
     let start = planned .before .before .before .before .before in
@@ -46,7 +46,7 @@ returns : tie.Need-returns
 returns c = search needs
 
 returns-2 : tie.Need-returns-2
-returns-2 c = 
+returns-2 c =
     let refused = c .before .answer2 .given in
     let planned = c .before .before .before .before .before .before in
     let start = planned .before .before .before .before .before in

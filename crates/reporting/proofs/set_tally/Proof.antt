@@ -46,7 +46,7 @@ same-length : tie.Need-same-length
 same-length c = search needs
 
 returns : tie.Need-returns
-returns c = 
+returns c =
     let l : List ℕ = now (c .args .tallies) in
     let k : ℕ = c .args .k in
     let t = c .args .tally in

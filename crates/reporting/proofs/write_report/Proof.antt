@@ -28,7 +28,7 @@ same-length c = search needs
 
 returns : tie.Need-returns
 unfolding writtenOf writtenIn
-returns c = 
+returns c =
     let a = c .before .before .before .before .before .before .before .before .before .before .before .before .before .before .args in
     let t : List ℕ = tableText (a .n) (a .m) (a .groups) (a .memberships) (now (a .starts)) (now (a .members)) (now (a .tallies)) (now (a .cores)) (now (a .outliers)) in
     let h : length t ≤ length (now (a .text)) = omega (arith, c .before .before .before .before .before .before .put-report .ensures .next, c .before .before .before .before .if1 .taken, c .before .before .before .before .before .before .before .before .before .before .before .before .before .before .good .0 .1) in
@@ -40,7 +40,7 @@ returns c =
 
 returns-2 : tie.Need-returns-2
 unfolding writtenOf writtenIn
-returns-2 c = 
+returns-2 c =
     let a = c .before .before .before .before .before .before .before .before .before .before .args in
     let t : List ℕ = tableText (a .n) (a .m) (a .groups) (a .memberships) (now (a .starts)) (now (a .members)) (now (a .tallies)) (now (a .cores)) (now (a .outliers)) in
     let h : length (now (a .text)) < length t = omega (arith, c .before .before .put-report .ensures .next, c .if1 .left, c .before .before .before .before .before .before .before .before .before .before .good .0 .1) in

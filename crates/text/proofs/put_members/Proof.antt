@@ -51,11 +51,11 @@ loop-again c =
       omega arith,
       ⊎-elim
           (λ w.
-            let e : f v ≡ true = sym (c .before .has .ensures) ∙ w .0 .taken in
-            rw (members-yes f v (rw e tt), w .5, w .6) (chain (omega arith) (at-loop .loop .inv .1) (w .2 .ensures)))
+          let e : f v ≡ true = sym (c .before .has .ensures) ∙ w .0 .taken in
+          rw (members-yes f v (rw e tt), w .5, w .6) (chain (omega arith) (at-loop .loop .inv .1) (w .2 .ensures)))
           (λ w.
-            let e : f v ≡ false = sym (c .before .has .ensures) ∙ w .0 .left in
-            rw (members-no f v (rw e tt), w .1, w .2) (at-loop .loop .inv .1))
+          let e : f v ≡ false = sym (c .before .has .ensures) ∙ w .0 .left in
+          rw (members-no f v (rw e tt), w .1, w .2) (at-loop .loop .inv .1))
           (c .if1 .came),
     )
 
