@@ -9,7 +9,9 @@
  *     time if neither writes what the other reads;
  *   - always return. No image, however damaged, makes one trap or loop.
  *
- * Stack that a call needs, at the most, measured on x86-64 (tests/rust, program stack):
+ * Stack that a call needs on x86-64, as this archive is compiled: the frames along its deepest path
+ * added up, and confirmed by measuring (tests/rust, program stack). It is no part of what is proved,
+ * and another compiler or target may need another amount.
  *
  *     dvg_report 125 KiB    dvg_plan, dvg_role 100 KiB    dvg_open, dvg_scores 33 KiB    dvg_members 1 KiB
  *
