@@ -4,8 +4,9 @@
 --     accepted            openOf s ≡ Site h gives Accepted s, and h is headerOf s
 --     opened              Accepted s gives openOf s ≡ Site (headerOf s)
 --     Fits, fits          what a header's numbers keep to, for the proofs of the calls; x-limits, y-limits, ends-below: what the records do
---     open-short, open-other, open-on     how questions 1 and 2 go, with the header in hand
---     header-yes          where questions 3 to 6 get a yes, asking goes on; header-no: where one does not, it ends there, whatever follows
+--     header-short, header-other, header-on     how questions 1 and 2 go, with the header in hand
+--     header-no           where one of questions 1 to 6 gets a no, that is the answer; header-yes: where all get a yes, what that says of the image
+--     header-passed       and then the answer is that of questions 7 to 10
 use Prim.Native.Nat.{ℕ, _+_, _*_, _≤_, _<_}
 use native.Mathlib.Omega.{arith}
 use mathlib.Core.Path.{_≡_, refl, sym, ap, _∙_, subst}
@@ -18,7 +19,7 @@ use lib.ListN.{length, take, drop}
 use Rattle.sets.specs.Below.{any, find}
 use Rattle.sets.proofs.Tests.{and-left, and-right, any-none, none-any, T-true, eqb-of}
 use Rattle.image.specs.Image.{handsetCount, edgeCount, handsetOffset, edgeOffset, imageLength, limitSquared, epsilonNum, epsilonDen, muField, reserved, handsetRecords, edgeRecords, xAt, yAt, endA, endB}
-use Rattle.image.specs.Questions.{headerOf, countsFit, thresholdsFit, tablesFit, inLimits, outOfLimits, badEnd, isLoop, repeatsEarlier, ask, askEach, askRecords, askHeader, openOf, Accepted}
+use Rattle.image.specs.Questions.{headerOf, countsFit, thresholdsFit, tablesFit, inLimits, outOfLimits, badEnd, isLoop, repeatsEarlier, ask, askEach, askRecords, askHeader, openHeader, openOf, Accepted}
 use Rattle.image.specs.declared.Header.{Header}
 use Rattle.image.specs.declared.Refusal.{Refusal}
 use Rattle.image.specs.declared.Opened.{Opened}
@@ -138,53 +139,83 @@ unfolding ask
 refuse true k p next e = let z : _≡_ {A = ℕ} 0 1 = cc in absurd (omega arith)
 refuse false k p next e = refl
 
-pub open-short : (s : List ℕ) → length s < 32 → openOf s ≡ Refused (record { number = 1; place = 0 })
-unfolding openOf
-open-short s l = refuse (leb 32 (length s)) _ _ _ (lt-leb 32 (length s) l)
+pub header-short : (s : List ℕ) → length s < 32 → openHeader s ≡ Refused (record { number = 1; place = 0 })
+unfolding openHeader
+header-short s l = refuse (leb 32 (length s)) _ _ _ (lt-leb 32 (length s) l)
 
 module _ (s : List ℕ) (l : 32 ≤ length s) where
-  pub open-other : (headerOf s .len ≡ length s → ⊥) → openOf s ≡ Refused (record { number = 2; place = 0 })
-  unfolding openOf
-  open-other d =
+  pub header-other : (headerOf s .len ≡ length s → ⊥) → openHeader s ≡ Refused (record { number = 2; place = 0 })
+  unfolding openHeader
+  header-other d =
       go-on (leb 32 (length s)) _ _ _ (le→leb 32 (length s) l)
       ∙ refuse (eqb (headerOf s .len) (length s)) _ _ _ (ne-eqb (headerOf s .len) (length s) d)
 
-  pub open-on : (h : Header) → h ≡ headerOf s → h .len ≡ length s
-      → openOf s ≡ askHeader h (askRecords (take (8 * h .n) (drop (h .handsets) s)) (take (4 * h .m) (drop (h .edges) s)) h)
-  unfolding openOf headerOf handsetRecords edgeRecords
-  open-on h e d =
+  pub header-on : (h : Header) → h ≡ headerOf s → h .len ≡ length s → openHeader s ≡ askHeader h (Site h)
+  unfolding openHeader
+  header-on h e d =
       go-on (leb 32 (length s)) _ _ _ (le→leb 32 (length s) l)
       ∙ go-on (eqb (headerOf s .len) (length s)) _ _ _ (eqb-of (headerOf s .len) (length s) (ap (λ (x : Header). x .len) (sym e) ∙ d))
-      ∙ ap (λ (x : Header). askHeader x (askRecords (take (8 * x .n) (drop (x .handsets) s)) (take (4 * x .m) (drop (x .edges) s)) x)) (sym e)
-
--- questions 3 to 6 with nothing after them tell how they go with more
-pub header-yes : (h g : Header) → askHeader h (Site h) ≡ Site g → Fits h × ((next : Opened) → askHeader h next ≡ next)
-unfolding askHeader
-header-yes h g e =
-    let a3 = pass (countsFit h) _ _ _ e in
-    let a4 = pass (eqb (h .reserved) 0) _ _ _ (a3 .1) in
-    let a5 = pass (thresholdsFit h) _ _ _ (a4 .1) in
-    let a6 = pass (tablesFit h) _ _ _ (a5 .1) in (
-      fits h (a3 .0) (a5 .0) (a6 .0),
-      λ next.
-          go-on (countsFit h) _ _ _ (a3 .0)
-          ∙ go-on (eqb (h .reserved) 0) _ _ _ (a4 .0)
-          ∙ go-on (thresholdsFit h) _ _ _ (a5 .0)
-          ∙ go-on (tablesFit h) _ _ _ (a6 .0),
-    )
+      ∙ ap (λ (x : Header). askHeader x (Site x)) (sym e)
 
 stop : {r : Refusal} (b : Bool) (k p : ℕ) (x y : Opened) → (x ≡ Refused r → y ≡ Refused r) → ask b k p x ≡ Refused r → ask b k p y ≡ Refused r
 unfolding ask
 stop true k p x y f e = f e
 stop false k p x y f e = e
 
-pub header-no : (h : Header) (r : Refusal) → askHeader h (Site h) ≡ Refused r → (next : Opened) → askHeader h next ≡ Refused r
-unfolding askHeader
-header-no h r e next =
-    stop (countsFit h) _ _ _ _
-    (stop (eqb (h .reserved) 0) _ _ _ _
-    (stop (thresholdsFit h) _ _ _ _
-    (stop (tablesFit h) _ _ (Site h) next (λ z. let w : _≡_ {A = ℕ} 0 1 = cc in absurd (omega arith))))) e
+-- a no to one of questions 1 to 6 is the answer to all ten
+pub header-no : (s : List ℕ) (r : Refusal) → openHeader s ≡ Refused r → openOf s ≡ Refused r
+unfolding openHeader openOf askHeader
+header-no s r e =
+    stop (leb 32 (length s)) _ _ _ _
+    (stop (eqb (headerOf s .len) (length s)) _ _ _ _
+    (stop (countsFit (headerOf s)) _ _ _ _
+    (stop (eqb (headerOf s .reserved) 0) _ _ _ _
+    (stop (thresholdsFit (headerOf s)) _ _ _ _
+    (stop (tablesFit (headerOf s)) _ _ (Site (headerOf s)) _ (λ z. let w : _≡_ {A = ℕ} 0 1 = cc in absurd (omega arith))))))) e
+
+-- questions 1 to 6 got a yes
+pub record Checked (s : List ℕ) : Type 0 where
+  pub q1 : T (leb 32 (length s))
+  pub q2 : T (eqb (imageLength s) (length s))
+  pub q3 : T (countsFit (headerOf s))
+  pub q4 : T (eqb (reserved s) 0)
+  pub q5 : T (thresholdsFit (headerOf s))
+  pub q6 : T (tablesFit (headerOf s))
+
+pub header-yes : (s : List ℕ) (h : Header) → openHeader s ≡ Site h → Checked s × (h ≡ headerOf s)
+unfolding openHeader askHeader headerOf
+header-yes s h e =
+    let a1 = pass (leb 32 (length s)) _ _ _ e in
+    let a2 = pass (eqb (headerOf s .len) (length s)) _ _ _ (a1 .1) in
+    let a3 = pass (countsFit (headerOf s)) _ _ _ (a2 .1) in
+    let a4 = pass (eqb (headerOf s .reserved) 0) _ _ _ (a3 .1) in
+    let a5 = pass (thresholdsFit (headerOf s)) _ _ _ (a4 .1) in
+    let a6 = pass (tablesFit (headerOf s)) _ _ _ (a5 .1) in
+    (record { q1 = a1 .0; q2 = a2 .0; q3 = a3 .0; q4 = a4 .0; q5 = a5 .0; q6 = a6 .0 }, sym (same (a6 .1)))
+
+module _ (s : List ℕ) (c : Checked s) where
+  pub checked-fits : Fits (headerOf s)
+  checked-fits = fits (headerOf s) (c .q3) (c .q5) (c .q6)
+
+  -- the rest is what questions 7 to 10 answer
+  open-on : openOf s ≡ askRecords (handsetRecords s) (edgeRecords s) (headerOf s)
+  unfolding openOf askHeader headerOf
+  open-on =
+      go-on (leb 32 (length s)) _ _ _ (c .q1)
+      ∙ go-on (eqb (headerOf s .len) (length s)) _ _ _ (c .q2)
+      ∙ go-on (countsFit (headerOf s)) _ _ _ (c .q3)
+      ∙ go-on (eqb (headerOf s .reserved) 0) _ _ _ (c .q4)
+      ∙ go-on (thresholdsFit (headerOf s)) _ _ _ (c .q5)
+      ∙ go-on (tablesFit (headerOf s)) _ _ _ (c .q6)
+
+-- for the reader: with the header in hand, what its numbers keep to, and what is left to ask
+pub header-passed : (s : List ℕ) (h : Header) → openHeader s ≡ Site h
+    → Fits h × (h .len ≡ length s) × (openOf s ≡ askRecords (take (8 * h .n) (drop (h .handsets) s)) (take (4 * h .m) (drop (h .edges) s)) h)
+unfolding headerOf handsetRecords edgeRecords
+header-passed s h e =
+    let y = header-yes s h e in
+    subst (λ (x : Header). Fits x × (x .len ≡ length s) × (openOf s ≡ askRecords (take (8 * x .n) (drop (x .handsets) s)) (take (4 * x .m) (drop (x .edges) s)) x)) (sym (y .1))
+    (checked-fits s (y .0), eqb→eq (imageLength s) (length s) (y .0 .q2), open-on s (y .0))
 
 module _ (s : List ℕ) (a : Accepted s) where
   pub accepted-fits : Fits (headerOf s)

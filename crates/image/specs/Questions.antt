@@ -1,6 +1,7 @@
 -- The ten questions put to an image (paper 01, "Questions put to an image"), and the reader's answer.
 --
 --     headerOf s     the header's numbers, as they stand
+--     openHeader s   questions 1 to 6, of the header: the header, or the number of the first no
 --     openOf s       the questions in the paper's order, each of the whole image before the next: the header, or the number and place of the first no
 --     Accepted s     every question gets a yes (proofs/Acceptance: exactly when the reader answers the header)
 use Prim.Native.Nat.{ℕ, _+_, _*_, _<_}
@@ -97,6 +98,14 @@ askHeader h next =
     (ask (thresholdsFit h) 5 0
     (ask (tablesFit h) 6 0
     next)))
+
+unfoldable pub openHeader : List ℕ → Opened
+unfolding ask headerOf askHeader
+openHeader s =
+    ask (leb 32 (length s)) 1 0
+    (ask (eqb (headerOf s .len) (length s)) 2 0
+    (askHeader (headerOf s)
+    (Site (headerOf s))))
 
 unfoldable pub openOf : List ℕ → Opened
 unfolding ask headerOf askHeader askRecords handsetRecords edgeRecords

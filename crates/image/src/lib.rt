@@ -9,7 +9,7 @@ ghost use lib.ListN.{length, take, drop};
 ghost use Rattle.sets.specs.Below.{find};
 ghost use Rattle.image.specs.Bytes.{le, number};
 ghost use Rattle.image.specs.Image.{coreSize, shifted, endA, endB};
-ghost use Rattle.image.specs.Questions.{headerOf, countsFit, thresholdsFit, tablesFit, inLimits, outOfLimits, badEnd, isLoop, repeatsEarlier, ask, askEach, askRecords, askHeader, openOf, refusalOf};
+ghost use Rattle.image.specs.Questions.{headerOf, countsFit, thresholdsFit, tablesFit, inLimits, outOfLimits, badEnd, isLoop, repeatsEarlier, ask, askEach, askRecords, askHeader, openHeader, openOf, refusalOf};
 
 // The header's numbers as they stand: `limit` is G, and a blank `mu` is still 0 (`core_size`).
 pub struct Header {
@@ -190,7 +190,7 @@ fn in_limits(x: u64) -> bool
 }
 
 // Whether handset v has a coordinate out of its limits.
-fn out_of_limits(part: &[u8], v: u16) -> bool
+pub fn out_of_limits(part: &[u8], v: u16) -> bool
     ensures { λ r. ⌜ r ≡ outOfLimits (now (part .entry)) v ⌝ }
 {
     let at = 8 * (v as usize);
@@ -198,7 +198,7 @@ fn out_of_limits(part: &[u8], v: u16) -> bool
 }
 
 // Whether edge k has an end that is no handset.
-fn bad_end(part: &[u8], n: u16, k: u16) -> bool
+pub fn bad_end(part: &[u8], n: u16, k: u16) -> bool
     ensures { λ r. ⌜ r ≡ badEnd (now (part .entry)) n k ⌝ }
 {
     let at = 4 * (k as usize);
@@ -327,9 +327,9 @@ fn ask_tables(image: &[u8], h: Header) -> Opened
     ask_records(&image[a..a_end], &image[b..b_end], h)
 }
 
-// Puts questions 1 to 10 to an image, in order, and stops at the first no.
-pub fn open(image: &[u8]) -> Opened
-    ensures { λ r. ⌜ r ≡ openOf (now (image .entry)) ⌝ }
+// Puts questions 1 to 6 to an image, in order, and stops at the first no: an image that gets a yes to all has both tables in it.
+pub fn open_header(image: &[u8]) -> Opened
+    ensures { λ r. ⌜ r ≡ openHeader (now (image .entry)) ⌝ }
 {
     if image.len() < 32 {
         return refused(1, 0);
@@ -338,8 +338,15 @@ pub fn open(image: &[u8]) -> Opened
     if h.len as usize != image.len() {
         return refused(2, 0);
     }
-    let checked = ask_header(h);
-    let Opened::Site(_) = checked else {
+    ask_header(h)
+}
+
+// Puts questions 1 to 10 to an image, in order, and stops at the first no.
+pub fn open(image: &[u8]) -> Opened
+    ensures { λ r. ⌜ r ≡ openOf (now (image .entry)) ⌝ }
+{
+    let checked = open_header(image);
+    let Opened::Site(h) = checked else {
         return checked;
     };
     ask_tables(image, h)
