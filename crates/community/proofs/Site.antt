@@ -28,7 +28,7 @@ pub joins-comm : (part : List ℕ) (u v k : ℕ) → joins part u v k ≡ joins 
 unfolding joins
 joins-comm part u v k = or-comm (eqb (endA part k) u && eqb (endB part k) v) (eqb (endA part k) v && eqb (endB part k) u)
 
-adjacent-comm : (s : List ℕ) (u v : ℕ) → adjacent s u v ≡ adjacent s v u
+pub adjacent-comm : (s : List ℕ) (u v : ℕ) → adjacent s u v ≡ adjacent s v u
 unfolding adjacent
 adjacent-comm s u v = any-cong (edgeCount s) (joins (edgeRecords s) u v) (joins (edgeRecords s) v u) (λ k h. joins-comm (edgeRecords s) u v k)
 

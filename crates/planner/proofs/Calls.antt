@@ -18,7 +18,7 @@ use Rattle.image.specs.declared.Header.{Header}
 use Rattle.image.specs.declared.Refusal.{Refusal}
 use Rattle.image.specs.declared.Opened.{Opened}
 use Rattle.image.specs.declared.Opened.the-variants as O
-use Rattle.image.proofs.Acceptance.{opened, accepted-fits}
+use Rattle.image.proofs.Acceptance.{opened, accepted, accepted-fits}
 use Rattle.community.specs.Network.{Network, isCore, role, neighbourhoodSize, communityNumber, membershipCount, borderOf}
 use Rattle.community.specs.Tables.{startTable, memberTable}
 use Rattle.community.specs.Site.{network}
@@ -26,7 +26,9 @@ use Rattle.community.specs.declared.Role.{Role}
 use Rattle.community.specs.declared.Role.the-variants.{Core, Border}
 use Rattle.community.specs.declared.Standing.{Standing}
 use Rattle.planner.specs.Plan.{PlanCall, CoreWords, communitiesOf, planOf, planFor, planned, byRoom, startsAfter, membersAfter, tableFor, over, coreFor, knownOf, knownFor, standing, refusal}
-use Rattle.planner.specs.Held.{SetOf, coreIn, Found, rowsOf, roleFor}
+use Rattle.community.proofs.Site.{accepted-sound}
+use Rattle.planner.specs.Held.{SetOf, coreIn, Survey, Found, rowsOf, roleFor}
+use Rattle.planner.specs.Groups.{GroupsFound}
 use Rattle.planner.specs.declared.Planned.{Planned}
 use Rattle.planner.specs.declared.Planned.the-variants as P
 use Rattle.planner.specs.declared.Known.{Known}
@@ -50,13 +52,30 @@ module _ (s : List ℕ) (r : Refusal) (e : openOf s ≡ O.Refused r) where
   unfolding knownOf
   known-refused v = sym (ap (λ (o : Opened). knownFor s o v) e)
 
+-- an image that is not accepted is refused
+pub refused-of : (s : List ℕ) → (Accepted s → ⊥) → openOf s ≡ O.Refused (refusalOf (openOf s))
+refused-of s never = go (openOf s) refl
+  where
+    go : (o : Opened) → openOf s ≡ o → o ≡ O.Refused (refusalOf o)
+    go (O.Site h) e = absurd (never (accepted s h e .0))
+    go (O.Refused r) e = refl
+
 -- ---- an accepted image
+pub found-of : (s : List ℕ) {alike sizes cores rows : List ℕ} {k : ℕ} → Accepted s → Survey (network s) sizes alike cores → GroupsFound alike cores rows k
+    → Found (network s) cores rows k
+unfolding headerOf
+found-of s ok y f = record {
+  core-set = y .core-set;
+  most = f .most;
+  grouped = f .groups (network s) (record { sound = accepted-sound s ok; most = accepted-fits s ok .n-limit; similar-table = y .similar-table; core-set = y .core-set });
+}
+
 module _ (s : List ℕ) (ok : Accepted s) where
   pub handsets-most : network s .n ≤ 512
   unfolding headerOf
   handsets-most = accepted-fits s ok .n-limit
 
-  pub plan-found : {near cores rows : List ℕ} {k : ℕ} → Found (network s) near cores rows k → (ss ms : List ℕ) (a : Planned) (ss′ ms′ : List ℕ)
+  pub plan-found : {cores rows : List ℕ} {k : ℕ} → Found (network s) cores rows k → (ss ms : List ℕ) (a : Planned) (ss′ ms′ : List ℕ)
       → a ≡ planned (rowsOf rows k) (length ss) (length ms)
       → ss′ ≡ byRoom (rowsOf rows k) (length ss) (length ms) ss ss (over (startTable (rowsOf rows k)) ss)
       → ms′ ≡ byRoom (rowsOf rows k) (length ss) (length ms) ms ms (over (memberTable (rowsOf rows k)) ms)
@@ -95,7 +114,7 @@ module _ (s : List ℕ) (ok : Accepted s) where
       read true = refl
       read false = refl
 
-  pub role-found : {near cores rows : List ℕ} {k : ℕ} → Found (network s) near cores rows k → (v : ℕ) → v < handsetCount s
+  pub role-found : {cores rows : List ℕ} {k : ℕ} → Found (network s) cores rows k → (v : ℕ) → v < handsetCount s
       → roleFor cores rows k v ≡ role (network s) v
   unfolding roleFor role
   role-found f v h =

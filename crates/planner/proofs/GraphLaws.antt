@@ -1,61 +1,51 @@
--- Laws of the tables that the module graph fills.
+-- Laws of the network that the module graph reads. The table of all edges is a symmetric relation along edges; dropping the edges whose ends are not in
+-- a smaller such relation leaves just that, so first the neighbour relation is left and then the similarity relation.
 --
---     marked n part R k          what is marked after the first k edges: each of n handsets with itself, and the ends of each edge that are in R
---     marked-skip, marked-yes    one edge more: its ends are not in R, or they are and both of their cells are marked
---     Along, marked-all          after all edges of an image, what is marked is R, for a symmetric R that holds of each handset with itself, and else only along edges
---     near-table, similar-table  so it goes for the neighbour relation and for the similarity relation
---     edge-yes, edge-no          the step of both loops over the edges
---     Read, header-is            the numbers of the header are those of the image, and edgePart-is, handsetPart-is: the parts that are handed on are the records
---     row-more, common-more      the marks of a row, and those of two rows in common, counted a word at a time
---     near-size, near-common, similar-size     these counts are those of the network
---     cores-set                  the cores by the counts of the similarity table
-use Prim.Native.Nat.{ℕ, zero, suc, _+_, _*_, _-_, _^_, _≤_, _<_, min}
+--     linked-none, linked-more     the table of no edge, and of one edge more; linked-fault: its cell is set before only where the edge is at fault
+--     dropped-none, dropped-more   a table without no edge, and without one edge more
+--     Along, dropped-is            a symmetric relation that holds of each handset with itself, and else only along edges; what dropping leaves of one
+--     near-table, similar-table    so the two tables are those of the neighbour relation and of the similarity relation
+--     Read, header-is              the numbers of the header are those of the image, and edgePart-is, handsetPart-is: the parts that are handed on are the records
+--     accept, at-fault             the image is accepted exactly when no position and no edge is at fault
+--     near-size, near-common       the counts of the neighbour table are those of the network; enough-is: and the test by them is the definition's
+--     cores-set                    the cores by the sizes of the similarity table
+use Prim.Native.Nat.{ℕ, zero, suc, _+_, _*_, _-_, _≤_, _<_, min}
 use native.Mathlib.Omega.{arith}
 use native.Mathlib.Nat.{add-sub-cancel-left}
 use native.Mathlib.Numerals.{add-one}
 use native.Mathlib.Decide.{ℕ-discrete}
 use mathlib.Core.Path.{_≡_, refl, sym, ap, ap₂, _∙_, subst}
 use mathlib.Core.Logic.{_⊎_, inl, inr, ⊎-elim}
-use mathlib.Core.Bool.{Bool, true, false, _&&_, _||_, not}
+use mathlib.Core.Bool.{Bool, true, false, _&&_, _||_, not, and-true, and-assoc, or-false}
 use mathlib.Core.List.{List}
-use lib.Bits.{bitAnd, and-lt}
-use lib.Count.{ones}
 use lib.Dec.{T, leb, ltb, eqb, ltb→lt, lt→ltb, eqb→eq, eqb-refl, T-not, not-T}
 use lib.ListN.{length, getD, take, drop, length-replicate}
-use Rattle.sets.specs.Below.{bit, count, sum}
-use Rattle.sets.specs.Bits.{bitAt, cell, withBit}
-use Rattle.sets.proofs.Tests.{and-make, and-left, and-right, or-left, or-right, or-cases, decide, T-true, T-false, T-ext, any-make, any-take, eqb-of, eqb-not}
-use Rattle.sets.proofs.Counting.{bit-true, count-cong, count-sum, count-wide, count-at, count-le, sum-cong}
-use Rattle.sets.proofs.Bits.{bitOf-and, bitAt-set-same, bitAt-set-other, length-withBit, cell-word, sum-word, bitAt-zeros, zeros}
-use Rattle.image.specs.Bytes.{number}
-use Rattle.image.specs.Image.{handsetCount, edgeCount, limitSquared, epsilonNum, epsilonDen, muField, mu, coreSize, handsetRecords, edgeRecords, gap, xAt, yAt, distanceAt, distanceSquared, endA, endB, joins, adjacent, within, neighbour}
-use Rattle.image.specs.Questions.{Accepted, headerOf, isLoop}
+use Rattle.sets.specs.Below.{any, bit, count, sum}
+use Rattle.sets.specs.Bits.{bitAt, cell, withBit, withoutBit}
+use Rattle.sets.proofs.Tests.{and-make, and-left, and-right, or-left, or-right, or-cases, decide, T-true, T-false, T-ext, any-make, any-take, any-cong, any-none, none-any, not-any, eqb-of, eqb-not, eqb-comm}
+use Rattle.sets.proofs.Counting.{bit-true, bit-false, count-cong, count-sum, count-wide, count-at, count-le, sum-cong}
+use Rattle.sets.proofs.Bits.{bitAt-set-same, bitAt-set-other, bitAt-clear-same, bitAt-clear-other, length-withBit, length-withoutBit, bitAt-lt, bitAt-zeros, zeros}
+use Rattle.image.specs.Image.{handsetCount, edgeCount, imageLength, limitSquared, epsilonNum, epsilonDen, muField, mu, coreSize, handsetRecords, edgeRecords, gap, xAt, yAt, distanceAt, distanceSquared, endA, endB, joins, adjacent, within, neighbour}
+use Rattle.image.specs.Questions.{Accepted, headerOf, openHeader, outOfLimits, badEnd, isLoop, repeatsEarlier}
 use Rattle.image.specs.declared.Header.{Header}
-use Rattle.image.proofs.Acceptance.{Fits, ends-below, accepted-fits, length-is, x-limits, y-limits}
+use Rattle.image.specs.declared.Opened.the-variants as O
+use Rattle.image.proofs.Acceptance.{Fits, Checked, checked-fits, header-yes, ends-below, good-ends, accepted-fits, x-limits, y-limits}
 use Rattle.community.specs.Network.{Network, neighbourhoodSize, commonNeighbours, meetsEpsilon, similar, isCore}
 use Rattle.community.specs.Site.{network}
 use Rattle.community.proofs.Similarity.{similar-sym, similar-self}
-use Rattle.community.proofs.Site.{neighbour-comm, neighbour-self, accepted-sound}
-use Rattle.planner.specs.Held.{SetOf, Table, both, nearIn, similarIn, coreIn}
+use Rattle.community.proofs.Site.{joins-comm, adjacent-comm, neighbour-comm, neighbour-self, accepted-sound}
+use Rattle.planner.specs.Held.{SetOf, Table, Counted, linked, faulty, Added, Positions, NetworkRead, Picks, Dropped, NearKept, Survey, SurveyCall, apart, enough, both, nearIn, similarIn, coreIn}
+use Rattle.planner.proofs.Picking.{picks-below, picks-cong, picks-through}
+use Rattle.planner.proofs.Rows.{row-most}
 
--- ---- the marks of the first k edges
-unfoldable pub marked : ℕ → List ℕ → (ℕ → ℕ → Bool) → ℕ → ℕ → ℕ → Bool
-unfolding joins endA endB
-marked n part R zero u v = ltb u n && eqb u v
-marked n part R (suc k) u v = (joins part u v k && R (endA part k) (endB part k)) || marked n part R k u v
+-- ---- the ends of an edge, either way round
+one-bit : (a : Bool) → eqb (bit a) 1 ≡ a
+one-bit true = refl
+one-bit false = refl
 
 pub table-cong : {ws : List ℕ} (f g : ℕ → ℕ → Bool) → ((u v : ℕ) → u < 512 → v < 512 → f u v ≡ g u v) → Table ws f → Table ws g
 table-cong f g e t = record { size = t .size; bits = λ u v h l. t .bits u v h l ∙ ap bit (e u v h l) }
 
-drop-false : (a b : Bool) → ((a && false) || b) ≡ b
-drop-false true b = refl
-drop-false false b = refl
-
-and-true : (a : Bool) → (a && true) ≡ a
-and-true true = refl
-and-true false = refl
-
--- the ends of the edge, either way round
 pub joins-cases : (part : List ℕ) (u v k : ℕ) → T (joins part u v k)
     → ((endA part k ≡ u) × (endB part k ≡ v)) ⊎ ((endA part k ≡ v) × (endB part k ≡ u))
 unfolding joins
@@ -71,101 +61,193 @@ joins-one part u v k p q =
     or-left (eqb (endA part k) u && eqb (endB part k) v) (eqb (endA part k) v && eqb (endB part k) u)
     (and-make (eqb (endA part k) u) (eqb (endB part k) v) (eqb-of (endA part k) u p) (eqb-of (endB part k) v q))
 
-joins-other : (part : List ℕ) (u v k : ℕ) → endA part k ≡ v → endB part k ≡ u → T (joins part u v k)
+pub joins-other : (part : List ℕ) (u v k : ℕ) → endA part k ≡ v → endB part k ≡ u → T (joins part u v k)
 unfolding joins
 joins-other part u v k p q =
     or-right (eqb (endA part k) u && eqb (endB part k) v) (eqb (endA part k) v && eqb (endB part k) u)
     (and-make (eqb (endA part k) v) (eqb (endB part k) u) (eqb-of (endA part k) v p) (eqb-of (endB part k) u q))
 
-module _ (n : ℕ) (part : List ℕ) (R : ℕ → ℕ → Bool) (k : ℕ) where
-  -- one edge more whose ends are not in R
-  pub marked-skip : {ws : List ℕ} → T (not (R (endA part k) (endB part k))) → Table ws (marked n part R k) → Table ws (marked n part R (k + 1))
-  unfolding marked
-  marked-skip t =
-      table-cong (marked n part R k) (marked n part R (k + 1)) (λ u v h l.
-      sym (ap (λ (j : ℕ). marked n part R j u v) (add-one k)
-      ∙ ap (λ (x : Bool). (joins part u v k && x) || marked n part R k u v) (T-false (R (endA part k) (endB part k)) t)
-      ∙ drop-false (joins part u v k) (marked n part R k u v)))
+-- ---- both cells of an edge
+module _ (part : List ℕ) (k u v : ℕ) (ha : endA part k < 512) (hb : endB part k < 512) (hu : u < 512) (hv : v < 512) where
+  abbrev first : ℕ
+  first = endA part k * 512 + endB part k
 
-  -- a cell after both cells of the edge are marked
-  cell-both : (ws : List ℕ) (u v : ℕ) (x : Bool) → length ws ≡ 4096 → endA part k < 512 → endB part k < 512 → u < 512 → v < 512 → cell ws u v ≡ bit x
-      → cell (withBit (withBit ws (endA part k * 512 + endB part k)) (endB part k * 512 + endA part k)) u v ≡ bit (joins part u v k || x)
-  cell-both ws u v x len ha hb hu hv e = pick (ℕ-discrete (u * 512 + v) (b * 512 + a)) (ℕ-discrete (u * 512 + v) (a * 512 + b))
+  abbrev second : ℕ
+  second = endB part k * 512 + endA part k
+
+  at-first : u * 512 + v ≡ first → T (joins part u v k)
+  at-first e = joins-one part u v k (omega (arith, e)) (omega (arith, e))
+
+  at-second : u * 512 + v ≡ second → T (joins part u v k)
+  at-second e = joins-other part u v k (omega (arith, e)) (omega (arith, e))
+
+  elsewhere : (u * 512 + v ≡ first → ⊥) → (u * 512 + v ≡ second → ⊥) → joins part u v k ≡ false
+  elsewhere d p =
+      T-false (joins part u v k) (not-T (joins part u v k) (λ t.
+      ⊎-elim
+      (λ w. d (ap₂ (λ (i j : ℕ). i * 512 + j) (sym (w .0)) (sym (w .1))))
+      (λ w. p (ap₂ (λ (i j : ℕ). i * 512 + j) (sym (w .1)) (sym (w .0))))
+      (joins-cases part u v k t)))
+
+  -- marked
+  pub cell-both : (ws : List ℕ) (x : Bool) → length ws ≡ 4096 → cell ws u v ≡ bit x → cell (withBit (withBit ws first) second) u v ≡ bit (joins part u v k || x)
+  cell-both ws x len e = pick (ℕ-discrete (u * 512 + v) second) (ℕ-discrete (u * 512 + v) first)
     where
-      a : ℕ
-      a = endA part k
-
-      b : ℕ
-      b = endB part k
-
       on : T (joins part u v k) → 1 ≡ bit (joins part u v k || x)
       on t = sym (bit-true (joins part u v k || x) (or-left (joins part u v k) x t))
 
-      pick : Dec (u * 512 + v ≡ b * 512 + a) → Dec (u * 512 + v ≡ a * 512 + b) → cell (withBit (withBit ws (a * 512 + b)) (b * 512 + a)) u v ≡ bit (joins part u v k || x)
+      pick : Dec (u * 512 + v ≡ second) → Dec (u * 512 + v ≡ first) → cell (withBit (withBit ws first) second) u v ≡ bit (joins part u v k || x)
       pick (yes p) d =
-          ap (bitAt (withBit (withBit ws (a * 512 + b)) (b * 512 + a))) p
-          ∙ bitAt-set-same (withBit ws (a * 512 + b)) (b * 512 + a) (omega (arith, length-withBit ws (a * 512 + b)))
-          ∙ on (joins-other part u v k (omega arith) (omega arith))
+          ap (bitAt (withBit (withBit ws first) second)) p
+          ∙ bitAt-set-same (withBit ws first) second (omega (arith, length-withBit ws first))
+          ∙ on (at-second p)
       pick (no p) (yes d) =
-          bitAt-set-other (withBit ws (a * 512 + b)) (b * 512 + a) (u * 512 + v) p
-          ∙ ap (bitAt (withBit ws (a * 512 + b))) d
-          ∙ bitAt-set-same ws (a * 512 + b) (omega arith)
-          ∙ on (joins-one part u v k (omega arith) (omega arith))
+          bitAt-set-other (withBit ws first) second (u * 512 + v) p
+          ∙ ap (bitAt (withBit ws first)) d
+          ∙ bitAt-set-same ws first (omega arith)
+          ∙ on (at-first d)
       pick (no p) (no d) =
-          bitAt-set-other (withBit ws (a * 512 + b)) (b * 512 + a) (u * 512 + v) p
-          ∙ bitAt-set-other ws (a * 512 + b) (u * 512 + v) d
+          bitAt-set-other (withBit ws first) second (u * 512 + v) p
+          ∙ bitAt-set-other ws first (u * 512 + v) d
           ∙ e
-          ∙ ap (λ (y : Bool). bit (y || x))
-          (sym (T-false (joins part u v k) (not-T (joins part u v k) (λ t.
-          ⊎-elim
-          (λ w. d (ap₂ (λ (i j : ℕ). i * 512 + j) (sym (w .0)) (sym (w .1))))
-          (λ w. p (ap₂ (λ (i j : ℕ). i * 512 + j) (sym (w .1)) (sym (w .0))))
-          (joins-cases part u v k t)))))
+          ∙ ap (λ (y : Bool). bit (y || x)) (sym (elsewhere d p))
 
-  -- one edge more whose ends are in R
-  pub marked-yes : {ws : List ℕ} → endA part k < 512 → endB part k < 512 → T (R (endA part k) (endB part k)) → Table ws (marked n part R k)
-      → Table (withBit (withBit ws (endA part k * 512 + endB part k)) (endB part k * 512 + endA part k)) (marked n part R (k + 1))
-  unfolding marked
-  marked-yes {ws} ha hb t m = record {
-    size = length-withBit (withBit ws (endA part k * 512 + endB part k)) (endB part k * 512 + endA part k) ∙ length-withBit ws (endA part k * 512 + endB part k) ∙ m .size;
+  -- cleared
+  pub cell-neither : (ws : List ℕ) (x : Bool) → length ws ≡ 4096 → cell ws u v ≡ bit x
+      → cell (withoutBit (withoutBit ws first) second) u v ≡ bit (x && not (joins part u v k))
+  cell-neither ws x len e = pick (ℕ-discrete (u * 512 + v) second) (ℕ-discrete (u * 512 + v) first)
+    where
+      off : T (joins part u v k) → 0 ≡ bit (x && not (joins part u v k))
+      off t =
+          sym (bit-false (x && not (joins part u v k)) (not-T (x && not (joins part u v k)) (λ y.
+          T-not (joins part u v k) (and-right x (not (joins part u v k)) y) t)))
+
+      pick : Dec (u * 512 + v ≡ second) → Dec (u * 512 + v ≡ first) → cell (withoutBit (withoutBit ws first) second) u v ≡ bit (x && not (joins part u v k))
+      pick (yes p) d =
+          ap (bitAt (withoutBit (withoutBit ws first) second)) p
+          ∙ bitAt-clear-same (withoutBit ws first) second (omega (arith, length-withoutBit ws first))
+          ∙ off (at-second p)
+      pick (no p) (yes d) =
+          bitAt-clear-other (withoutBit ws first) second (u * 512 + v) p
+          ∙ ap (bitAt (withoutBit ws first)) d
+          ∙ bitAt-clear-same ws first (omega arith)
+          ∙ off (at-first d)
+      pick (no p) (no d) =
+          bitAt-clear-other (withoutBit ws first) second (u * 512 + v) p
+          ∙ bitAt-clear-other ws first (u * 512 + v) d
+          ∙ e
+          ∙ ap bit (sym (ap (λ (y : Bool). x && not y) (elsewhere d p) ∙ and-true x))
+
+-- ---- the table of the first k edges
+pub linked-none : (n : ℕ) (edges : List ℕ) {ws : List ℕ} → Table ws (λ u v. ltb u n && eqb u v) → Table ws (linked n edges 0)
+unfolding linked any
+linked-none n edges t = table-cong (λ u v. ltb u n && eqb u v) (linked n edges 0) (λ u v h l. sym (or-false (ltb u n && eqb u v))) t
+
+or-swap : (a b c : Bool) → (a || (b || c)) ≡ (b || (a || c))
+or-swap true true c = refl
+or-swap true false c = refl
+or-swap false b c = refl
+
+module _ (n : ℕ) (edges : List ℕ) (k : ℕ) where
+  pub linked-more : {ws : List ℕ} → endA edges k < 512 → endB edges k < 512 → Table ws (linked n edges k)
+      → Table (withBit (withBit ws (endA edges k * 512 + endB edges k)) (endB edges k * 512 + endA edges k)) (linked n edges (k + 1))
+  unfolding linked any
+  linked-more {ws} ha hb t = record {
+    size = length-withBit (withBit ws (endA edges k * 512 + endB edges k)) (endB edges k * 512 + endA edges k) ∙ length-withBit ws (endA edges k * 512 + endB edges k) ∙ t .size;
     bits = λ u v hu hv.
-        cell-both ws u v (marked n part R k u v) (m .size) ha hb hu hv (m .bits u v hu hv)
-        ∙ ap bit (sym (ap (λ (j : ℕ). marked n part R j u v) (add-one k)
-        ∙ ap (λ (x : Bool). (joins part u v k && x) || marked n part R k u v) (T-true (R (endA part k) (endB part k)) t)
-        ∙ ap (λ (x : Bool). x || marked n part R k u v) (and-true (joins part u v k))));
+        cell-both edges k u v ha hb hu hv ws (linked n edges k u v) (t .size) (t .bits u v hu hv)
+        ∙ ap bit (or-swap (joins edges u v k) (ltb u n && eqb u v) (any k (joins edges u v)) ∙ sym (ap (λ (j : ℕ). linked n edges j u v) (add-one k)));
   }
 
-pub marked-none : (n : ℕ) (part : List ℕ) (R : ℕ → ℕ → Bool) {ws : List ℕ} → Table ws (λ u v. ltb u n && eqb u v) → Table ws (marked n part R 0)
-unfolding marked
-marked-none n part R t = t
+  -- the ends of an edge are linked before it just where it is a loop or a repeat
+  pub linked-fault : endA edges k < n → linked n edges k (endA edges k) (endB edges k) ≡ (isLoop edges k || repeatsEarlier edges k)
+  unfolding linked isLoop repeatsEarlier
+  linked-fault h = ap (λ (b : Bool). (b && eqb (endA edges k) (endB edges k)) || any k (joins edges (endA edges k) (endB edges k))) (T-true (ltb (endA edges k) n) (lt→ltb (endA edges k) n h))
 
--- ---- all edges of an image
-module _ (n : ℕ) (part : List ℕ) (R : ℕ → ℕ → Bool) where
-  pub marked-take : (k u v : ℕ) → T (marked n part R k u v)
-      → ((t : ℕ) × (t < k) × T (joins part u v t) × T (R (endA part t) (endB part t))) ⊎ ((u < n) × (u ≡ v))
-  unfolding marked
-  marked-take zero u v m = inr (ltb→lt u n (and-left (ltb u n) (eqb u v) m), eqb→eq u v (and-right (ltb u n) (eqb u v) m))
-  marked-take (suc k) u v m =
-      ⊎-elim
-      (λ x. inl (k, omega arith, and-left (joins part u v k) (R (endA part k) (endB part k)) x, and-right (joins part u v k) (R (endA part k) (endB part k)) x))
-      (λ x. ⊎-elim (λ r. inl (r .0, omega arith, r .2, r .3)) (λ r. inr r) (marked-take k u v x))
-      (or-cases (joins part u v k && R (endA part k) (endB part k)) (marked n part R k u v) m)
-
-  marked-self : (k u : ℕ) → u < n → T (marked n part R k u u)
-  unfolding marked
-  marked-self zero u h = and-make (ltb u n) (eqb u u) (lt→ltb u n h) (eqb-refl u)
-  marked-self (suc k) u h = or-right (joins part u u k && R (endA part k) (endB part k)) (marked n part R k u u) (marked-self k u h)
-
-  marked-make : (k u v t : ℕ) → t < k → T (joins part u v t) → T (R (endA part t) (endB part t)) → T (marked n part R k u v)
-  unfolding marked
-  marked-make zero u v t h j r = absurd (omega arith)
-  marked-make (suc k) u v t h j r = pick (λ (l : t < k). marked-make k u v t l j r) (ℕ-discrete t k)
+  pub linked-comm : (u v : ℕ) → linked n edges k u v ≡ linked n edges k v u
+  unfolding linked
+  linked-comm u v = ap₂ _||_ (T-ext (ltb u n && eqb u v) (ltb v n && eqb v u) (turn u v) (turn v u)) (any-swap k)
     where
-      pick : (t < k → T (marked n part R k u v)) → Dec (t ≡ k) → T ((joins part u v k && R (endA part k) (endB part k)) || marked n part R k u v)
-      pick go (yes e) =
-          or-left (joins part u v k && R (endA part k) (endB part k)) (marked n part R k u v)
-          (subst (λ (i : ℕ). T (joins part u v i && R (endA part i) (endB part i))) e (and-make (joins part u v t) (R (endA part t) (endB part t)) j r))
-      pick go (no d) = or-right (joins part u v k && R (endA part k) (endB part k)) (marked n part R k u v) (go (omega arith))
+      turn : (a b : ℕ) → T (ltb a n && eqb a b) → T (ltb b n && eqb b a)
+      turn a b t =
+          let e : a ≡ b = eqb→eq a b (and-right (ltb a n) (eqb a b) t) in
+          and-make (ltb b n) (eqb b a) (subst (λ (x : ℕ). T (ltb x n)) e (and-left (ltb a n) (eqb a b) t)) (eqb-of b a (sym e))
+
+      any-swap : (i : ℕ) → any i (joins edges u v) ≡ any i (joins edges v u)
+      any-swap i = any-cong i (joins edges u v) (joins edges v u) (λ j h. joins-comm edges u v j)
+
+  pub linked-self : (u : ℕ) → u < n → T (linked n edges k u u)
+  unfolding linked
+  linked-self u h = or-left (ltb u n && eqb u u) (any k (joins edges u u)) (and-make (ltb u n) (eqb u u) (lt→ltb u n h) (eqb-refl u))
+
+-- the test of a cell is the relation
+pub table-has : {ws : List ℕ} (f : ℕ → ℕ → Bool) → Table ws f → (u v : ℕ) → u < 512 → v < 512 → eqb (cell ws u v) 1 ≡ f u v
+table-has f t u v hu hv = ap (λ (x : ℕ). eqb x 1) (t .bits u v hu hv) ∙ one-bit (f u v)
+
+-- where u and v are not linked, v and u are not either, also once the first cell is marked
+pub second-new : (n : ℕ) (edges : List ℕ) (k : ℕ) {ws : List ℕ} → Table ws (linked n edges k) → (u v : ℕ) → u < n → u < 512 → v < 512 → cell ws u v ≡ 0
+    → cell (withBit ws (u * 512 + v)) v u ≡ 0
+second-new n edges k {ws} t u v h hu hv z =
+    let other : u ≡ v → ⊥ =
+    λ e. let one = t .bits u u hu hu ∙ bit-true (linked n edges k u u) (linked-self n edges k u h) in
+    let same : cell ws u u ≡ cell ws u v = ap (cell ws u) e in omega (arith, one, same, z) in
+    bitAt-set-other ws (u * 512 + v) (v * 512 + u) (λ e. other (omega arith))
+    ∙ t .bits v u hv hu ∙ ap bit (linked-comm n edges k v u) ∙ sym (t .bits u v hu hv) ∙ z
+
+-- what an edge's fault is
+module _ (edges : List ℕ) (n k : ℕ) where
+  pub fault-end : badEnd edges n k ≡ true → faulty edges n k ≡ true
+  unfolding faulty
+  fault-end e = ap (λ (b : Bool). b || (isLoop edges k || repeatsEarlier edges k)) e
+
+  pub fault-linked : badEnd edges n k ≡ false → endA edges k < n → faulty edges n k ≡ linked n edges k (endA edges k) (endB edges k)
+  unfolding faulty
+  fault-linked e h = ap (λ (b : Bool). b || (isLoop edges k || repeatsEarlier edges k)) e ∙ sym (linked-fault n edges k h)
+
+pub added-no : (edges : List ℕ) (n m k : ℕ) (ws sizes : List ℕ) → k < m → faulty edges n k ≡ true → Added edges n m false ws sizes
+added-no edges n m k ws sizes h e = record {
+  answer = sym (ap not (T-true (any m (faulty edges n)) (any-make m (faulty edges n) k h (subst (λ (b : Bool). T b) (sym e) tt))));
+  table = λ t. absurd t;
+  counted = λ t. absurd t;
+}
+
+pub added-yes : (edges : List ℕ) (n m : ℕ) {ws sizes : List ℕ} → T (not (any m (faulty edges n))) → Table ws (linked n edges m) → Counted ws sizes
+    → Added edges n m true ws sizes
+added-yes edges n m t w c = record { answer = sym (T-true (not (any m (faulty edges n))) t); table = λ x. w; counted = λ x. c }
+
+-- ---- a table without the first c edges of a list
+pub dropped-none : (edges list : List ℕ) (ws : List ℕ) → length ws ≡ 4096 → Dropped edges list 0 ws ws
+unfolding any
+dropped-none edges list ws len = record { size = len; bits = λ u v h l. one (bitAt ws (u * 512 + v)) (bitAt-lt ws (u * 512 + v)) }
+  where
+    one : (x : ℕ) → x < 2 → x ≡ bit (eqb x 1 && true)
+    one zero h = refl
+    one (suc zero) h = refl
+    one (suc (suc x)) h = absurd (omega arith)
+
+pub dropped-more : (edges list : List ℕ) (c k : ℕ) (before ws : List ℕ) → k ≡ getD list c 0 → endA edges k < 512 → endB edges k < 512 → Dropped edges list c before ws
+    → Dropped edges list (c + 1) before (withoutBit (withoutBit ws (endA edges k * 512 + endB edges k)) (endB edges k * 512 + endA edges k))
+unfolding any
+dropped-more edges list c k before ws e ha hb t = record {
+  size = length-withoutBit (withoutBit ws (endA edges k * 512 + endB edges k)) (endB edges k * 512 + endA edges k) ∙ length-withoutBit ws (endA edges k * 512 + endB edges k) ∙ t .size;
+  bits = λ u v hu hv.
+      cell-neither edges k u v ha hb hu hv ws (eqb (cell before u v) 1 && not (any c (λ i. joins edges u v (getD list i 0)))) (t .size) (t .bits u v hu hv)
+      ∙ ap bit (
+      regroup (eqb (cell before u v) 1) (any c (λ i. joins edges u v (getD list i 0))) (joins edges u v k)
+      ∙ ap (λ (j : ℕ). eqb (cell before u v) 1 && not (joins edges u v j || any c (λ i. joins edges u v (getD list i 0)))) e
+      ∙ sym (ap (λ (n : ℕ). eqb (cell before u v) 1 && not (any n (λ i. joins edges u v (getD list i 0)))) (add-one c)));
+}
+  where
+    regroup : (a b c : Bool) → ((a && not b) && not c) ≡ (a && not (c || b))
+    regroup true true true = refl
+    regroup true true false = refl
+    regroup true false true = refl
+    regroup true false false = refl
+    regroup false b c = refl
+
+-- the second half of similarity: enough common neighbours for the two sizes
+abbrev pub meets : Network → ℕ → ℕ → Bool
+meets g u v = meetsEpsilon g (commonNeighbours g u v) (neighbourhoodSize g u) (neighbourhoodSize g v)
 
 -- a symmetric relation that holds of each handset with itself, and else only along edges
 pub record Along (s : List ℕ) (R : ℕ → ℕ → Bool) : Type 0 where
@@ -173,51 +255,58 @@ pub record Along (s : List ℕ) (R : ℕ → ℕ → Bool) : Type 0 where
   pub self : (u : ℕ) → T (R u u)
   pub only : (u v : ℕ) → T (R u v) → (u ≡ v) ⊎ T (adjacent s u v)
 
-module _ (s : List ℕ) (ok : Accepted s) (R : ℕ → ℕ → Bool) (along : Along s R) where
+module _ (s : List ℕ) (R : ℕ → ℕ → Bool) (along : Along s R) where
   -- R of the ends is R of what the edge joins
   at-ends : (u v t : ℕ) → T (joins (edgeRecords s) u v t) → R (endA (edgeRecords s) t) (endB (edgeRecords s) t) ≡ R u v
   at-ends u v t j =
       ⊎-elim (λ w. ap₂ R (w .0) (w .1)) (λ w. ap₂ R (w .0) (w .1) ∙ along .symmetric v u) (joins-cases (edgeRecords s) u v t j)
 
-  ends-of : (u v t : ℕ) → t < edgeCount s → T (joins (edgeRecords s) u v t) → (u < handsetCount s) × (v < handsetCount s)
-  ends-of u v t h j =
-      let b = ends-below s ok t h in
-      ⊎-elim
-      (λ w. (omega (arith, b .0, w .0), omega (arith, b .1, w .1)))
-      (λ w. (omega (arith, b .1, w .1), omega (arith, b .0, w .0)))
-      (joins-cases (edgeRecords s) u v t j)
+-- what is left of P without the edges that pass `gone`, if these are just the edges of P whose ends are not in R
+module _ (s : List ℕ) (P R : ℕ → ℕ → Bool) (p : Along s P) (r : Along s R) (within-P : (u v : ℕ) → T (R u v) → T (P u v)) (gone : ℕ → Bool)
+    (told : (k : ℕ) → k < edgeCount s → T (P (endA (edgeRecords s) k) (endB (edgeRecords s) k)) → gone k ≡ not (R (endA (edgeRecords s) k) (endB (edgeRecords s) k))) where
+  -- of an edge that joins u and v
+  gone-is : (u v k : ℕ) → k < edgeCount s → T (joins (edgeRecords s) u v k) → T (P u v) → gone k ≡ not (R u v)
+  gone-is u v k h j t =
+      told k h (subst (λ (b : Bool). T b) (sym (at-ends s P p u v k j)) t) ∙ ap not (at-ends s R r u v k j)
 
-  make-both : (u v : ℕ) → u < handsetCount s → v < handsetCount s → T (R u v) → T (both (network s) u v && R u v)
-  make-both u v hu hv r =
-      and-make (both (network s) u v) (R u v)
-      (and-make (ltb u (handsetCount s)) (ltb v (handsetCount s)) (lt→ltb u (handsetCount s) hu) (lt→ltb v (handsetCount s) hv)) r
-
-  marked-is : (u v : ℕ) → marked (handsetCount s) (edgeRecords s) R (edgeCount s) u v ≡ (both (network s) u v && R u v)
+  left-is : (u v : ℕ) → (P u v && not (any (edgeCount s) (λ k. gone k && joins (edgeRecords s) u v k))) ≡ R u v
   unfolding adjacent
-  marked-is u v =
-      T-ext (marked (handsetCount s) (edgeRecords s) R (edgeCount s) u v) (both (network s) u v && R u v)
-      (λ m.
-      ⊎-elim
-      (λ r. let h = ends-of u v (r .0) (r .1) (r .2) in make-both u v (h .0) (h .1) (subst (λ (x : Bool). T x) (at-ends u v (r .0) (r .2)) (r .3)))
-      (λ r. make-both u v (r .0) (omega (arith, r .0, r .1)) (subst (λ (x : ℕ). T (R u x)) (r .1) (along .self u)))
-      (marked-take (handsetCount s) (edgeRecords s) R (edgeCount s) u v m))
+  left-is u v =
+      T-ext (P u v && not (any (edgeCount s) (λ k. gone k && joins (edgeRecords s) u v k))) (R u v)
       (λ t.
-      let b = and-left (both (network s) u v) (R u v) t in
-      let r = and-right (both (network s) u v) (R u v) t in
+      let y = and-left (P u v) (not (any (edgeCount s) (λ k. gone k && joins (edgeRecords s) u v k))) t in
+      let n = and-right (P u v) (not (any (edgeCount s) (λ k. gone k && joins (edgeRecords s) u v k))) t in
       ⊎-elim
-      (λ e.
-      subst (λ (x : ℕ). T (marked (handsetCount s) (edgeRecords s) R (edgeCount s) u x)) e
-      (marked-self (handsetCount s) (edgeRecords s) R (edgeCount s) u
-      (ltb→lt u (handsetCount s) (and-left (ltb u (handsetCount s)) (ltb v (handsetCount s)) b))))
+      (λ e. subst (λ (x : ℕ). T (R u x)) e (r .self u))
       (λ w.
       let i = any-take (edgeCount s) (joins (edgeRecords s) u v) w in
-      marked-make (handsetCount s) (edgeRecords s) R (edgeCount s) u v (i .0) (i .1) (i .2)
-      (subst (λ (x : Bool). T x) (sym (at-ends u v (i .0) (i .2))) r))
-      (along .only u v r))
+      ⊎-elim
+      (λ (q : T (R u v)). q)
+      (λ (q : T (not (R u v))).
+      absurd (not-any (edgeCount s) (λ k. gone k && joins (edgeRecords s) u v k) (i .0) n (i .1)
+      (and-make (gone (i .0)) (joins (edgeRecords s) u v (i .0)) (subst (λ (b : Bool). T b) (sym (gone-is u v (i .0) (i .1) (i .2) y)) q) (i .2))))
+      (decide (R u v)))
+      (p .only u v y))
+      (λ t.
+      let y = within-P u v t in
+      and-make (P u v) (not (any (edgeCount s) (λ k. gone k && joins (edgeRecords s) u v k))) y
+      (none-any (edgeCount s) (λ k. gone k && joins (edgeRecords s) u v k) (λ k h.
+      not-T (gone k && joins (edgeRecords s) u v k) (λ x.
+      T-not (R u v)
+      (subst (λ (b : Bool). T b) (gone-is u v k h (and-right (gone k) (joins (edgeRecords s) u v k) x) y) (and-left (gone k) (joins (edgeRecords s) u v k) x)) t))))
 
-  pub marked-all : {ws : List ℕ} → Table ws (marked (handsetCount s) (edgeRecords s) R (edgeCount s)) → Table ws (λ u v. both (network s) u v && R u v)
-  marked-all t =
-      table-cong (marked (handsetCount s) (edgeRecords s) R (edgeCount s)) (λ u v. both (network s) u v && R u v) (λ u v h l. marked-is u v) t
+  -- the table left
+  pub dropped-is : {ws after list : List ℕ} {c : ℕ} (b : ℕ → ℕ → Bool) → Table ws (λ u v. b u v && P u v) → Dropped (edgeRecords s) list c ws after
+      → Picks list c (λ k. k) (edgeCount s) gone → Table after (λ u v. b u v && R u v)
+  dropped-is {ws} {after} {list} {c} b t d picks = record {
+    size = d .size;
+    bits = λ u v hu hv.
+        d .bits u v hu hv
+        ∙ ap bit (
+        ap₂ (λ (x y : Bool). x && not y) (ap (λ (x : ℕ). eqb x 1) (t .bits u v hu hv) ∙ one-bit (b u v && P u v)) (picks .same (joins (edgeRecords s) u v))
+        ∙ and-assoc (b u v) (P u v) (not (any (edgeCount s) (λ k. gone k && joins (edgeRecords s) u v k)))
+        ∙ ap (λ (x : Bool). b u v && x) (left-is u v));
+  }
 
 module _ (s : List ℕ) (ok : Accepted s) where
   near-only : (u v : ℕ) → T (neighbour s u v) → (u ≡ v) ⊎ T (adjacent s u v)
@@ -225,14 +314,21 @@ module _ (s : List ℕ) (ok : Accepted s) where
   near-only u v t =
       ⊎-elim (λ x. inl (eqb→eq u v x)) (λ x. inr (and-left (adjacent s u v) (within s u v) x)) (or-cases (eqb u v) (adjacent s u v && within s u v) t)
 
-  pub near-along : Along s (neighbour s)
+  near-along : Along s (neighbour s)
   near-along = record { symmetric = neighbour-comm s; self = neighbour-self s; only = near-only }
 
-  pub near-table : {ws : List ℕ} → Table ws (marked (handsetCount s) (edgeRecords s) (neighbour s) (edgeCount s)) → Table ws (nearIn (network s))
-  unfolding nearIn
-  near-table t = marked-all s ok (neighbour s) near-along t
+  -- u is v, or they are the ends of an edge
+  abbrev tied : ℕ → ℕ → Bool
+  tied u v = eqb u v || adjacent s u v
 
-  pub similar-along : Along s (similar (network s))
+  tied-along : Along s tied
+  tied-along = record {
+    symmetric = λ u v. ap₂ _||_ (eqb-comm u v) (adjacent-comm s u v);
+    self = λ u. or-left (eqb u u) (adjacent s u u) (eqb-refl u);
+    only = λ u v t. ⊎-elim (λ x. inl (eqb→eq u v x)) (λ x. inr x) (or-cases (eqb u v) (adjacent s u v) t);
+  }
+
+  similar-along : Along s (similar (network s))
   unfolding similar
   similar-along = record {
     symmetric = similar-sym (accepted-sound s ok);
@@ -240,12 +336,8 @@ module _ (s : List ℕ) (ok : Accepted s) where
     only = λ u v t. near-only u v (and-left (neighbour s u v) (meetsEpsilon (network s) (commonNeighbours (network s) u v) (neighbourhoodSize (network s) u) (neighbourhoodSize (network s) v)) t);
   }
 
-  pub similar-table : {ws : List ℕ} → Table ws (marked (handsetCount s) (edgeRecords s) (similar (network s)) (edgeCount s)) → Table ws (similarIn (network s))
-  unfolding similarIn
-  similar-table t = marked-all s ok (similar (network s)) similar-along t
-
   -- the ends of an edge are neighbours exactly when they are within gamma
-  pub edge-near : (k : ℕ) → k < edgeCount s
+  edge-near : (k : ℕ) → k < edgeCount s
       → neighbour s (endA (edgeRecords s) k) (endB (edgeRecords s) k) ≡ within s (endA (edgeRecords s) k) (endB (edgeRecords s) k)
   unfolding neighbour adjacent isLoop
   edge-near k h =
@@ -256,7 +348,65 @@ module _ (s : List ℕ) (ok : Accepted s) where
       (λ t. ⊎-elim (λ e. absurd (T-not (eqb a b) (ok .q9 k h) e)) (λ w. and-right (adjacent s a b) (within s a b) w) (or-cases (eqb a b) (adjacent s a b && within s a b) t))
       (λ w. or-right (eqb a b) (adjacent s a b && within s a b) (and-make (adjacent s a b) (within s a b) j w))
 
--- ---- the header and the parts of an accepted image
+  -- the table of all edges
+  linked-is : (u v : ℕ) → linked (handsetCount s) (edgeRecords s) (edgeCount s) u v ≡ (both (network s) u v && tied u v)
+  unfolding linked adjacent
+  linked-is u v =
+      T-ext (linked (handsetCount s) (edgeRecords s) (edgeCount s) u v) (both (network s) u v && tied u v)
+      (λ t.
+      ⊎-elim
+      (λ x.
+      let h = ltb→lt u (handsetCount s) (and-left (ltb u (handsetCount s)) (eqb u v) x) in
+      let e : u ≡ v = eqb→eq u v (and-right (ltb u (handsetCount s)) (eqb u v) x) in
+      make u v h (omega (arith, h, e)) (or-left (eqb u v) (adjacent s u v) (and-right (ltb u (handsetCount s)) (eqb u v) x)))
+      (λ x.
+      let i = any-take (edgeCount s) (joins (edgeRecords s) u v) x in
+      let b = ends-below s ok (i .0) (i .1) in
+      let h : (u < handsetCount s) × (v < handsetCount s) =
+      ⊎-elim
+      (λ w. (omega (arith, b .0, w .0), omega (arith, b .1, w .1)))
+      (λ w. (omega (arith, b .1, w .1), omega (arith, b .0, w .0)))
+      (joins-cases (edgeRecords s) u v (i .0) (i .2)) in
+      make u v (h .0) (h .1) (or-right (eqb u v) (adjacent s u v) x))
+      (or-cases (ltb u (handsetCount s) && eqb u v) (any (edgeCount s) (joins (edgeRecords s) u v)) t))
+      (λ t.
+      let b = and-left (both (network s) u v) (tied u v) t in
+      ⊎-elim
+      (λ x. or-left (ltb u (handsetCount s) && eqb u v) (any (edgeCount s) (joins (edgeRecords s) u v)) (and-make (ltb u (handsetCount s)) (eqb u v) (and-left (ltb u (handsetCount s)) (ltb v (handsetCount s)) b) x))
+      (λ x. or-right (ltb u (handsetCount s) && eqb u v) (any (edgeCount s) (joins (edgeRecords s) u v)) x)
+      (or-cases (eqb u v) (adjacent s u v) (and-right (both (network s) u v) (tied u v) t)))
+    where
+      make : (u v : ℕ) → u < handsetCount s → v < handsetCount s → T (tied u v) → T (both (network s) u v && tied u v)
+      make u v hu hv r =
+          and-make (both (network s) u v) (tied u v)
+          (and-make (ltb u (handsetCount s)) (ltb v (handsetCount s)) (lt→ltb u (handsetCount s) hu) (lt→ltb v (handsetCount s) hv)) r
+
+  -- dropping the edges that are too long leaves the neighbour relation
+  pub near-table : {ws after list : List ℕ} {c : ℕ} → Table ws (linked (handsetCount s) (edgeRecords s) (edgeCount s)) → Dropped (edgeRecords s) list c ws after
+      → Picks list c (λ k. k) (edgeCount s) (λ k. not (within s (endA (edgeRecords s) k) (endB (edgeRecords s) k))) → Table after (nearIn (network s))
+  unfolding nearIn neighbour
+  near-table t d picks =
+      dropped-is s tied (neighbour s) tied-along near-along
+      (λ u v x. ⊎-elim (λ e. or-left (eqb u v) (adjacent s u v) e) (λ w. or-right (eqb u v) (adjacent s u v) (and-left (adjacent s u v) (within s u v) w)) (or-cases (eqb u v) (adjacent s u v && within s u v) x))
+      (λ k. not (within s (endA (edgeRecords s) k) (endB (edgeRecords s) k)))
+      (λ k h x. ap not (sym (edge-near k h)))
+      (both (network s)) (table-cong (linked (handsetCount s) (edgeRecords s) (edgeCount s)) (λ u v. both (network s) u v && tied u v) (λ u v hu hv. linked-is u v) t) d picks
+
+  -- dropping the edges whose ends are not similar leaves the similarity relation
+  pub similar-table : {ws after list : List ℕ} {c : ℕ} → Table ws (nearIn (network s)) → Dropped (edgeRecords s) list c ws after
+      → Picks list c (λ k. k) (edgeCount s) (λ k. within s (endA (edgeRecords s) k) (endB (edgeRecords s) k) && not (meets (network s) (endA (edgeRecords s) k) (endB (edgeRecords s) k)))
+      → Table after (similarIn (network s))
+  unfolding nearIn similarIn similar
+  similar-table t d picks =
+      dropped-is s (neighbour s) (similar (network s)) near-along similar-along
+      (λ u v x. and-left (neighbour s u v) (meets (network s) u v) x)
+      (λ k. within s (endA (edgeRecords s) k) (endB (edgeRecords s) k) && not (meets (network s) (endA (edgeRecords s) k) (endB (edgeRecords s) k)))
+      (λ k h x.
+      ap (λ (b : Bool). b && not (meets (network s) (endA (edgeRecords s) k) (endB (edgeRecords s) k))) (T-true (within s (endA (edgeRecords s) k) (endB (edgeRecords s) k)) (subst (λ (b : Bool). T b) (edge-near k h) x))
+      ∙ ap not (sym (ap (λ (b : Bool). b && meets (network s) (endA (edgeRecords s) k) (endB (edgeRecords s) k)) (T-true (neighbour s (endA (edgeRecords s) k) (endB (edgeRecords s) k)) x))))
+      (both (network s)) t d picks
+
+-- ---- the header and the parts of an image
 pub record Read (s : List ℕ) (h : Header) : Type 0 where
   pub n-is : h .n ≡ handsetCount s
   pub m-is : h .m ≡ edgeCount s
@@ -267,7 +417,10 @@ pub record Read (s : List ℕ) (h : Header) : Type 0 where
   pub length-of : h .len ≡ length s
   pub fits : Fits h
 
-pub header-is : (s : List ℕ) (h : Header) → Accepted s → h ≡ headerOf s → Read s h
+pub checked-of : {s : List ℕ} → Accepted s → Checked s
+checked-of ok = record { q1 = ok .q1; q2 = ok .q2; q3 = ok .q3; q4 = ok .q4; q5 = ok .q5; q6 = ok .q6 }
+
+pub header-is : (s : List ℕ) (h : Header) → Checked s → h ≡ headerOf s → Read s h
 unfolding headerOf
 header-is s h ok e = record {
   n-is = ap (λ (x : Header). x .n) e;
@@ -276,8 +429,8 @@ header-is s h ok e = record {
   p-is = ap (λ (x : Header). x .p) e;
   q-is = ap (λ (x : Header). x .q) e;
   mu-is = ap (λ (x : Header). x .mu) e;
-  length-of = ap (λ (x : Header). x .len) e ∙ length-is s ok;
-  fits = subst Fits (sym e) (accepted-fits s ok);
+  length-of = ap (λ (x : Header). x .len) e ∙ eqb→eq (imageLength s) (length s) (ok .q2);
+  fits = subst Fits (sym e) (checked-fits s ok);
 }
 
 pub core-size-is : (s : List ℕ) (r m : ℕ) → r ≡ coreSize m → m ≡ muField s → r ≡ mu s
@@ -292,77 +445,107 @@ abbrev pub handsetPart : List ℕ → Header → List ℕ
 handsetPart s h = take (h .handsets + 8 * h .n - h .handsets) (drop (h .handsets) s)
 
 module _ (s : List ℕ) (h : Header) (e : h ≡ headerOf s) where
-  edgePart-is : edgePart s h ≡ edgeRecords s
+  pub edgePart-is : edgePart s h ≡ edgeRecords s
   unfolding edgeRecords headerOf
   edgePart-is = ap (λ (j : ℕ). take j (drop (h .edges) s)) (add-sub-cancel-left (h .edges) (4 * h .m)) ∙ ap (λ (x : Header). take (4 * x .m) (drop (x .edges) s)) e
 
-  handsetPart-is : handsetPart s h ≡ handsetRecords s
+  pub handsetPart-is : handsetPart s h ≡ handsetRecords s
   unfolding handsetRecords headerOf
   handsetPart-is =
       ap (λ (j : ℕ). take j (drop (h .handsets) s)) (add-sub-cancel-left (h .handsets) (8 * h .n)) ∙ ap (λ (x : Header). take (8 * x .n) (drop (x .handsets) s)) e
 
-  -- what is read of an edge
-  pub end-a : (u k : ℕ) → u ≡ number 2 (edgePart s h) (4 * k) → u ≡ endA (edgeRecords s) k
-  unfolding endA
-  end-a u k r = r ∙ ap (λ (part : List ℕ). number 2 part (4 * k)) edgePart-is
+-- ---- the image is accepted exactly when no position and no edge is at fault
+module _ (s : List ℕ) where
+  faults : (k : ℕ) → T (not (faulty (edgeRecords s) (handsetCount s) k))
+      → T (not (badEnd (edgeRecords s) (handsetCount s) k)) × T (not (isLoop (edgeRecords s) k)) × T (not (repeatsEarlier (edgeRecords s) k))
+  unfolding faulty
+  faults k = go (badEnd (edgeRecords s) (handsetCount s) k) (isLoop (edgeRecords s) k) (repeatsEarlier (edgeRecords s) k)
+    where
+      go : (a b c : Bool) → T (not (a || (b || c))) → T (not a) × T (not b) × T (not c)
+      go false false false t = (tt, tt, tt)
+      go false false true t = absurd t
+      go false true c t = absurd t
+      go true b c t = absurd t
 
-  pub end-b : (v k : ℕ) → v ≡ number 2 (edgePart s h) (4 * k + 2) → v ≡ endB (edgeRecords s) k
-  unfolding endB
-  end-b v k r = r ∙ ap (λ (part : List ℕ). number 2 part (4 * k + 2)) edgePart-is
+  pub accept : Checked s → T (not (any (handsetCount s) (outOfLimits (handsetRecords s)))) → T (not (any (edgeCount s) (faulty (edgeRecords s) (handsetCount s)))) → Accepted s
+  accept c p e =
+      let none = any-none (edgeCount s) (faulty (edgeRecords s) (handsetCount s)) e in
+      record {
+        q1 = c .q1;
+        q2 = c .q2;
+        q3 = c .q3;
+        q4 = c .q4;
+        q5 = c .q5;
+        q6 = c .q6;
+        q7 = any-none (handsetCount s) (outOfLimits (handsetRecords s)) p;
+        q8 = λ k h. faults k (none k h) .0;
+        q9 = λ k h. faults k (none k h) .1;
+        q10 = λ k h. faults k (none k h) .2;
+      }
 
-  pub distance-is : (d u v : ℕ) → d ≡ distanceAt (handsetPart s h) u v → d ≡ distanceSquared s u v
-  unfolding distanceSquared
-  distance-is d u v r = r ∙ ap (λ (part : List ℕ). distanceAt part u v) handsetPart-is
+  pub position-fault : T (any (handsetCount s) (outOfLimits (handsetRecords s))) → Accepted s → ⊥
+  position-fault t ok =
+      let i = any-take (handsetCount s) (outOfLimits (handsetRecords s)) t in
+      T-not (outOfLimits (handsetRecords s) (i .0)) (ok .q7 (i .0) (i .1)) (i .2)
 
-  -- two handsets are at most 2,000,000 apart, either way
-  pub gaps : Accepted s → (u v : ℕ) → u < handsetCount s → v < handsetCount s
-      → (gap (xAt (handsetPart s h) u) (xAt (handsetPart s h) v) ≤ 2000000) × (gap (yAt (handsetPart s h) u) (yAt (handsetPart s h) v) ≤ 2000000)
-  gaps ok u v hu hv =
-      subst (λ (part : List ℕ). (gap (xAt part u) (xAt part v) ≤ 2000000) × (gap (yAt part u) (yAt part v) ≤ 2000000)) (sym handsetPart-is)
-      (omega (arith, x-limits s ok u hu, x-limits s ok v hv), omega (arith, y-limits s ok u hu, y-limits s ok v hv))
+  pub edge-fault : T (any (edgeCount s) (faulty (edgeRecords s) (handsetCount s))) → Accepted s → ⊥
+  unfolding faulty
+  edge-fault t ok =
+      let i = any-take (edgeCount s) (faulty (edgeRecords s) (handsetCount s)) t in
+      ⊎-elim
+      (λ x. T-not (badEnd (edgeRecords s) (handsetCount s) (i .0)) (ok .q8 (i .0) (i .1)) x)
+      (λ y. ⊎-elim
+      (λ x. T-not (isLoop (edgeRecords s) (i .0)) (ok .q9 (i .0) (i .1)) x)
+      (λ x. T-not (repeatsEarlier (edgeRecords s) (i .0)) (ok .q10 (i .0) (i .1)) x)
+      (or-cases (isLoop (edgeRecords s) (i .0)) (repeatsEarlier (edgeRecords s) (i .0)) y))
+      (or-cases (badEnd (edgeRecords s) (handsetCount s) (i .0)) (isLoop (edgeRecords s) (i .0) || repeatsEarlier (edgeRecords s) (i .0)) (i .2))
 
--- the ends of an edge that was read are handsets
-pub ends-read : (s : List ℕ) → Accepted s → (k u v : ℕ) → k < edgeCount s → u ≡ endA (edgeRecords s) k → v ≡ endB (edgeRecords s) k
-    → (u < handsetCount s) × (v < handsetCount s) × (u < 512) × (v < 512)
-unfolding headerOf
-ends-read s ok k u v h p q =
-    let b = ends-below s ok k h in
-    let n : handsetCount s ≤ 512 = accepted-fits s ok .n-limit in
-    (omega (arith, b .0), omega (arith, b .1), omega (arith, b .0), omega (arith, b .1))
+-- what the parts tell is told of the records
+module _ (s : List ℕ) (h : Header) (e : h ≡ headerOf s) where
+  pub positions-told : {yes : Bool} {xs ys : List ℕ} → Positions (handsetPart s h) (h .n) yes xs ys → Positions (handsetRecords s) (handsetCount s) yes xs ys
+  unfolding headerOf
+  positions-told {yes} {xs} {ys} p =
+      subst (λ (n : ℕ). Positions (handsetRecords s) n yes xs ys) (ap (λ (x : Header). x .n) e)
+      (subst (λ (part : List ℕ). Positions part (h .n) yes xs ys) (handsetPart-is s h e) p)
 
--- one edge more, whose ends are u and v
-module _ (s : List ℕ) (ok : Accepted s) (R : ℕ → ℕ → Bool) (k u v : ℕ) (below : k < edgeCount s) (p : u ≡ endA (edgeRecords s) k) (q : v ≡ endB (edgeRecords s) k) where
-  pub edge-yes : (ws new : List ℕ) → T (R u v) → new ≡ withBit (withBit ws (u * 512 + v)) (v * 512 + u) → Table ws (marked (handsetCount s) (edgeRecords s) R k)
-      → Table new (marked (handsetCount s) (edgeRecords s) R (k + 1))
-  edge-yes ws new t e m =
-      let b = ends-read s ok k u v below p q in
-      subst (λ (l : List ℕ). Table l (marked (handsetCount s) (edgeRecords s) R (k + 1)))
-      (sym (e ∙ ap₂ (λ (x y : ℕ). withBit (withBit ws (x * 512 + y)) (y * 512 + x)) p q))
-      (marked-yes (handsetCount s) (edgeRecords s) R k (omega (arith, b .2)) (omega (arith, b .3)) (subst (λ (x : Bool). T x) (ap₂ R p q) t) m)
+  pub edges-told : {yes : Bool} {ws sizes : List ℕ} → Added (edgePart s h) (h .n) (h .m) yes ws sizes → Added (edgeRecords s) (handsetCount s) (edgeCount s) yes ws sizes
+  unfolding headerOf
+  edges-told {yes} {ws} {sizes} a =
+      subst (λ (x : Header). Added (edgeRecords s) (x .n) (x .m) yes ws sizes) e
+      (subst (λ (part : List ℕ). Added part (h .n) (h .m) yes ws sizes) (edgePart-is s h e) a)
 
-  pub edge-no : (ws new : List ℕ) → T (not (R u v)) → new ≡ ws → Table ws (marked (handsetCount s) (edgeRecords s) R k)
-      → Table new (marked (handsetCount s) (edgeRecords s) R (k + 1))
-  edge-no ws new t e m =
-      subst (λ (l : List ℕ). Table l (marked (handsetCount s) (edgeRecords s) R (k + 1))) (sym e)
-      (marked-skip (handsetCount s) (edgeRecords s) R k (subst (λ (x : Bool). T (not x)) (ap₂ R p q) t) m)
+-- an answer by its negation
+pub is-yes : (b : Bool) → not b ≡ false → T b
+is-yes true e = tt
+is-yes false e = T-not true (subst (λ (b : Bool). T (not b)) (sym e) tt) tt
 
-  -- the ends are neighbours exactly when their squared distance is at most G
-  pub near-by : (d : ℕ) → d ≡ distanceSquared s u v → neighbour s u v ≡ leb d (limitSquared s)
-  unfolding within
-  near-by d e =
-      ap₂ (neighbour s) p q ∙ edge-near s ok k below ∙ sym (ap₂ (within s) p q) ∙ ap (λ (x : ℕ). leb x (limitSquared s)) (sym e)
+found : (b : Bool) → T (not (not b)) → T b
+found true t = tt
+found false t = absurd t
 
--- ---- the marks of a row, counted a word at a time
-pub row-more : (ws : List ℕ) (u j : ℕ) → getD ws (u * 8 + j) 0 < 2 ^ 64
-    → sum ((j + 1) * 64) (λ w. cell ws u w) ≡ sum (j * 64) (λ w. cell ws u w) + ones (getD ws (u * 8 + j) 0)
-row-more ws u j h = sum-word (λ w. cell ws u w) j (getD ws (u * 8 + j) 0) h (λ k l. cell-word ws u j k l)
+-- a position at fault
+pub not-read : (s : List ℕ) {no : Bool} {xs ys : List ℕ} → not no ≡ true → Positions (handsetRecords s) (handsetCount s) no xs ys → (xs′ ys′ ws sizes : List ℕ) → NetworkRead s false xs′ ys′ ws sizes
+not-read s {no} e p xs′ ys′ ws sizes = record {
+  accepted = λ t. absurd t;
+  refused = λ t ok.
+      position-fault s (found (any (handsetCount s) (outOfLimits (handsetRecords s))) (subst (λ (b : Bool). T (not b)) (p .answer) (subst (λ (b : Bool). T b) (sym e) tt))) ok;
+  x-is = λ t. absurd t;
+  y-is = λ t. absurd t;
+  table = λ t. absurd t;
+  counted = λ t. absurd t;
+}
 
-pub common-more : (ws : List ℕ) (u v j : ℕ) → getD ws (u * 8 + j) 0 < 2 ^ 64 → getD ws (v * 8 + j) 0 < 2 ^ 64
-    → sum ((j + 1) * 64) (λ w. min (cell ws u w) (cell ws v w)) ≡ sum (j * 64) (λ w. min (cell ws u w) (cell ws v w)) + ones (bitAnd (getD ws (u * 8 + j) 0) (getD ws (v * 8 + j) 0))
-common-more ws u v j h l =
-    sum-word (λ w. min (cell ws u w) (cell ws v w)) j (bitAnd (getD ws (u * 8 + j) 0) (getD ws (v * 8 + j) 0))
-    (and-lt 64 (getD ws (u * 8 + j) 0) (getD ws (v * 8 + j) 0) h l)
-    (λ k q. ap₂ min (cell-word ws u j k q) (cell-word ws v j k q) ∙ sym (bitOf-and (getD ws (u * 8 + j) 0) (getD ws (v * 8 + j) 0) k))
+-- no position at fault, and the edges
+pub network-read : (s : List ℕ) → Checked s → {xs ys ws sizes : List ℕ} {fine yes : Bool} → not fine ≡ false → Positions (handsetRecords s) (handsetCount s) fine xs ys
+    → Added (edgeRecords s) (handsetCount s) (edgeCount s) yes ws sizes → NetworkRead s yes xs ys ws sizes
+network-read s c {fine = fine} e p a = record {
+  accepted = λ t. accept s c (subst (λ (b : Bool). T b) (p .answer) (is-yes fine e)) (subst (λ (b : Bool). T b) (a .answer) t);
+  refused = λ t ok. edge-fault s (found (any (edgeCount s) (faulty (edgeRecords s) (handsetCount s))) (subst (λ (b : Bool). T (not b)) (a .answer) t)) ok;
+  x-is = λ t. p .x-is (is-yes fine e);
+  y-is = λ t. p .y-is (is-yes fine e);
+  table = a .table;
+  counted = a .counted;
+}
 
 -- ---- one number more is passed
 next-self : (k u : ℕ) → u ≡ k → T (ltb u (k + 1))
@@ -382,10 +565,10 @@ selves-none = record {
   bits = λ u v h l. bitAt-zeros 4096 (u * 512 + v) ∙ ap bit (sym (none-below u (eqb u v)));
 }
 
-pub selves-more : (ws : List ℕ) (k : ℕ) → k < 512 → Table ws (λ u v. ltb u k && eqb u v) → Table (withBit ws (k * 513)) (λ u v. ltb u (k + 1) && eqb u v)
-selves-more ws k hk t = record { size = length-withBit ws (k * 513) ∙ t .size; bits = λ u v h l. go u v h l (ℕ-discrete (u * 512 + v) (k * 513)) }
+pub selves-more : (ws : List ℕ) (k : ℕ) → k < 512 → Table ws (λ u v. ltb u k && eqb u v) → Table (withBit ws ((k * 512 + k))) (λ u v. ltb u (k + 1) && eqb u v)
+selves-more ws k hk t = record { size = length-withBit ws ((k * 512 + k)) ∙ t .size; bits = λ u v h l. go u v h l (ℕ-discrete (u * 512 + v) ((k * 512 + k))) }
   where
-    kept : (u v : ℕ) → v < 512 → (u * 512 + v ≡ k * 513 → ⊥) → Dec (u ≡ k) → (ltb u k && eqb u v) ≡ (ltb u (k + 1) && eqb u v)
+    kept : (u v : ℕ) → v < 512 → (u * 512 + v ≡ (k * 512 + k) → ⊥) → Dec (u ≡ k) → (ltb u k && eqb u v) ≡ (ltb u (k + 1) && eqb u v)
     kept u v l d (no e) = ap (λ (x : Bool). x && eqb u v) (sym (next-other k u e))
     kept u v l d (yes e) =
         let n : T (not (eqb u v)) = eqb-not u v (λ q. d (omega arith)) in
@@ -393,13 +576,17 @@ selves-more ws k hk t = record { size = length-withBit ws (k * 513) ∙ t .size;
         (λ x. absurd (T-not (eqb u v) n (and-right (ltb u k) (eqb u v) x)))
         (λ x. absurd (T-not (eqb u v) n (and-right (ltb u (k + 1)) (eqb u v) x)))
 
-    go : (u v : ℕ) → u < 512 → v < 512 → Dec (u * 512 + v ≡ k * 513) → cell (withBit ws (k * 513)) u v ≡ bit (ltb u (k + 1) && eqb u v)
+    go : (u v : ℕ) → u < 512 → v < 512 → Dec (u * 512 + v ≡ (k * 512 + k)) → cell (withBit ws ((k * 512 + k))) u v ≡ bit (ltb u (k + 1) && eqb u v)
     go u v h l (yes e) =
         let p : u ≡ k = omega arith in
         let q : u ≡ v = omega arith in
-        ap (bitAt (withBit ws (k * 513))) e ∙ bitAt-set-same ws (k * 513) (omega (arith, t .size))
+        ap (bitAt (withBit ws ((k * 512 + k)))) e ∙ bitAt-set-same ws ((k * 512 + k)) (omega (arith, t .size))
         ∙ sym (bit-true (ltb u (k + 1) && eqb u v) (and-make (ltb u (k + 1)) (eqb u v) (next-self k u p) (eqb-of u v q)))
-    go u v h l (no d) = bitAt-set-other ws (k * 513) (u * 512 + v) d ∙ t .bits u v h l ∙ ap bit (kept u v l d (ℕ-discrete u k))
+    go u v h l (no d) = bitAt-set-other ws ((k * 512 + k)) (u * 512 + v) d ∙ t .bits u v h l ∙ ap bit (kept u v l d (ℕ-discrete u k))
+
+pub selves-new : (ws : List ℕ) (k : ℕ) → k < 512 → Table ws (λ u v. ltb u k && eqb u v) → cell ws k k ≡ 0
+selves-new ws k h t =
+    t .bits k k h h ∙ bit-false (ltb k k && eqb k k) (not-T (ltb k k && eqb k k) (λ x. omega (arith, ltb→lt k k (and-left (ltb k k) (eqb k k) x))))
 
 -- ---- a set of those below k that pass a test
 pub passed-none : (f : ℕ → Bool) → SetOf (zeros 8) (λ u. ltb u 0 && f u)
@@ -433,10 +620,6 @@ min-bit true true = refl
 min-bit true false = refl
 min-bit false true = refl
 min-bit false false = refl
-
-one-bit : (a : Bool) → eqb (bit a) 1 ≡ a
-one-bit true = refl
-one-bit false = refl
 
 -- nothing is counted from n on
 count-in : (n : ℕ) (f : ℕ → Bool) → n ≤ 512 → ((v : ℕ) → n ≤ v → T (not (f v))) → count 512 f ≡ count n f
@@ -489,26 +672,158 @@ module _ (g : Network) (small : g .n ≤ 512) where
       ∙ count-cong (g .n) (λ w. nearIn g u w && nearIn g v w) (λ w. g .neighbour u w && g .neighbour v w)
       (λ w l. ap₂ _&&_ (near-is u w hu l) (near-is v w hv l))
 
-  -- the test of two handsets for similarity, by the table and the sizes
-  pub similar-test : {ws : List ℕ} (u v a b p q : ℕ) → Table ws (nearIn g) → u < g .n → v < g .n
-      → a ≡ neighbourhoodSize g u → b ≡ neighbourhoodSize g v → p ≡ g .p → q ≡ g .q
-      → (eqb (cell ws u v) 1 && leb (p * p * (a * b)) (sum 512 (λ w. min (cell ws u w) (cell ws v w)) * sum 512 (λ w. min (cell ws u w) (cell ws v w)) * (q * q)))
-      ≡ similar g u v
-  unfolding similar meetsEpsilon
-  similar-test {ws} u v a b p q t hu hv ea eb ep eq =
-      ap₂ _&&_ (ap (λ (x : ℕ). eqb x 1) (t .bits u v (omega arith) (omega arith)) ∙ one-bit (nearIn g u v) ∙ near-is u v hu hv)
-      (rw (ea, eb, ep, eq, near-common u v t hu hv) refl)
+  -- the test of two handsets by the table and its sizes
+  pub enough-is : {ws sizes : List ℕ} (u v p q : ℕ) → Table ws (nearIn g) → Counted ws sizes → u < g .n → v < g .n → p ≡ g .p → q ≡ g .q
+      → enough ws sizes p q u v ≡ meets g u v
+  unfolding meetsEpsilon
+  enough-is {ws} {sizes} u v p q t c hu hv ep eq =
+      rw (c .rows u (omega arith) ∙ near-size u t hu, c .rows v (omega arith) ∙ near-size v t hv, ep, eq, near-common u v t hu hv) refl
 
-  -- the cores, by the counts of the similarity table
-  pub cores-set : {ws alike : List ℕ} (n m : ℕ) → n ≡ g .n → m ≡ g .mu → Table alike (similarIn g)
-      → SetOf ws (λ u. ltb u n && leb m (sum 512 (λ w. cell alike u w))) → SetOf ws (coreIn g)
+  -- the cores, by the sizes of the similarity table
+  pub cores-set : {ws alike sizes : List ℕ} (n m : ℕ) → n ≡ g .n → m ≡ g .mu → Table alike (similarIn g) → Counted alike sizes
+      → SetOf ws (λ u. ltb u n && leb m (getD sizes u 0)) → SetOf ws (coreIn g)
   unfolding coreIn isCore
-  cores-set {ws} {alike} n m en em t c = record {
+  cores-set {ws} {alike} {sizes} n m en em t counted c = record {
     size = c .size;
-    bits = λ u h. c .bits u h ∙ ap₂ (λ (x y : ℕ). bit (ltb u x && leb y (sum 512 (λ w. cell alike u w)))) en em ∙ ap bit (
+    bits = λ u h. c .bits u h ∙ ap₂ (λ (x y : ℕ). bit (ltb u x && leb y (getD sizes u 0))) en em ∙ ap bit (
         ⊎-elim
-        (λ y. ap (λ (x : ℕ). ltb u (g .n) && leb (g .mu) x) (similar-size u t (ltb→lt u (g .n) y)))
-        (λ n. ap (λ (b : Bool). b && leb (g .mu) (sum 512 (λ w. cell alike u w))) (T-false (ltb u (g .n)) n)
+        (λ y. ap (λ (x : ℕ). ltb u (g .n) && leb (g .mu) x) (counted .rows u h ∙ similar-size u t (ltb→lt u (g .n) y)))
+        (λ n. ap (λ (b : Bool). b && leb (g .mu) (getD sizes u 0)) (T-false (ltb u (g .n)) n)
         ∙ sym (ap (λ (b : Bool). b && leb (g .mu) (count (g .n) (similar g u))) (T-false (ltb u (g .n)) n)))
         (decide (ltb u (g .n))));
   }
+
+-- ---- the edges that are too long
+module _ (s : List ℕ) (h : Header) (ok : Accepted s) (e : h ≡ headerOf s) where
+  read : Read s h
+  read = header-is s h (checked-of ok) e
+
+  -- the ends of an edge of the part are handsets
+  part-ends : (k : ℕ) → k < h .m → (endA (edgePart s h) k < handsetCount s) × (endB (edgePart s h) k < handsetCount s)
+  part-ends k l =
+      subst (λ (part : List ℕ). (endA part k < handsetCount s) × (endB part k < handsetCount s)) (sym (edgePart-is s h e)) (ends-below s ok k (omega (arith, l, read .m-is)))
+
+  -- and below 512
+  pub ends-small : (k : ℕ) → k < h .m → (k < 4096) × (endA (edgePart s h) k < 512) × (endB (edgePart s h) k < 512)
+  ends-small k l =
+      let b = part-ends k l in
+      let r = read in
+      (omega (arith, l, r .fits .m-limit), omega (arith, b .0, r .n-is, r .fits .n-limit), omega (arith, b .1, r .n-is, r .fits .n-limit))
+
+  -- the edges of a list that is picked from all
+  pub list-small : {list : List ℕ} {c : ℕ} {test : ℕ → Bool} → Picks list c (λ k. k) (h .m) test
+      → (i : ℕ) → i < c → (getD list i 0 < 4096) × (endA (edgePart s h) (getD list i 0) < 512) × (endB (edgePart s h) (getD list i 0) < 512)
+  list-small {list} p i l = ends-small (getD list i 0) (picks-below (h .m) (λ k q. q) p i l)
+
+  module _ (xs ys : List ℕ) (at : (v : ℕ) → v < h .n → (getD xs v 0 ≡ xAt (handsetRecords s) v) × (getD ys v 0 ≡ yAt (handsetRecords s) v)) where
+    -- two handsets are at most 2,000,000 apart, either way
+    pub length-ready : (k : ℕ) → k < h .m
+        → (endA (edgePart s h) k < 512) × (endB (edgePart s h) k < 512)
+        × (gap (getD xs (endA (edgePart s h) k) 0) (getD xs (endB (edgePart s h) k) 0) ≤ 2000000) × (gap (getD ys (endA (edgePart s h) k) 0) (getD ys (endB (edgePart s h) k) 0) ≤ 2000000)
+    length-ready k l =
+        let b = part-ends k l in
+        let small = ends-small k l in
+        let p = at (endA (edgePart s h) k) (omega (arith, b .0, read .n-is)) in
+        let q = at (endB (edgePart s h) k) (omega (arith, b .1, read .n-is)) in (
+          small .1,
+          small .2,
+          omega (arith, p .0, q .0, x-limits s ok (endA (edgePart s h) k) (b .0), x-limits s ok (endB (edgePart s h) k) (b .1)),
+          omega (arith, p .1, q .1, y-limits s ok (endA (edgePart s h) k) (b .0), y-limits s ok (endB (edgePart s h) k) (b .1)),
+        )
+
+    -- the test of an edge's length is the definition's
+    apart-is : (u v : ℕ) → u < handsetCount s → v < handsetCount s → leb (apart xs ys u v) (h .limit) ≡ within s u v
+    unfolding within distanceSquared distanceAt
+    apart-is u v hu hv =
+        let p = at u (omega (arith, hu, read .n-is)) in
+        let q = at v (omega (arith, hv, read .n-is)) in
+        rw (p .0, p .1, q .0, q .1, read .limit-is) refl
+
+    length-test : (k : ℕ) → k < h .m
+        → leb (apart xs ys (endA (edgePart s h) k) (endB (edgePart s h) k)) (h .limit) ≡ within s (endA (edgeRecords s) k) (endB (edgeRecords s) k)
+    length-test k l =
+        let b = part-ends k l in
+        apart-is (endA (edgePart s h) k) (endB (edgePart s h) k) (b .0) (b .1)
+        ∙ ap (λ (part : List ℕ). within s (endA part k) (endB part k)) (edgePart-is s h e)
+
+    pub near-kept : {near far ws after sizes : List ℕ} {r : ℕ} → Table ws (linked (h .n) (edgeRecords s) (h .m)) → r ≤ h .m
+        → Picks near r (λ k. k) (h .m) (λ k. leb (apart xs ys (endA (edgePart s h) k) (endB (edgePart s h) k)) (h .limit))
+        → Picks far (h .m - r) (λ k. k) (h .m) (λ k. not (leb (apart xs ys (endA (edgePart s h) k) (endB (edgePart s h) k)) (h .limit)))
+        → Dropped (edgePart s h) far (h .m - r) ws after → Counted after sizes → NearKept s r near after sizes
+    near-kept {near} {far} {ws} {after} {sizes} {r} t most p q d c =
+        let p′ = picks-cong (λ k. leb (apart xs ys (endA (edgePart s h) k) (endB (edgePart s h) k)) (h .limit)) (λ k. within s (endA (edgeRecords s) k) (endB (edgeRecords s) k)) length-test p in
+        let q′ = picks-cong (λ k. not (leb (apart xs ys (endA (edgePart s h) k) (endB (edgePart s h) k)) (h .limit))) (λ k. not (within s (endA (edgeRecords s) k) (endB (edgeRecords s) k))) (λ k l. ap not (length-test k l)) q in
+        let t′ = subst (λ (n : ℕ). Table ws (linked n (edgeRecords s) (h .m))) (read .n-is) t in
+        record {
+          most = omega (arith, most, read .m-is);
+          listed = subst (λ (m : ℕ). Picks near r (λ k. k) m (λ k. within s (endA (edgeRecords s) k) (endB (edgeRecords s) k))) (read .m-is) p′;
+          table =
+              near-table s ok (subst (λ (m : ℕ). Table ws (linked (handsetCount s) (edgeRecords s) m)) (read .m-is) t′)
+              (subst (λ (part : List ℕ). Dropped part far (h .m - r) ws after) (edgePart-is s h e) d)
+              (subst (λ (m : ℕ). Picks far (h .m - r) (λ k. k) m (λ k. not (within s (endA (edgeRecords s) k) (endB (edgeRecords s) k)))) (read .m-is) q′);
+          counted = c;
+        }
+
+  -- ---- the edges whose ends are not similar
+  module _ {near ws sizes : List ℕ} {c : ℕ} (kept : NearKept s c near ws sizes) where
+    small : network s .n ≤ 512
+    small = omega (arith, read .n-is, read .fits .n-limit)
+
+    pub listed-small : (i : ℕ) → i < c → (getD near i 0 < 4096) × (endA (edgePart s h) (getD near i 0) < 512) × (endB (edgePart s h) (getD near i 0) < 512)
+    listed-small = list-small (subst (λ (m : ℕ). Picks near c (λ k. k) m (λ k. within s (endA (edgeRecords s) k) (endB (edgeRecords s) k))) (sym (read .m-is)) (kept .listed))
+
+    pub rows-end : (u w : ℕ) → u < 512 → h .n ≤ w → w < 512 → cell ws u w ≡ 0
+    rows-end u w hu l hw =
+        kept .table .bits u w hu hw ∙ bit-false (nearIn (network s) u w) (near-past (network s) small u w (omega (arith, l, read .n-is)))
+
+    -- the test of an edge of the list
+    unlike-test : (i : ℕ) → i < c
+        → not (enough ws sizes (h .p) (h .q) (endA (edgePart s h) (getD near i 0)) (endB (edgePart s h) (getD near i 0)))
+        ≡ not (meets (network s) (endA (edgeRecords s) (getD near i 0)) (endB (edgeRecords s) (getD near i 0)))
+    unlike-test i l =
+        let k = getD near i 0 in
+        let b = ends-below s ok k (picks-below (edgeCount s) (λ j q. q) (kept .listed) i l) in
+        ap (λ (part : List ℕ). not (enough ws sizes (h .p) (h .q) (endA part k) (endB part k))) (edgePart-is s h e)
+        ∙ ap not (enough-is (network s) small (endA (edgeRecords s) k) (endB (edgeRecords s) k) (h .p) (h .q) (kept .table) (kept .counted) (b .0) (b .1) (read .p-is) (read .q-is))
+
+    module _ {unlike : List ℕ} {r : ℕ}
+        (picked : Picks unlike r (λ i. getD near i 0) c (λ k. not (enough ws sizes (h .p) (h .q) (endA (edgePart s h) k) (endB (edgePart s h) k)))) where
+      picked-all : Picks unlike r (λ k. k) (edgeCount s) (λ k. within s (endA (edgeRecords s) k) (endB (edgeRecords s) k) && not (meets (network s) (endA (edgeRecords s) k) (endB (edgeRecords s) k)))
+      picked-all =
+          picks-through
+          (picks-cong (λ k. not (enough ws sizes (h .p) (h .q) (endA (edgePart s h) k) (endB (edgePart s h) k))) (λ k. not (meets (network s) (endA (edgeRecords s) k) (endB (edgeRecords s) k))) unlike-test picked)
+          (kept .listed)
+
+      pub unlike-small : (i : ℕ) → i < r → (getD unlike i 0 < 4096) × (endA (edgePart s h) (getD unlike i 0) < 512) × (endB (edgePart s h) (getD unlike i 0) < 512)
+      unlike-small =
+          list-small (subst (λ (m : ℕ). Picks unlike r (λ k. k) m (λ k. within s (endA (edgeRecords s) k) (endB (edgeRecords s) k) && not (meets (network s) (endA (edgeRecords s) k) (endB (edgeRecords s) k)))) (sym (read .m-is)) picked-all)
+
+      pub survey-made : {after alike cores : List ℕ} {least : ℕ} → Dropped (edgePart s h) unlike r ws after → Counted after alike → least ≡ coreSize (h .mu)
+          → SetOf cores (λ u. ltb u (h .n) && leb least (getD alike u 0)) → Survey (network s) sizes after cores
+      survey-made {after} {alike} {cores} {least} d counted mu-read set =
+          let t = similar-table s ok (kept .table) (subst (λ (part : List ℕ). Dropped part unlike r ws after) (edgePart-is s h e) d) picked-all in
+          record {
+            near-sizes = λ u l. kept .counted .rows u (omega (arith, l, small)) ∙ near-size (network s) small u (kept .table) l;
+            similar-table = t;
+            core-set = cores-set (network s) small (h .n) least (read .n-is) (core-size-is s least (h .mu) mu-read (read .mu-is)) t counted set;
+          }
+
+-- ---- all of it
+-- what was read, as keep_near takes it
+pub keep-ready : (s : List ℕ) (h : Header) → h ≡ headerOf s → {yes : Bool} {xs ys ws sizes : List ℕ} → T yes → NetworkRead s yes xs ys ws sizes
+    → ((v : ℕ) → v < h .n → (getD xs v 0 ≡ xAt (handsetRecords s) v) × (getD ys v 0 ≡ yAt (handsetRecords s) v)) × Table ws (linked (h .n) (edgeRecords s) (h .m))
+unfolding headerOf
+keep-ready s h e {yes} {xs} {ys} {ws} {sizes} y n =
+    subst
+    (λ (x : Header). ((v : ℕ) → v < x .n → (getD xs v 0 ≡ xAt (handsetRecords s) v) × (getD ys v 0 ≡ yAt (handsetRecords s) v)) × Table ws (linked (x .n) (edgeRecords s) (x .m))) (sym e)
+    (λ v l. (n .x-is y v l, n .y-is y v l), n .table y)
+
+pub survey-no : (s : List ℕ) {yes : Bool} {xs ys ws sizes : List ℕ} → not yes ≡ true → NetworkRead s yes xs ys ws sizes → (alike near cores : List ℕ) → SurveyCall s false alike near cores
+survey-no s e n alike near cores = record {
+  accepted = λ t. absurd t;
+  refused = λ t. n .refused (subst (λ (b : Bool). T b) (sym e) tt);
+  survey = λ t. absurd t;
+}
+
+pub survey-yes : (s : List ℕ) {alike sizes cores : List ℕ} → Accepted s → Survey (network s) sizes alike cores → SurveyCall s true alike sizes cores
+survey-yes s ok y = record { accepted = λ t. ok; refused = λ t. absurd t; survey = λ t. y }

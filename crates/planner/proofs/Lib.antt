@@ -1,3 +1,5 @@
+pub mod Picking
+pub mod Rows
 pub mod Lowest
 pub mod Growth
 pub mod Grouping

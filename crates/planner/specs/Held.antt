@@ -1,22 +1,33 @@
--- What the planner's working tables of bits hold, for the contracts inside the crate.
+-- What the planner's working tables hold, for the contracts inside the crate.
 --
---     SetOf ws f          eight words hold the v below 512 that pass f
---     Table ws f          512 rows of eight words hold the relation f between numbers below 512
---     nearIn, similarIn   the neighbour and the similarity relation among the handsets of a network
---     coreIn              its cores
---     Survey g ..         the tables of a network: neighbours, similarity, cores
---     Grouped g ws k      the first k rows are the communities of the network, in their order
---     Found g ..          all that a call works out of an accepted site
---     rowMembers ws k     the members of row k, ascending; rowsOf ws k: those of the first k rows
-use Prim.Native.Nat.{ℕ, zero, suc, _≤_, _<_}
+--     SetOf ws f              eight words hold the v below 512 that pass f
+--     Table ws f              512 rows of eight words hold the relation f between numbers below 512
+--     Counted ws sizes        the sizes are those of the rows
+--     linked n edges k        each of n handsets is related to itself, and the ends of each of the first k edges to each other
+--     faulty edges n k        one of questions 8 to 10 gets a no for edge k
+--     Added ..                what adding the edges tells and leaves; Positions: what reading the positions does
+--     apart xs ys u v         the squared distance by two tables of coordinates
+--     Picks list r from c t   the first r numbers of the list are those of from 0 .. from (c - 1) that pass t
+--     Dropped ..              a table without the edges of a list
+--     enough ..               the test for similarity by a table and its sizes
+--     nearIn, similarIn       the neighbour and the similarity relation among the handsets of a network; coreIn: its cores
+--     NetworkRead s ..        what reading an image tells and leaves; NearKept: what dropping its long edges leaves
+--     Survey g ..             the tables of a network: the sizes of its neighbourhoods, similarity, cores; SurveyCall: what making them tells
+--     Grouped g ws k          the first k rows are the communities of the network, in their order
+--     Found g ..              all that a call works out of an accepted site
+--     rowMembers ws k         the members of row k, ascending; rowsOf ws k: those of the first k rows
+use Prim.Native.Nat.{ℕ, zero, suc, _+_, _*_, _≤_, _<_, min}
 use mathlib.Core.Path.{_≡_}
-use mathlib.Core.Bool.{Bool, _&&_, cond}
+use mathlib.Core.Bool.{Bool, _&&_, _||_, not, cond}
 use mathlib.Core.List.{List, [], _∷_, _++_}
-use lib.Dec.{ltb, eqb}
+use lib.Dec.{T, leb, ltb, eqb}
 use lib.ListN.{length, getD}
-use Rattle.sets.specs.Below.{bit, select}
+use Rattle.sets.specs.Below.{any, bit, select, sum}
 use Rattle.sets.specs.Bits.{bitAt, cell}
-use Rattle.community.specs.Network.{Network, similar, isCore, reachable, leaders, communityNumber, membershipCount, borderOf}
+use Rattle.image.specs.Image.{handsetCount, edgeCount, handsetRecords, edgeRecords, gap, xAt, yAt, endA, endB, joins, within}
+use Rattle.image.specs.Questions.{outOfLimits, badEnd, isLoop, repeatsEarlier, Accepted}
+use Rattle.community.specs.Network.{Network, neighbourhoodSize, similar, isCore, reachable, leaders, communityNumber, membershipCount, borderOf}
+use Rattle.community.specs.Site.{network}
 use Rattle.community.specs.declared.Role.{Role}
 use Rattle.community.specs.declared.Role.the-variants.{Core}
 
@@ -27,6 +38,47 @@ pub record SetOf (ws : List ℕ) (f : ℕ → Bool) : Type 0 where
 pub record Table (ws : List ℕ) (f : ℕ → ℕ → Bool) : Type 0 where
   pub size : length ws ≡ 4096
   pub bits : (u v : ℕ) → u < 512 → v < 512 → cell ws u v ≡ bit (f u v)
+
+pub record Counted (ws sizes : List ℕ) : Type 0 where
+  pub size : length sizes ≡ 512
+  pub rows : (u : ℕ) → u < 512 → getD sizes u 0 ≡ sum 512 (λ v. cell ws u v)
+
+unfoldable pub linked : ℕ → List ℕ → ℕ → ℕ → ℕ → Bool
+unfolding any joins
+linked n edges k u v = (ltb u n && eqb u v) || any k (joins edges u v)
+
+unfoldable pub faulty : List ℕ → ℕ → ℕ → Bool
+unfolding badEnd isLoop repeatsEarlier
+faulty edges n k = badEnd edges n k || (isLoop edges k || repeatsEarlier edges k)
+
+-- no edge is faulty exactly when the answer is yes, and then the table holds them all
+pub record Added (edges : List ℕ) (n m : ℕ) (yes : Bool) (ws sizes : List ℕ) : Type 0 where
+  pub answer : yes ≡ not (any m (faulty edges n))
+  pub table : T yes → Table ws (linked n edges m)
+  pub counted : T yes → Counted ws sizes
+
+-- no position is out of its limits exactly when the answer is yes, and then the two tables hold them all
+pub record Positions (handsets : List ℕ) (n : ℕ) (yes : Bool) (xs ys : List ℕ) : Type 0 where
+  pub answer : yes ≡ not (any n (outOfLimits handsets))
+  pub x-is : T yes → (v : ℕ) → v < n → getD xs v 0 ≡ xAt handsets v
+  pub y-is : T yes → (v : ℕ) → v < n → getD ys v 0 ≡ yAt handsets v
+
+abbrev pub apart : List ℕ → List ℕ → ℕ → ℕ → ℕ
+apart xs ys u v =
+    gap (getD xs u 0) (getD xs v 0) * gap (getD xs u 0) (getD xs v 0) + gap (getD ys u 0) (getD ys v 0) * gap (getD ys u 0) (getD ys v 0)
+
+pub record Picks (list : List ℕ) (r : ℕ) (from : ℕ → ℕ) (c : ℕ) (test : ℕ → Bool) : Type 0 where
+  pub same : (f : ℕ → Bool) → any r (λ j. f (getD list j 0)) ≡ any c (λ i. test (from i) && f (from i))
+
+pub record Dropped (edges list : List ℕ) (c : ℕ) (before after : List ℕ) : Type 0 where
+  pub size : length after ≡ 4096
+  pub bits : (u v : ℕ) → u < 512 → v < 512 → cell after u v ≡ bit (eqb (cell before u v) 1 && not (any c (λ i. joins edges u v (getD list i 0))))
+
+-- c / √(a b) ≥ p / q for the marks c that rows u and v have in common and their sizes a and b
+abbrev pub enough : List ℕ → List ℕ → ℕ → ℕ → ℕ → ℕ → Bool
+enough ws sizes p q u v =
+    leb (p * p * (getD sizes u 0 * getD sizes v 0))
+    (sum 512 (λ w. min (cell ws u w) (cell ws v w)) * sum 512 (λ w. min (cell ws u w) (cell ws v w)) * (q * q))
 
 -- u and v are handsets of the network
 abbrev pub both : Network → ℕ → ℕ → Bool
@@ -47,10 +99,32 @@ unfoldable pub reachableIn : Network → ℕ → ℕ → Bool
 unfolding reachable
 reachableIn g u v = both g u v && reachable g u v
 
-pub record Survey (g : Network) (near alike cores : List ℕ) : Type 0 where
-  pub near-table : Table near (nearIn g)
+-- what reading an image tells and leaves, its header having passed: a yes accepts it, and then the tables hold its positions and its edges
+pub record NetworkRead (s : List ℕ) (yes : Bool) (xs ys ws sizes : List ℕ) : Type 0 where
+  pub accepted : T yes → Accepted s
+  pub refused : T (not yes) → Accepted s → ⊥
+  pub x-is : T yes → (v : ℕ) → v < handsetCount s → getD xs v 0 ≡ xAt (handsetRecords s) v
+  pub y-is : T yes → (v : ℕ) → v < handsetCount s → getD ys v 0 ≡ yAt (handsetRecords s) v
+  pub table : T yes → Table ws (linked (handsetCount s) (edgeRecords s) (edgeCount s))
+  pub counted : T yes → Counted ws sizes
+
+-- the neighbour table of an accepted image with its sizes, and the list of the edges that are not too long
+pub record NearKept (s : List ℕ) (c : ℕ) (near ws sizes : List ℕ) : Type 0 where
+  pub most : c ≤ edgeCount s
+  pub listed : Picks near c (λ k. k) (edgeCount s) (λ k. within s (endA (edgeRecords s) k) (endB (edgeRecords s) k))
+  pub table : Table ws (nearIn (network s))
+  pub counted : Counted ws sizes
+
+pub record Survey (g : Network) (sizes alike cores : List ℕ) : Type 0 where
+  pub near-sizes : (u : ℕ) → u < g .n → getD sizes u 0 ≡ neighbourhoodSize g u
   pub similar-table : Table alike (similarIn g)
   pub core-set : SetOf cores (coreIn g)
+
+-- a yes accepts the image, and then the tables are those of its network
+pub record SurveyCall (s : List ℕ) (yes : Bool) (alike sizes cores : List ℕ) : Type 0 where
+  pub accepted : T yes → Accepted s
+  pub refused : T (not yes) → Accepted s → ⊥
+  pub survey : T yes → Survey (network s) sizes alike cores
 
 pub record Grouped (g : Network) (rows : List ℕ) (k : ℕ) : Type 0 where
   pub size : length rows ≡ 4096
@@ -66,9 +140,8 @@ unfolding rowMembers
 rowsOf ws zero = []
 rowsOf ws (suc k) = rowsOf ws k ++ (rowMembers ws k ∷ [])
 
--- what is found of an accepted site: the neighbour table, the set of cores, and its communities as the first k rows
-pub record Found (g : Network) (near cores rows : List ℕ) (k : ℕ) : Type 0 where
-  pub near-table : Table near (nearIn g)
+-- what is found of an accepted site: the set of cores, and its communities as the first k rows
+pub record Found (g : Network) (cores rows : List ℕ) (k : ℕ) : Type 0 where
   pub core-set : SetOf cores (coreIn g)
   pub most : k ≤ 512
   pub grouped : Grouped g rows k

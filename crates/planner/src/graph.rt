@@ -1,38 +1,112 @@
-// The tables of a site's network: who is a neighbour of whom, who is similar to whom, and who is a core. A table has a row of eight 64-bit
-// words for each handset, one bit a handset; only the edges are gone through, never the pairs of handsets.
+// The network of a site: the size of each neighbourhood, who is similar to whom, and who is a core. A table has a row of eight 64-bit words for
+// each handset, one bit a handset, and the size of each row stands beside it; only the edges are gone through, never the pairs of handsets.
+//
+// First every edge is added, which checks it too. Then the edges that are too long are dropped, and then those whose ends are not similar: each
+// time they are listed first, by a loop that does not branch on the test, so that the processor has nothing to guess.
 ghost use mathlib.Core.Path.{_≡_};
-ghost use mathlib.Core.Bool.{_&&_};
-ghost use Prim.Native.Nat.{ℕ, _+_, _*_, _≤_, _<_, min};
-ghost use lib.Dec.{leb, ltb, eqb};
+ghost use mathlib.Core.Bool.{_&&_, not};
+ghost use Prim.Native.Nat.{ℕ, _+_, _*_, _-_, _≤_, _<_, min};
+ghost use lib.Dec.{T, leb, ltb, eqb};
 ghost use lib.ListN.{length, getD, replicate};
 ghost use Rattle.sets.specs.Below.{sum};
-ghost use Rattle.sets.specs.Bits.{cell, withBit};
-ghost use Rattle.image.specs.Image.{xAt, yAt, distanceAt, gap};
-ghost use Rattle.image.specs.Questions.{Accepted, headerOf};
-ghost use Rattle.community.specs.Network.{neighbourhoodSize};
+ghost use Rattle.sets.specs.Bits.{cell, withBit, withoutBit};
+ghost use Rattle.image.specs.Image.{handsetRecords, edgeRecords, xAt, yAt, gap, endA, endB};
+ghost use Rattle.image.specs.Questions.{Accepted, openHeader, headerOf};
 ghost use Rattle.community.specs.Site.{network};
-ghost use Rattle.planner.specs.Held.{SetOf, Table, nearIn, similarIn, Survey};
+ghost use Rattle.planner.specs.Held.{SetOf, Table, Counted, linked, Added, Positions, apart, NetworkRead, Picks, Dropped, NearKept, enough, Survey, SurveyCall};
 use image::Header;
+use image::Opened;
 
-// Marks u and v in each other's rows.
-fn mark_both(table: &mut [u64], u: usize, v: usize)
-    requires { ⌜ (u < 512) × (v < 512) ⌝ }
-    ensures { λ _. ⌜ now (table .exit) ≡ withBit (withBit (now (table .entry)) (u * 512 + v)) (v * 512 + u) ⌝ }
+// The first end of edge k.
+fn end_a(edges: &[u8], k: usize) -> usize
+    requires { ⌜ k < 4096 ⌝ }
+    ensures { λ r. ⌜ r ≡ endA (now (edges .entry)) k ⌝ }
 {
-    sets::mark(table, u * 512 + v);
-    sets::mark(table, v * 512 + u);
+    image::read2(edges, 4 * k) as usize
 }
 
-// Marks each of the first n handsets in its own row of an empty table.
-fn mark_selves(table: &mut [u64], n: usize)
-    requires { ⌜ (now table ≡ replicate 4096 0) × (n ≤ 512) ⌝ }
-    ensures { λ _. ⌜ Table (now (table .exit)) (λ u v. ltb u n && eqb u v) ⌝ }
+// The second end of edge k.
+fn end_b(edges: &[u8], k: usize) -> usize
+    requires { ⌜ k < 4096 ⌝ }
+    ensures { λ r. ⌜ r ≡ endB (now (edges .entry)) k ⌝ }
+{
+    image::read2(edges, 4 * k + 2) as usize
+}
+
+// Adds v to row u, which does not have it.
+fn add(table: &mut [u64], sizes: &mut [u32], u: usize, v: usize)
+    requires { ⌜ (u < 512) × (v < 512) × (length (now table) ≡ 4096) × (Counted (now table) (now sizes)) × (cell (now table) u v ≡ 0) ⌝ }
+    ensures added { λ _. ⌜ now (table .exit) ≡ withBit (now (table .entry)) (u * 512 + v) ⌝ }
+    ensures counted { λ _. ⌜ Counted (now (table .exit)) (now (sizes .exit)) ⌝ }
+{
+    sets::mark(table, u * 512 + v);
+    sizes[u] = sizes[u] + 1;
+}
+
+// Takes v out of row u, if it is in it.
+fn take_out(table: &mut [u64], sizes: &mut [u32], u: usize, v: usize)
+    requires { ⌜ (u < 512) × (v < 512) × (length (now table) ≡ 4096) × (Counted (now table) (now sizes)) ⌝ }
+    ensures taken { λ _. ⌜ now (table .exit) ≡ withoutBit (now (table .entry)) (u * 512 + v) ⌝ }
+    ensures counted { λ _. ⌜ Counted (now (table .exit)) (now (sizes .exit)) ⌝ }
+{
+    let had = sets::has(table, u * 512 + v);
+    sets::unmark(table, u * 512 + v);
+    if had {
+        sizes[u] = sizes[u] - 1;
+    }
+}
+
+// Adds each of the first n handsets to its own row of an empty table.
+fn add_selves(table: &mut [u64], sizes: &mut [u32], n: usize)
+    requires { ⌜ (now table ≡ replicate 4096 0) × (now sizes ≡ replicate 512 0) × (n ≤ 512) ⌝ }
+    ensures added { λ _. ⌜ Table (now (table .exit)) (λ u v. ltb u n && eqb u v) ⌝ }
+    ensures counted { λ _. ⌜ Counted (now (table .exit)) (now (sizes .exit)) ⌝ }
 {
     let mut u = 0;
     while u < n {
-        sets::mark(table, u * 513);
+        add(table, sizes, u, u);
         u += 1;
     }
+}
+
+// Adds the ends of each edge to each other's rows. Stops with a no at an edge that has an end that is no handset, that goes from a handset to itself,
+// or that joins what an earlier one joins: the row has that end already.
+fn add_edges(edges: &[u8], n: u16, m: u16, table: &mut [u64], sizes: &mut [u32]) -> bool
+    requires { ⌜ (n ≤ 512) × (m ≤ 4096) × (Table (now table) (λ u v. ltb u n && eqb u v)) × (Counted (now table) (now sizes)) ⌝ }
+    ensures { λ r. ⌜ Added (now (edges .entry)) n m r (now (table .exit)) (now (sizes .exit)) ⌝ }
+{
+    let mut k: u16 = 0;
+    while k < m {
+        if image::bad_end(edges, n, k) {
+            return false;
+        }
+        let u = end_a(edges, k as usize);
+        let v = end_b(edges, k as usize);
+        if sets::has(table, u * 512 + v) {
+            return false;
+        }
+        add(table, sizes, u, v);
+        add(table, sizes, v, u);
+        k += 1;
+    }
+    true
+}
+
+// Reads the position of each handset into two tables. Stops with a no at one that is out of its limits.
+fn read_positions(handsets: &[u8], n: u16, xs: &mut [u64], ys: &mut [u64]) -> bool
+    requires { ⌜ (n ≤ 512) × (length (now xs) ≡ 512) × (length (now ys) ≡ 512) ⌝ }
+    ensures { λ r. ⌜ Positions (now (handsets .entry)) n r (now (xs .exit)) (now (ys .exit)) ⌝ }
+{
+    let mut v: u16 = 0;
+    while v < n {
+        if image::out_of_limits(handsets, v) {
+            return false;
+        }
+        xs[v as usize] = image::coordinate(handsets, 8 * (v as usize));
+        ys[v as usize] = image::coordinate(handsets, 8 * (v as usize) + 4);
+        v += 1;
+    }
+    true
 }
 
 // How far apart two numbers are.
@@ -42,86 +116,99 @@ fn gap_of(a: u64, b: u64) -> u64
     if a < b { b - a } else { a - b }
 }
 
-// The squared distance of two handsets whose positions keep the limits, from the part of the image that the handset records stand in.
-fn squared_distance(handsets: &[u8], u: usize, v: usize) -> u64
-    requires { ⌜ (u < 512) × (v < 512) × (gap (xAt (now handsets) u) (xAt (now handsets) v) ≤ 2000000) × (gap (yAt (now handsets) u) (yAt (now handsets) v) ≤ 2000000) ⌝ }
-    ensures { λ r. ⌜ r ≡ distanceAt (now (handsets .entry)) u v ⌝ }
+// The squared distance of two handsets whose positions keep the limits.
+fn squared_distance(xs: &[u64], ys: &[u64], u: usize, v: usize) -> u64
+    requires { ⌜ (u < length (now xs)) × (v < length (now xs)) × (u < length (now ys)) × (v < length (now ys)) × (gap (getD (now xs) u 0) (getD (now xs) v 0) ≤ 2000000) × (gap (getD (now ys) u 0) (getD (now ys) v 0) ≤ 2000000) ⌝ }
+    ensures { λ r. ⌜ r ≡ apart (now (xs .entry)) (now (ys .entry)) u v ⌝ }
 {
-    let dx = gap_of(
-        image::coordinate(handsets, 8 * u),
-        image::coordinate(handsets, 8 * v),
-    );
-    let dy = gap_of(
-        image::coordinate(handsets, 8 * u + 4),
-        image::coordinate(handsets, 8 * v + 4),
-    );
+    let dx = gap_of(xs[u], xs[v]);
+    let dy = gap_of(ys[u], ys[v]);
     dx * dx + dy * dy
 }
 
-// Fills the empty table `near` with the neighbour relation: each handset with itself, and the ends of each edge that are no farther apart than
-// gamma. The edges are read from the part of the image that begins at their offset.
-fn mark_neighbours(image: &[u8], h: Header, near: &mut [u64])
-    requires { ⌜ (Accepted (now image)) × (h ≡ headerOf (now image)) × (now near ≡ replicate 4096 0) ⌝ }
-    ensures { λ _. ⌜ Table (now (near .exit)) (nearIn (network (now (image .entry)))) ⌝ }
+// Lists the edges by number: those whose squared length is at most the limit in `near`, the others in `far`. Gives the count of the first.
+fn list_by_length<'a>(
+    edges: &'a [u8],
+    m: usize,
+    limit: u64,
+    xs: &'a [u64],
+    ys: &'a [u64],
+    near: &mut [u16],
+    far: &mut [u16],
+) -> usize
+    requires { ⌜ (m ≤ 4096) × (length (now near) ≡ 4096) × (length (now far) ≡ 4096) × (length (now xs) ≡ 512) × (length (now ys) ≡ 512) ⌝ }
+    requires { ⌜ ((k : ℕ) → k < m → (endA (now edges) k < 512) × (endB (now edges) k < 512) × (gap (getD (now xs) (endA (now edges) k) 0) (getD (now xs) (endB (now edges) k) 0) ≤ 2000000) × (gap (getD (now ys) (endA (now edges) k) 0) (getD (now ys) (endB (now edges) k) 0) ≤ 2000000)) ⌝ }
+    ensures most { λ r. ⌜ r ≤ m ⌝ }
+    ensures near { λ r. ⌜ Picks (now (near .exit)) r (λ k. k) m (λ k. leb (apart (now (xs .entry)) (now (ys .entry)) (endA (now (edges .entry)) k) (endB (now (edges .entry)) k)) limit) ⌝ }
+    ensures far { λ r. ⌜ Picks (now (far .exit)) (m - r) (λ k. k) m (λ k. not (leb (apart (now (xs .entry)) (now (ys .entry)) (endA (now (edges .entry)) k) (endB (now (edges .entry)) k)) limit)) ⌝ }
 {
-    let n = h.n as usize;
-    let m = h.m as usize;
-    let a = h.edges as usize;
-    let b = a + 4 * m;
-    let from = h.handsets as usize;
-    let to = from + 8 * n;
-    let edges = &image[a..b];
-    let handsets = &image[from..to];
-    mark_selves(near, n);
-    let mut k = 0;
+    let mut c: usize = 0;
+    let mut k: usize = 0;
     while k < m {
-        let u = image::read2(edges, 4 * k) as usize;
-        let v = image::read2(edges, 4 * k + 2) as usize;
-        if squared_distance(handsets, u, v) <= h.limit {
-            mark_both(near, u, v);
+        let d = squared_distance(xs, ys, end_a(edges, k), end_b(edges, k));
+        near[c] = k as u16;
+        far[k - c] = k as u16;
+        if d <= limit {
+            c += 1;
         }
         k += 1;
     }
+    c
 }
 
-// How many are marked in row u.
-pub(crate) fn row_size(table: &[u64], u: usize) -> u32
-    requires { ⌜ (u < 512) × (length (now table) ≡ 4096) ⌝ }
-    ensures { λ r. ⌜ r ≡ sum 512 (λ w. cell (now (table .entry)) u w) ⌝ }
+// Drops the first `count` edges of a list: takes the ends of each out of each other's rows.
+fn drop_edges<'a>(
+    edges: &'a [u8],
+    list: &'a [u16],
+    count: usize,
+    table: &mut [u64],
+    sizes: &mut [u32],
+)
+    requires { ⌜ (count ≤ 4096) × (length (now list) ≡ 4096) × (length (now table) ≡ 4096) × (Counted (now table) (now sizes)) × ((i : ℕ) → i < count → (getD (now list) i 0 < 4096) × (endA (now edges) (getD (now list) i 0) < 512) × (endB (now edges) (getD (now list) i 0) < 512)) ⌝ }
+    ensures dropped { λ _. ⌜ Dropped (now (edges .entry)) (now (list .entry)) count (now (table .entry)) (now (table .exit)) ⌝ }
+    ensures counted { λ _. ⌜ Counted (now (table .exit)) (now (sizes .exit)) ⌝ }
+{
+    let mut i: usize = 0;
+    while i < count {
+        let k = list[i] as usize;
+        let u = end_a(edges, k);
+        let v = end_b(edges, k);
+        take_out(table, sizes, u, v);
+        take_out(table, sizes, v, u);
+        i += 1;
+    }
+}
+
+// How many are marked in both rows u and v, in their first few words.
+fn common_words(table: &[u64], u: usize, v: usize, words: usize) -> u32
+    requires { ⌜ (u < 512) × (v < 512) × (length (now table) ≡ 4096) × (words ≤ 8) ⌝ }
+    ensures { λ r. ⌜ (r ≡ sum (words * 64) (λ w. min (cell (now (table .entry)) u w) (cell (now (table .entry)) v w))) × (r ≤ 512) ⌝ }
 {
     let mut n: u32 = 0;
     let mut j: usize = 0;
-    while j < 8 {
-        n += u64::count_ones(table[u * 8 + j]);
+    while j < words {
+        n += u64::count_ones(table[u * 8 + j] & table[v * 8 + j]);
         j += 1;
     }
     n
 }
 
-// Writes the size of each of the first n rows.
-fn measure(table: &[u64], n: usize, sizes: &mut [u32])
-    requires { ⌜ (length (now table) ≡ 4096) × (n ≤ 512) × (n ≤ length (now sizes)) ⌝ }
-    ensures { λ _. ⌜ ((u : ℕ) → u < n → getD (now (sizes .exit)) u 0 ≡ sum 512 (λ w. cell (now (table .entry)) u w)) ⌝ }
+// How many are marked in both rows u and v of a table whose rows have no number from n on. As many words are looked at as n needs, and each count
+// of words is a case of its own, so that it is compiled without a loop.
+fn common(table: &[u64], u: usize, v: usize, n: usize) -> u32
+    requires { ⌜ (u < 512) × (v < 512) × (length (now table) ≡ 4096) × (n ≤ 512) × ((w : ℕ) → n ≤ w → w < 512 → cell (now table) u w ≡ 0) ⌝ }
+    ensures { λ r. ⌜ (r ≡ sum 512 (λ w. min (cell (now (table .entry)) u w) (cell (now (table .entry)) v w))) × (r ≤ 512) ⌝ }
 {
-    let mut u = 0;
-    while u < n {
-        sizes[u] = row_size(table, u);
-        u += 1;
+    if n <= 64 {
+        return common_words(table, u, v, 1);
     }
-}
-
-// How many are marked in both rows u and v.
-fn common(near: &[u64], u: usize, v: usize) -> u32
-    requires { ⌜ (u < 512) × (v < 512) × (length (now near) ≡ 4096) ⌝ }
-    ensures { λ r. ⌜ (r ≡ sum 512 (λ w. min (cell (now (near .entry)) u w) (cell (now (near .entry)) v w))) × (r ≤ 512) ⌝ }
-{
-    let mut n: u32 = 0;
-    let mut j: usize = 0;
-    while j < 8 {
-        n += u64::count_ones(near[u * 8 + j] & near[v * 8 + j]);
-        j += 1;
+    if n <= 128 {
+        return common_words(table, u, v, 2);
     }
-    n
+    if n <= 256 {
+        return common_words(table, u, v, 4);
+    }
+    common_words(table, u, v, 8)
 }
 
 // Whether c common neighbours of a and b are enough: c / √(a b) ≥ p / q, in whole numbers.
@@ -132,73 +219,176 @@ fn meets_epsilon(c: u64, a: u64, b: u64, p: u64, q: u64) -> bool
     p * p * (a * b) <= c * c * (q * q)
 }
 
-// Whether the ends u and v of an edge are similar: marked as neighbours, with enough of them in common.
-fn are_similar(near: &[u64], sizes: &[u32], u: usize, v: usize, p: u16, q: u16) -> bool
-    requires { ⌜ (u < 512) × (v < 512) × (length (now near) ≡ 4096) × (length (now sizes) ≡ 512) × (p ≤ 1000) × (q ≤ 1000) ⌝ }
-    requires { ⌜ (getD (now sizes) u 0 ≤ 512) × (getD (now sizes) v 0 ≤ 512) ⌝ }
-    ensures { λ r. ⌜ r ≡ (eqb (cell (now (near .entry)) u v) 1 && leb (p * p * (getD (now (sizes .entry)) u 0 * getD (now (sizes .entry)) v 0)) (sum 512 (λ w. min (cell (now (near .entry)) u w) (cell (now (near .entry)) v w)) * sum 512 (λ w. min (cell (now (near .entry)) u w) (cell (now (near .entry)) v w)) * (q * q))) ⌝ }
+// Whether rows u and v have enough in common for their sizes.
+fn have_enough<'a>(
+    table: &'a [u64],
+    sizes: &'a [u32],
+    u: usize,
+    v: usize,
+    n: usize,
+    p: u16,
+    q: u16,
+) -> bool
+    requires { ⌜ (u < 512) × (v < 512) × (length (now table) ≡ 4096) × (n ≤ 512) × ((w : ℕ) → n ≤ w → w < 512 → cell (now table) u w ≡ 0) ⌝ }
+    requires { ⌜ (length (now sizes) ≡ 512) × (getD (now sizes) u 0 ≤ 512) × (getD (now sizes) v 0 ≤ 512) × (p ≤ 1000) × (q ≤ 1000) ⌝ }
+    ensures { λ r. ⌜ r ≡ enough (now (table .entry)) (now (sizes .entry)) p q u v ⌝ }
 {
-    if sets::has(near, u * 512 + v) {
-        let c = common(near, u, v) as u64;
-        meets_epsilon(c, sizes[u] as u64, sizes[v] as u64, p as u64, q as u64)
-    } else {
-        false
-    }
+    let c = common(table, u, v, n) as u64;
+    meets_epsilon(c, sizes[u] as u64, sizes[v] as u64, p as u64, q as u64)
 }
 
-// Fills the empty table `alike` with the similarity relation: each handset with itself, and the ends of each edge that are similar. Each edge
-// is tested once.
-fn mark_similar(image: &[u8], h: Header, near: &[u64], sizes: &[u32], alike: &mut [u64])
-    requires { ⌜ (Accepted (now image)) × (h ≡ headerOf (now image)) × (Table (now near) (nearIn (network (now image)))) × (now alike ≡ replicate 4096 0) ⌝ }
-    requires { ⌜ (length (now sizes) ≡ 512) × ((u : ℕ) → u < h .n → getD (now sizes) u 0 ≡ neighbourhoodSize (network (now image)) u) ⌝ }
-    ensures { λ _. ⌜ Table (now (alike .exit)) (similarIn (network (now (image .entry)))) ⌝ }
+// Lists those of the first `count` edges of a list whose ends do not have enough in common, and gives their count.
+fn list_unlike<'a>(
+    edges: &'a [u8],
+    list: &'a [u16],
+    count: usize,
+    table: &'a [u64],
+    sizes: &'a [u32],
+    h: Header,
+    unlike: &mut [u16],
+) -> usize
+    requires { ⌜ (count ≤ 4096) × (length (now list) ≡ 4096) × (length (now unlike) ≡ 4096) × (length (now table) ≡ 4096) × (h .n ≤ 512) × (h .p ≤ 1000) × (h .q ≤ 1000) ⌝ }
+    requires { ⌜ ((i : ℕ) → i < count → (getD (now list) i 0 < 4096) × (endA (now edges) (getD (now list) i 0) < 512) × (endB (now edges) (getD (now list) i 0) < 512)) ⌝ }
+    requires { ⌜ (length (now sizes) ≡ 512) × ((u : ℕ) → u < 512 → getD (now sizes) u 0 ≤ 512) × ((u w : ℕ) → u < 512 → h .n ≤ w → w < 512 → cell (now table) u w ≡ 0) ⌝ }
+    ensures most { λ r. ⌜ r ≤ count ⌝ }
+    ensures listed { λ r. ⌜ Picks (now (unlike .exit)) r (λ i. getD (now (list .entry)) i 0) count (λ k. not (enough (now (table .entry)) (now (sizes .entry)) (h .p) (h .q) (endA (now (edges .entry)) k) (endB (now (edges .entry)) k))) ⌝ }
 {
     let n = h.n as usize;
-    let m = h.m as usize;
-    let a = h.edges as usize;
-    let b = a + 4 * m;
-    let edges = &image[a..b];
-    mark_selves(alike, n);
-    let mut k = 0;
-    while k < m {
-        let u = image::read2(edges, 4 * k) as usize;
-        let v = image::read2(edges, 4 * k + 2) as usize;
-        if are_similar(near, sizes, u, v, h.p, h.q) {
-            mark_both(alike, u, v);
+    let mut c: usize = 0;
+    let mut i: usize = 0;
+    while i < count {
+        let k = list[i] as usize;
+        let alike = have_enough(table, sizes, end_a(edges, k), end_b(edges, k), n, h.p, h.q);
+        unlike[c] = list[i];
+        if !alike {
+            c += 1;
         }
-        k += 1;
+        i += 1;
     }
+    c
 }
 
-// Fills the empty set `cores` with the handsets below n that have at least mu marks in their row, themselves among them.
-fn mark_cores(alike: &[u64], n: usize, mu: u32, cores: &mut [u64])
-    requires { ⌜ (length (now alike) ≡ 4096) × (n ≤ 512) × (now cores ≡ replicate 8 0) ⌝ }
-    ensures { λ _. ⌜ SetOf (now (cores .exit)) (λ u. ltb u n && leb mu (sum 512 (λ w. cell (now (alike .entry)) u w))) ⌝ }
+// Fills the empty set `cores` with the handsets below n whose size is at least mu.
+fn mark_cores(sizes: &[u32], n: usize, mu: u32, cores: &mut [u64])
+    requires { ⌜ (n ≤ length (now sizes)) × (n ≤ 512) × (now cores ≡ replicate 8 0) ⌝ }
+    ensures { λ _. ⌜ SetOf (now (cores .exit)) (λ u. ltb u n && leb mu (getD (now (sizes .entry)) u 0)) ⌝ }
 {
     let mut u = 0;
     while u < n {
-        if mu <= row_size(alike, u) {
+        if mu <= sizes[u] {
             sets::mark(cores, u);
         }
         u += 1;
     }
 }
 
-// Fills three empty tables: the neighbours and the similar handsets of each handset, and the cores.
+// Copies the sizes of 512 rows.
+fn copy_sizes(from: &[u32], to: &mut [u32])
+    requires { ⌜ (length (now from) ≡ 512) × (length (now to) ≡ 512) ⌝ }
+    ensures { λ _. ⌜ ((u : ℕ) → u < 512 → getD (now (to .exit)) u 0 ≡ getD (now (from .entry)) u 0) ⌝ }
+{
+    let mut u = 0;
+    while u < 512 {
+        to[u] = from[u];
+        u += 1;
+    }
+}
+
+// Reads and checks the positions and the edges of an image whose header has passed, and adds each handset and each edge to an empty table. A no
+// says that one of questions 7 to 10 gets a no.
+fn read_network(
+    image: &[u8],
+    h: Header,
+    xs: &mut [u64],
+    ys: &mut [u64],
+    table: &mut [u64],
+    sizes: &mut [u32],
+) -> bool
+    requires { ⌜ (openHeader (now image) ≡ Opened.Site h) × (length (now xs) ≡ 512) × (length (now ys) ≡ 512) × (now table ≡ replicate 4096 0) × (now sizes ≡ replicate 512 0) ⌝ }
+    ensures { λ r. ⌜ NetworkRead (now (image .entry)) r (now (xs .exit)) (now (ys .exit)) (now (table .exit)) (now (sizes .exit)) ⌝ }
+{
+    let n = h.n as usize;
+    let m = h.m as usize;
+    let from = h.handsets as usize;
+    let to = from + 8 * n;
+    let a = h.edges as usize;
+    let b = a + 4 * m;
+    if !read_positions(&image[from..to], h.n, xs, ys) {
+        return false;
+    }
+    add_selves(table, sizes, n);
+    add_edges(&image[a..b], h.n, h.m, table, sizes)
+}
+
+// Drops the edges that are too long from the table of all edges of an accepted site, which leaves its neighbour relation. Lists the others, and gives
+// their count.
+fn keep_near<'a>(
+    image: &'a [u8],
+    h: Header,
+    xs: &'a [u64],
+    ys: &'a [u64],
+    near: &mut [u16],
+    table: &mut [u64],
+    sizes: &mut [u32],
+) -> usize
+    requires { ⌜ (Accepted (now image)) × (h ≡ headerOf (now image)) × (length (now near) ≡ 4096) × (length (now xs) ≡ 512) × (length (now ys) ≡ 512) ⌝ }
+    requires { ⌜ ((v : ℕ) → v < h .n → (getD (now xs) v 0 ≡ xAt (handsetRecords (now image)) v) × (getD (now ys) v 0 ≡ yAt (handsetRecords (now image)) v)) ⌝ }
+    requires { ⌜ (Table (now table) (linked (h .n) (edgeRecords (now image)) (h .m))) × (Counted (now table) (now sizes)) ⌝ }
+    ensures { λ r. ⌜ NearKept (now (image .entry)) r (now (near .exit)) (now (table .exit)) (now (sizes .exit)) ⌝ }
+{
+    let m = h.m as usize;
+    let a = h.edges as usize;
+    let b = a + 4 * m;
+    let edges = &image[a..b];
+    let mut far = [0u16; 4096];
+    let count = list_by_length(edges, m, h.limit, xs, ys, near, &mut far);
+    drop_edges(edges, &far, m - count, table, sizes);
+    count
+}
+
+// Drops the edges whose ends are not similar from the neighbour table of an accepted site, which leaves its similarity relation, and marks the cores.
+fn keep_similar<'a>(
+    image: &'a [u8],
+    h: Header,
+    near: &'a [u16],
+    count: usize,
+    sizes: &'a [u32],
+    table: &mut [u64],
+    cores: &mut [u64],
+)
+    requires { ⌜ (Accepted (now image)) × (h ≡ headerOf (now image)) × (length (now near) ≡ 4096) × (NearKept (now image) count (now near) (now table) (now sizes)) × (now cores ≡ replicate 8 0) ⌝ }
+    ensures { λ _. ⌜ Survey (network (now (image .entry))) (now (sizes .entry)) (now (table .exit)) (now (cores .exit)) ⌝ }
+{
+    let a = h.edges as usize;
+    let b = a + 4 * (h.m as usize);
+    let edges = &image[a..b];
+    let mut unlike = [0u16; 4096];
+    let unlikes = list_unlike(edges, near, count, table, sizes, h, &mut unlike);
+    let mut alike = [0u32; 512];
+    copy_sizes(sizes, &mut alike);
+    drop_edges(edges, &unlike, unlikes, table, &mut alike);
+    mark_cores(&alike, h.n as usize, image::core_size(h.mu) as u32, cores);
+}
+
+// Works out the network of an image whose header has passed, in three empty tables: the similar handsets of each handset, the size of each
+// neighbourhood, and the cores. A no says that the image is refused.
 pub(crate) fn survey(
     image: &[u8],
     h: Header,
-    near: &mut [u64],
-    alike: &mut [u64],
+    table: &mut [u64],
+    sizes: &mut [u32],
     cores: &mut [u64],
-)
-    requires { ⌜ (Accepted (now image)) × (h ≡ headerOf (now image)) × (now near ≡ replicate 4096 0) × (now alike ≡ replicate 4096 0) × (now cores ≡ replicate 8 0) ⌝ }
-    ensures { λ _. ⌜ Survey (network (now (image .entry))) (now (near .exit)) (now (alike .exit)) (now (cores .exit)) ⌝ }
+) -> bool
+    requires { ⌜ (openHeader (now image) ≡ Opened.Site h) × (now table ≡ replicate 4096 0) × (now sizes ≡ replicate 512 0) × (now cores ≡ replicate 8 0) ⌝ }
+    ensures { λ r. ⌜ SurveyCall (now (image .entry)) r (now (table .exit)) (now (sizes .exit)) (now (cores .exit)) ⌝ }
 {
-    let n = h.n as usize;
-    let mut sizes = [0u32; 512];
-    mark_neighbours(image, h, near);
-    measure(near, n, &mut sizes);
-    mark_similar(image, h, near, &sizes, alike);
-    mark_cores(alike, n, image::core_size(h.mu) as u32, cores);
+    let mut xs = [0u64; 512];
+    let mut ys = [0u64; 512];
+    if !read_network(image, h, &mut xs, &mut ys, table, sizes) {
+        return false;
+    }
+    let mut near = [0u16; 4096];
+    let count = keep_near(image, h, &xs, &ys, &mut near, table, sizes);
+    keep_similar(image, h, &near, count, sizes, table, cores);
+    true
 }

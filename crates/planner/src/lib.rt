@@ -1,7 +1,8 @@
 // The planner: the communities of a site, written into two lent tables, and the role of each handset.
 //
-// `graph` makes the tables of neighbours and of similarity and the set of cores, `groups` the communities as rows of bits, `tables` counts and
-// writes them. The calls open the image first, work everything out on the stack, and write only when nothing is left to refuse.
+// `graph` reads the network, its similarity relation and its cores, `groups` finds the communities as rows of bits, `tables` counts and writes them.
+// The calls work everything out on the stack, and write only when nothing is left to refuse. The edges are checked while they are read; where one is
+// at fault, the reader is asked for the image's refusal.
 mod graph;
 mod groups;
 mod tables;
@@ -38,37 +39,28 @@ pub enum Known {
     Refused(Refusal),
 }
 
-// Works out an accepted site: its neighbourhoods, its cores, and its communities as the first rows; their number is the answer.
-fn find_communities(
-    image: &[u8],
-    h: Header,
-    near: &mut [u64],
-    cores: &mut [u64],
-    rows: &mut [u64],
-) -> usize
-    requires { ⌜ (Accepted (now image)) × (h ≡ headerOf (now image)) × (now near ≡ replicate 4096 0) × (now cores ≡ replicate 8 0) × (length (now rows) ≡ 4096) ⌝ }
-    ensures { λ r. ⌜ Found (network (now (image .entry))) (now (near .exit)) (now (cores .exit)) (now (rows .exit)) r ⌝ }
-{
-    let mut alike = [0u64; 4096];
-    graph::survey(image, h, near, &mut alike, cores);
-    groups::find_groups(&alike, cores, rows)
-}
-
 // The plan of an image in both tables, and the set of its cores. A refusal writes nothing.
 pub fn plan_and_cores(image: &[u8], starts: &mut [u32], members: &mut [u16]) -> Outcome
     ensures { λ r. ⌜ (PlanCall (now (image .entry)) (now (starts .entry)) (now (members .entry)) (r .answer) (now (starts .exit)) (now (members .exit))) × (CoreWords (now (image .entry)) (r .cores)) ⌝ }
 {
-    let mut cores = [0u64; 8];
-    let opened = image::open(image);
-    let Opened::Site(h) = opened else {
+    let header = image::open_header(image);
+    let Opened::Site(h) = header else {
         return Outcome {
-            answer: Planned::Refused(image::refusal_of(opened)),
-            cores,
+            answer: Planned::Refused(image::refusal_of(header)),
+            cores: [0u64; 8],
         };
     };
-    let mut near = [0u64; 4096];
+    let mut table = [0u64; 4096];
+    let mut sizes = [0u32; 512];
+    let mut cores = [0u64; 8];
+    if !graph::survey(image, h, &mut table, &mut sizes, &mut cores) {
+        return Outcome {
+            answer: Planned::Refused(image::refusal_of(image::open(image))),
+            cores: [0u64; 8],
+        };
+    }
     let mut rows = [0u64; 4096];
-    let count = find_communities(image, h, &mut near, &mut cores, &mut rows);
+    let count = groups::find_groups(&table, &cores, &mut rows);
     let answer = tables::make_plan(&rows, count, starts, members);
     Outcome { answer, cores }
 }
@@ -101,23 +93,27 @@ fn role_in(cores: &[u64], rows: &[u64], count: usize, v: usize) -> Role
 pub fn role(image: &[u8], v: usize) -> Known
     ensures { λ r. ⌜ r ≡ knownOf (now (image .entry)) v ⌝ }
 {
-    let opened = image::open(image);
-    let Opened::Site(h) = opened else {
-        return Known::Refused(image::refusal_of(opened));
+    let header = image::open_header(image);
+    let Opened::Site(h) = header else {
+        return Known::Refused(image::refusal_of(header));
     };
+    let mut table = [0u64; 4096];
+    let mut sizes = [0u32; 512];
+    let mut cores = [0u64; 8];
+    if !graph::survey(image, h, &mut table, &mut sizes, &mut cores) {
+        return Known::Refused(image::refusal_of(image::open(image)));
+    }
     if h.n as usize <= v {
         return Known::Refused(Refusal {
             number: 13,
             place: 0,
         });
     }
-    let mut near = [0u64; 4096];
-    let mut cores = [0u64; 8];
     let mut rows = [0u64; 4096];
-    let count = find_communities(image, h, &mut near, &mut cores, &mut rows);
+    let count = groups::find_groups(&table, &cores, &mut rows);
     let role = role_in(&cores, &rows, count, v);
     Known::Handset(Standing {
-        neighbours: graph::row_size(&near, v),
+        neighbours: sizes[v],
         role,
     })
 }

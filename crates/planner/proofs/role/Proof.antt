@@ -1,21 +1,25 @@
--- `planner::role` meets its contract: a refused image or a number past the handsets ends the call, and else the role is that of the rows found.
-use mathlib.Core.Path.{_≡_, refl, sym, ap, _∙_}
-use Rattle.image.specs.Questions.{openOf, refusalOf}
-use Rattle.image.specs.declared.Opened.the-variants as O
-use Rattle.image.proofs.Acceptance.{accepted}
-use Rattle.planner.proofs.Calls.{known-refused, known-past, known-found, role-found, handsets-most, below-handsets, past-handsets}
+-- `planner::role` meets its contract: a header or a site that is refused or a number past the handsets ends the call, and else the role is that of the
+-- rows found.
 use native.Mathlib.Omega.{arith}
-use Rattle.community.specs.Site.{network}
-use Rattle.planner.proofs.GraphLaws.{near-size}
+use Prim.Native.Nat.{_<_}
+use mathlib.Core.Path.{_≡_, refl, sym, ap, _∙_, subst}
+use mathlib.Core.Bool.{Bool, not}
+use lib.Dec.{T}
+use Rattle.image.specs.Questions.{openOf, refusalOf, Accepted}
+use Rattle.image.specs.Image.{handsetCount}
+use Rattle.image.specs.declared.Opened.the-variants as O
+use Rattle.image.proofs.Acceptance.{header-no, header-yes}
+use Rattle.planner.proofs.Calls.{known-refused, refused-of, known-past, known-found, found-of, role-found, handsets-most, below-handsets, past-handsets}
+use Rattle.planner.proofs.GraphLaws.{is-yes}
 use borrow.Author.Needs.{needs}
 use Rattle.planner.proofs.role.Statement.{statement}
 use Rattle.planner.proofs.role.Tie as tie
 
-open-requires : tie.Need-open-requires
-open-requires c κs = search needs
+open-header-requires : tie.Need-open-header-requires
+open-header-requires c κs = search needs
 
-enum-known-opened : tie.Need-enum-known-opened
-enum-known-opened c = search needs
+enum-known-header : tie.Need-enum-known-header
+enum-known-header c = search needs
 
 enum-told : tie.Need-enum-told
 enum-told c = search needs
@@ -24,34 +28,62 @@ refusal-of-requires : tie.Need-refusal-of-requires
 refusal-of-requires c κs = search needs
 
 returns : tie.Need-returns
-returns c = let told = c .before .enum-told .given .1 in
-    let s = c .before .before .before .before .before in
-    let image = s .args .image .now in
-    known-refused image (c .refusal-of .result)
-    (sym (c .before .before .before .«open» .ensures) ∙ told ∙ ap O.Refused (sym (c .refusal-of .ensures ∙ ap refusalOf told))) (s .args .v)
+returns c =
+    let told = c .before .enum-told .given .1 in
+    let image = c .before .before .before .before .before .args .image .now in
+    let e : openOf image ≡ O.Refused (c .refusal-of .result) =
+    header-no image (c .refusal-of .result) (sym (c .before .before .before .open-header .ensures) ∙ told ∙ ap O.Refused (sym (c .refusal-of .ensures ∙ ap refusalOf told))) in
+    known-refused image (c .refusal-of .result) e (c .before .before .before .before .before .args .v)
 
-cast-if1 : tie.Need-cast-if1
-cast-if1 c = search needs
+slice-aggregate-survey : tie.Need-slice-aggregate-survey
+slice-aggregate-survey c = search needs
+
+slice-aggregate-survey-2 : tie.Need-slice-aggregate-survey-2
+slice-aggregate-survey-2 c = search needs
+
+slice-aggregate-survey-3 : tie.Need-slice-aggregate-survey-3
+slice-aggregate-survey-3 c = search needs
+
+survey-requires : tie.Need-survey-requires
+survey-requires c κs = (sym (c .before .before .before .before .before .before .open-header .ensures) ∙ c .before .before .before .before .header .given .1, refl, refl, refl)
+
+open-requires : tie.Need-open-requires
+open-requires c κs = search needs
+
+refusal-of-requires-2 : tie.Need-refusal-of-requires-2
+refusal-of-requires-2 c κs = search needs
 
 returns-2 : tie.Need-returns-2
 returns-2 c =
-    let s = c .before .before .before .before .before .before .before in
-    let a = accepted (s .args .image .now) (c .before .before .before .opened .given .0 .0) (sym (c .before .before .before .before .before .«open» .ensures) ∙ c .before .before .before .opened .given .1) in
-    known-past (s .args .image .now) (a .0) (s .args .v) (past-handsets _ _ (s .args .v) (a .1) (c .if1 .taken))
+    let image = c .before .before .before .before .before .before .before .before .before .before .before .before .before .before .before .args .image .now in
+    let never : Accepted image → ⊥ = c .before .before .before .before .before .before .survey .ensures .refused (subst (λ (b : Bool). T b) (sym (c .before .before .if1 .taken)) tt) in
+    let e : openOf image ≡ O.Refused (c .refusal-of2 .result) =
+    refused-of image never ∙ ap O.Refused (sym (c .refusal-of2 .ensures ∙ ap refusalOf (c .before .«open» .ensures))) in
+    known-refused image (c .refusal-of2 .result) e (c .before .before .before .before .before .before .before .before .before .before .before .before .before .before .before .args .v)
 
-slice-aggregate-find-communities : tie.Need-slice-aggregate-find-communities
-slice-aggregate-find-communities c = search needs
+cast-if2 : tie.Need-cast-if2
+cast-if2 c = search needs
 
-slice-aggregate-find-communities-2 : tie.Need-slice-aggregate-find-communities-2
-slice-aggregate-find-communities-2 c = search needs
+returns-3 : tie.Need-returns-3
+returns-3 c =
+    let s = c .before .before .before .before .before .before .before .before .before .before .before .before .before .before .before .args in
+    let y = is-yes (c .before .before .before .before .before .before .survey .result) (c .before .before .if1 .left) in
+    let e = header-yes (s .image .now) _ (sym (c .before .before .before .before .before .before .before .before .before .before .before .before .before .open-header .ensures) ∙ c .before .before .before .before .before .before .before .before .before .before .before .header .given .1) .1 in
+    known-past (s .image .now) (c .before .before .before .before .before .before .survey .ensures .accepted y) (s .v) (past-handsets _ _ (s .v) e (c .if2 .taken))
 
-slice-aggregate-find-communities-3 : tie.Need-slice-aggregate-find-communities-3
-slice-aggregate-find-communities-3 c = search needs
+slice-aggregate-find-groups : tie.Need-slice-aggregate-find-groups
+slice-aggregate-find-groups c = search needs
 
-find-communities-requires : tie.Need-find-communities-requires
-find-communities-requires c κs = let s = c .before .before .before .before .before .before .before .before .before .before in
-    let a = accepted (s .args .image .now) (c .before .before .before .before .before .before .opened .given .0 .0) (sym (c .before .before .before .before .before .before .before .before .«open» .ensures) ∙ c .before .before .before .before .before .before .opened .given .1) in
-    (a .0, a .1, refl, refl, refl)
+slice-aggregate-find-groups-2 : tie.Need-slice-aggregate-find-groups-2
+slice-aggregate-find-groups-2 c = search needs
+
+slice-aggregate-find-groups-3 : tie.Need-slice-aggregate-find-groups-3
+slice-aggregate-find-groups-3 c = search needs
+
+find-groups-requires : tie.Need-find-groups-requires
+find-groups-requires c κs =
+    let y = c .before .before .before .before .before .before .before .before .before .survey .ensures .survey (is-yes (c .before .before .before .before .before .before .before .before .before .survey .result) (c .before .before .before .before .before .if1 .left)) in
+    (y .similar-table .size, y .core-set .size, refl)
 
 slice-aggregate-role-in : tie.Need-slice-aggregate-role-in
 slice-aggregate-role-in c = search needs
@@ -59,52 +91,61 @@ slice-aggregate-role-in c = search needs
 slice-aggregate-role-in-2 : tie.Need-slice-aggregate-role-in-2
 slice-aggregate-role-in-2 c = search needs
 
+-- the image is accepted, and v is one of its handsets
+fine : (c : tie.Else2) → Accepted (c .before .before .before .before .before .before .before .before .before .before .before .before .before .before .before .args .image .now)
+fine c = c .before .before .before .before .before .before .survey .ensures .accepted (is-yes (c .before .before .before .before .before .before .survey .result) (c .before .before .if1 .left))
+
+within : (c : tie.Else2) → c .before .before .before .before .before .before .before .before .before .before .before .before .before .before .before .args .v < handsetCount (c .before .before .before .before .before .before .before .before .before .before .before .before .before .before .before .args .image .now)
+within c =
+    let s = c .before .before .before .before .before .before .before .before .before .before .before .before .before .before .before .args in
+    below-handsets _ _ (s .v) (header-yes (s .image .now) _ (sym (c .before .before .before .before .before .before .before .before .before .before .before .before .before .open-header .ensures) ∙ c .before .before .before .before .before .before .before .before .before .before .before .header .given .1) .1) (c .if2 .left)
+
+small : (c : tie.Else2) → c .before .before .before .before .before .before .before .before .before .before .before .before .before .before .before .args .v < 512
+small c = omega (arith, within c, handsets-most (c .before .before .before .before .before .before .before .before .before .before .before .before .before .before .before .args .image .now) (fine c))
+
 role-in-requires : tie.Need-role-in-requires
-role-in-requires c κs =
-    let s = c .before .before .before .before .before .before .before .before .before .before .before .before .before .before .before .before in
-    let a = accepted (s .args .image .now) (c .before .before .before .before .before .before .before .before .before .before .before .before .opened .given .0 .0) (sym (c .before .before .before .before .before .before .before .before .before .before .before .before .before .before .«open» .ensures) ∙ c .before .before .before .before .before .before .before .before .before .before .before .before .opened .given .1) in
-    let h = below-handsets _ _ (s .args .v) (a .1) (c .before .before .before .before .before .before .before .before .before .if1 .left) in
-    (c .before .before .before .before .before .find-communities .ensures .most, omega (arith, handsets-most (s .args .image .now) (a .0)))
+role-in-requires c κs = (c .before .before .before .find-groups .ensures .most, small (c .before .before .before .before .before .before .before))
 
-slice-aggregate-row-size : tie.Need-slice-aggregate-row-size
-slice-aggregate-row-size c = search needs
+mul-t22 : tie.Need-mul-t22
+mul-t22 c = omega (arith, small (c .before .before .before .before .before .before .before .before))
 
-row-size-requires : tie.Need-row-size-requires
-row-size-requires c κs =
-    let s = c .before .before .before .before .before .before .before .before .before .before .before .before .before .before .before .before .before .before in
-    let a = accepted (s .args .image .now) (c .before .before .before .before .before .before .before .before .before .before .before .before .before .before .opened .given .0 .0) (sym (c .before .before .before .before .before .before .before .before .before .before .before .before .before .before .before .before .«open» .ensures) ∙ c .before .before .before .before .before .before .before .before .before .before .before .before .before .before .opened .given .1) in
-    let h = below-handsets _ _ (s .args .v) (a .1) (c .before .before .before .before .before .before .before .before .before .before .before .if1 .left) in
-    (omega (arith, handsets-most (s .args .image .now) (a .0)), c .before .before .before .before .before .before .before .find-communities .ensures .near-table .size)
+array-read-t36 : tie.Need-array-read-t36
+array-read-t36 c = small (c .before .before .before .before .before .before .before .before)
 
-returns-3 : tie.Need-returns-3
-returns-3 c =
-    let s = c .before .before .before .before .before .before .before .before .before .before .before .before .before .before .before .before .before .before .before in
-    let image = s .args .image .now in
-    let a = accepted (s .args .image .now) (c .before .before .before .before .before .before .before .before .before .before .before .before .before .before .before .opened .given .0 .0) (sym (c .before .before .before .before .before .before .before .before .before .before .before .before .before .before .before .before .before .«open» .ensures) ∙ c .before .before .before .before .before .before .before .before .before .before .before .before .before .before .before .opened .given .1) in
-    let h = below-handsets _ _ (s .args .v) (a .1) (c .before .before .before .before .before .before .before .before .before .before .before .before .if1 .left) in
-    let f = c .before .before .before .before .before .before .before .before .find-communities .ensures in
-    known-found image (a .0) (s .args .v) h (record { neighbours = c .row-size .result; role = c .before .before .role-in .result })
-    (c .row-size .ensures ∙ near-size (network image) (handsets-most image (a .0)) (s .args .v) (f .near-table) h)
-    (c .before .before .role-in .ensures ∙ role-found image (a .0) f (s .args .v) h)
+returns-4 : tie.Need-returns-4
+returns-4 c =
+    let s = c .before .before .before .before .before .before .before .before .before .before .before .before .before .before .before .before .before .before .before .before .before .before .before .args in
+    let e = c .before .before .before .before .before .before .before .before in
+    let y = is-yes (c .before .before .before .before .before .before .before .before .before .before .before .before .before .before .survey .result) (c .before .before .before .before .before .before .before .before .before .before .if1 .left) in
+    let v = c .before .before .before .before .before .before .before .before .before .before .before .before .before .before .survey .ensures in
+    let f = found-of (s .image .now) (fine e) (v .survey y) (c .before .before .before .before .find-groups .ensures) in
+    known-found (s .image .now) (fine e) (s .v) (within e) _ (v .survey y .near-sizes (s .v) (within e)) (c .role-in .ensures ∙ role-found (s .image .now) (fine e) f (s .v) (within e))
 
 pub role-spec : {M : Type 1} → statement M
 role-spec =
     tie.close
     (tie.spec
-    open-requires
-    enum-known-opened
+    open-header-requires
+    enum-known-header
     enum-told
     refusal-of-requires
     returns
-    cast-if1
+    slice-aggregate-survey
+    slice-aggregate-survey-2
+    slice-aggregate-survey-3
+    survey-requires
+    open-requires
+    refusal-of-requires-2
     returns-2
-    slice-aggregate-find-communities
-    slice-aggregate-find-communities-2
-    slice-aggregate-find-communities-3
-    find-communities-requires
+    cast-if2
+    returns-3
+    slice-aggregate-find-groups
+    slice-aggregate-find-groups-2
+    slice-aggregate-find-groups-3
+    find-groups-requires
     slice-aggregate-role-in
     slice-aggregate-role-in-2
     role-in-requires
-    slice-aggregate-row-size
-    row-size-requires
-    returns-3)
+    mul-t22
+    array-read-t36
+    returns-4)

@@ -1,0 +1,129 @@
+-- Tables of rows of bits, and the sizes of the rows. A bit more or less in a row is one more or less in its size, and changes no other row.
+--
+--     counted-none, counted-add     the sizes of an empty table, and with a bit more
+--     counted-out, counted-kept     with a bit less, and where there was none to take out
+--     row-some, row-most            a row with a bit has a size, and no size is above 512; counted-copy: a copy of the sizes
+--     one-is, zero-is               a bit as the test for it tells
+--     common-more, common-few       the marks that two rows have in common, counted a word at a time, and no further than there are any
+use Prim.Native.Nat.{ℕ, zero, suc, _+_, _*_, _-_, _^_, _≤_, _<_, min}
+use native.Mathlib.Omega.{arith}
+use native.Mathlib.Decide.{ℕ-discrete}
+use mathlib.Core.Path.{_≡_, refl, sym, ap, ap₂, _∙_, subst}
+use mathlib.Core.Bool.{Bool, true, false, not}
+use mathlib.Core.List.{List}
+use lib.Bits.{bitAnd, and-lt}
+use lib.Count.{ones}
+use lib.Dec.{T, eqb, eqb→eq, T-not}
+use lib.ListN.{length, getD, set, length-set, length-replicate}
+use lib.Seq.{getD-set-same, getD-set-other}
+use Rattle.sets.specs.Below.{sum}
+use Rattle.sets.specs.Bits.{bitAt, cell, withBit, withoutBit}
+use Rattle.sets.proofs.Tests.{eqb-of}
+use Rattle.sets.proofs.Counting.{sum-cong, sum-le, sum-zero, sum-const}
+use Rattle.sets.proofs.Bits.{bitOf-and, bitAt-lt, bitAt-set-same, bitAt-set-other, bitAt-clear-same, bitAt-clear-other, cell-word, sum-word, sum-split, sum-drop, bitAt-zeros, zeros}
+use Rattle.planner.specs.Held.{Counted}
+
+zeros-at : (n i : ℕ) → getD (zeros n) i 0 ≡ 0
+zeros-at zero i = refl
+zeros-at (suc n) zero = refl
+zeros-at (suc n) (suc i) = zeros-at n i
+
+pub counted-none : Counted (zeros 4096) (zeros 512)
+counted-none = record {
+  size = length-replicate {A = ℕ} 512 0;
+  rows = λ u h. zeros-at 512 u ∙ sym (sum-cong 512 (λ v. cell (zeros 4096) u v) (λ v. 0) (λ v l. bitAt-zeros 4096 (u * 512 + v)) ∙ sum-zero 512);
+}
+
+-- one row changes, and its size with it
+module _ (ws next sizes : List ℕ) (u x : ℕ) (h : u < 512) (c : Counted ws sizes)
+    (others : (a b : ℕ) → (a ≡ u → ⊥) → b < 512 → cell next a b ≡ cell ws a b) (row : x ≡ sum 512 (λ v. cell next u v)) where
+  change : Counted next (set sizes u x)
+  change = record { size = length-set sizes u x ∙ c .size; rows = λ a l. go a l (ℕ-discrete a u) }
+    where
+      go : (a : ℕ) → a < 512 → Dec (a ≡ u) → getD (set sizes u x) a 0 ≡ sum 512 (λ v. cell next a v)
+      go a l (yes e) =
+          ap (λ (k : ℕ). getD (set sizes u x) k 0) e ∙ getD-set-same sizes u x 0 (omega (arith, c .size)) ∙ row ∙ ap (λ (k : ℕ). sum 512 (λ v. cell next k v)) (sym e)
+      go a l (no d) =
+          getD-set-other sizes u a x 0 d ∙ c .rows a l ∙ sym (sum-cong 512 (λ v. cell next a v) (λ v. cell ws a v) (λ v q. others a v d q))
+
+module _ (ws sizes : List ℕ) (u v : ℕ) (hu : u < 512) (hv : v < 512) (len : length ws ≡ 4096) (c : Counted ws sizes) where
+  -- the bit at another place of the row
+  apart-in : (w : ℕ) → (w ≡ v → ⊥) → u * 512 + w ≡ u * 512 + v → ⊥
+  apart-in w d e = d (omega arith)
+
+  -- the bit in another row
+  apart-row : (a b : ℕ) → (a ≡ u → ⊥) → b < 512 → a * 512 + b ≡ u * 512 + v → ⊥
+  apart-row a b d l e = d (omega arith)
+
+  row-added : cell ws u v ≡ 0 → sum 512 (λ w. cell ws u w) + 1 ≡ sum 512 (λ w. cell (withBit ws (u * 512 + v)) u w)
+  row-added z =
+      sum-drop (λ w. cell (withBit ws (u * 512 + v)) u w) (λ w. cell ws u w) v 512 hv
+      (bitAt-set-same ws (u * 512 + v) (omega arith)) z (λ w d. sym (bitAt-set-other ws (u * 512 + v) (u * 512 + w) (apart-in w d)))
+
+  pub counted-add : cell ws u v ≡ 0 → Counted (withBit ws (u * 512 + v)) (set sizes u (getD sizes u 0 + 1))
+  counted-add z =
+      change ws (withBit ws (u * 512 + v)) sizes u (getD sizes u 0 + 1) hu c
+      (λ a b d l. bitAt-set-other ws (u * 512 + v) (a * 512 + b) (apart-row a b d l))
+      (ap (λ (k : ℕ). k + 1) (c .rows u hu) ∙ row-added z)
+
+  row-taken : cell ws u v ≡ 1 → sum 512 (λ w. cell (withoutBit ws (u * 512 + v)) u w) + 1 ≡ sum 512 (λ w. cell ws u w)
+  row-taken o =
+      sum-drop (λ w. cell ws u w) (λ w. cell (withoutBit ws (u * 512 + v)) u w) v 512 hv
+      o (bitAt-clear-same ws (u * 512 + v) (omega arith)) (λ w d. bitAt-clear-other ws (u * 512 + v) (u * 512 + w) (apart-in w d))
+
+  pub row-some : cell ws u v ≡ 1 → 1 ≤ getD sizes u 0
+  row-some o = omega (arith, row-taken o, c .rows u hu)
+
+  pub counted-out : cell ws u v ≡ 1 → Counted (withoutBit ws (u * 512 + v)) (set sizes u (getD sizes u 0 - 1))
+  counted-out o =
+      change ws (withoutBit ws (u * 512 + v)) sizes u (getD sizes u 0 - 1) hu c
+      (λ a b d l. bitAt-clear-other ws (u * 512 + v) (a * 512 + b) (apart-row a b d l))
+      (omega (arith, row-taken o, c .rows u hu))
+
+  pub counted-kept : cell ws u v ≡ 0 → Counted (withoutBit ws (u * 512 + v)) sizes
+  counted-kept z = record {
+    size = c .size;
+    rows = λ a l. c .rows a l ∙ sym (sum-cong 512 (λ w. cell (withoutBit ws (u * 512 + v)) a w) (λ w. cell ws a w) (λ w q. go a w (ℕ-discrete (a * 512 + w) (u * 512 + v))));
+  }
+    where
+      go : (a w : ℕ) → Dec (a * 512 + w ≡ u * 512 + v) → cell (withoutBit ws (u * 512 + v)) a w ≡ cell ws a w
+      go a w (yes e) = ap (bitAt (withoutBit ws (u * 512 + v))) e ∙ bitAt-clear-same ws (u * 512 + v) (omega arith) ∙ sym (ap (bitAt ws) e ∙ z)
+      go a w (no d) = bitAt-clear-other ws (u * 512 + v) (a * 512 + w) d
+
+pub row-most : {ws sizes : List ℕ} → Counted ws sizes → (u : ℕ) → u < 512 → getD sizes u 0 ≤ 512
+row-most {ws} {sizes} c u h =
+    omega (arith, c .rows u h, sum-le 512 (λ v. cell ws u v) (λ v. 1) (λ v l. omega (arith, bitAt-lt ws (u * 512 + v))), sum-const 512 1)
+
+pub counted-copy : {ws sizes copy : List ℕ} → Counted ws sizes → length copy ≡ 512 → ((u : ℕ) → u < 512 → getD copy u 0 ≡ getD sizes u 0) → Counted ws copy
+counted-copy c len e = record { size = len; rows = λ u h. e u h ∙ c .rows u h }
+
+-- a bit as the test for it tells
+pub one-is : (x : ℕ) → eqb x 1 ≡ true → x ≡ 1
+one-is x e = eqb→eq x 1 (subst (λ (b : Bool). T b) (sym e) tt)
+
+pub zero-is : (x : ℕ) → x < 2 → eqb x 1 ≡ false → x ≡ 0
+zero-is x h e = let d : x ≡ 1 → ⊥ = λ p. T-not (eqb x 1) (subst (λ (b : Bool). T (not b)) (sym e) tt) (eqb-of x 1 p) in omega (arith, d)
+
+-- ---- the marks that two rows have in common
+pub common-more : (ws : List ℕ) (u v j : ℕ) → getD ws (u * 8 + j) 0 < 2 ^ 64 → getD ws (v * 8 + j) 0 < 2 ^ 64
+    → sum ((j + 1) * 64) (λ w. min (cell ws u w) (cell ws v w)) ≡ sum (j * 64) (λ w. min (cell ws u w) (cell ws v w)) + ones (bitAnd (getD ws (u * 8 + j) 0) (getD ws (v * 8 + j) 0))
+common-more ws u v j h l =
+    sum-word (λ w. min (cell ws u w) (cell ws v w)) j (bitAnd (getD ws (u * 8 + j) 0) (getD ws (v * 8 + j) 0))
+    (and-lt 64 (getD ws (u * 8 + j) 0) (getD ws (v * 8 + j) 0) h l)
+    (λ k q. ap₂ min (cell-word ws u j k q) (cell-word ws v j k q) ∙ sym (bitOf-and (getD ws (u * 8 + j) 0) (getD ws (v * 8 + j) 0) k))
+
+-- a row without numbers from n on has nothing in common behind as many words as n needs
+pub common-few : (ws : List ℕ) (u v n words : ℕ) → n ≤ words * 64 → words ≤ 8 → ((w : ℕ) → n ≤ w → w < 512 → cell ws u w ≡ 0)
+    → sum (words * 64) (λ w. min (cell ws u w) (cell ws v w)) ≡ sum 512 (λ w. min (cell ws u w) (cell ws v w))
+common-few ws u v n words h l z =
+    let rest : words * 64 + (512 - words * 64) ≡ 512 = omega arith in
+    sym (ap (λ (k : ℕ). sum k (λ w. min (cell ws u w) (cell ws v w))) (sym rest)
+    ∙ sum-split (words * 64) (512 - words * 64) (λ w. min (cell ws u w) (cell ws v w))
+    ∙ ap (λ (x : ℕ). sum (words * 64) (λ w. min (cell ws u w) (cell ws v w)) + x)
+    (sum-cong (512 - words * 64) (λ k. min (cell ws u (words * 64 + k)) (cell ws v (words * 64 + k))) (λ k. 0)
+    (λ k q. omega (arith, z (words * 64 + k) (omega arith) (omega arith)))
+    ∙ sum-zero (512 - words * 64))
+    ∙ plus-zero (sum (words * 64) (λ w. min (cell ws u w) (cell ws v w))))
+  where
+    plus-zero : (x : ℕ) → x + 0 ≡ x
+    plus-zero x = omega arith

@@ -1,0 +1,183 @@
+-- `planner::graph::add_edges` meets its contract. After k edges, none of them at fault, the table holds them all, counted; an edge whose ends are linked
+-- already is a loop or a repeat. The measure is what is left of m.
+use Prim.Native.Nat.{ℕ, _*_, _+_, _-_, _≤_, _<_}
+use native.Mathlib.Omega.{arith}
+use mathlib.Core.Path.{_≡_, sym, ap, ap₂, _∙_, subst}
+use mathlib.Core.Bool.{Bool, true, false, not}
+use mathlib.Core.List.{List}
+use lib.Dec.{T, eqb}
+use lib.ListN.{length}
+use Rattle.sets.specs.Below.{any}
+use Rattle.sets.specs.Bits.{cell, withBit}
+use Rattle.sets.proofs.Bits.{bitAt-lt, length-withBit}
+use Rattle.image.specs.Image.{endA, endB}
+use Rattle.image.specs.Questions.{badEnd}
+use Rattle.image.proofs.Acceptance.{good-ends}
+use Rattle.image.proofs.Scanning.{scan-none, scan-more}
+use Rattle.planner.specs.Held.{Table, Counted, linked, faulty}
+use Rattle.planner.proofs.Rows.{zero-is}
+use Rattle.planner.proofs.GraphLaws.{linked-none, linked-more, table-has, second-new, fault-end, fault-linked, added-no, added-yes}
+use Rattle.planner.proofs.graph.add_edges.Statement.{statement}
+use Rattle.planner.proofs.graph.add_edges.Tie as tie
+
+abbrev Inv-loop : tie.InvT-loop
+Inv-loop edges n m table₀ sizes₀ k₀ table sizes k = (k ≤ m) × T (not (any k (faulty edges n))) × Table table (linked n edges k) × Counted table sizes
+
+abbrev μ-loop : tie.MeasureT-loop
+μ-loop edges n m table₀ sizes₀ k₀ table sizes k = m - k
+
+loop-holds : tie.Need-loop-holds Inv-loop μ-loop
+loop-holds c = let s = c .before .before .before in (omega arith, scan-none _, linked-none (s .args .n) (s .args .edges .now) (s .pre .2), s .pre .3)
+
+bad-end-requires : tie.Need-bad-end-requires Inv-loop μ-loop
+bad-end-requires c κs = tt
+
+same-length : tie.Need-same-length Inv-loop μ-loop
+same-length c = c .before .before .before .loop .inv .2 .size ∙ sym (c .before .before .before .before .before .before .before .pre .2 .size)
+
+same-length-2 : tie.Need-same-length-2 Inv-loop μ-loop
+same-length-2 c = c .before .before .before .loop .inv .3 .size ∙ sym (c .before .before .before .before .before .before .before .pre .3 .size)
+
+returns : tie.Need-returns Inv-loop μ-loop
+returns c =
+    let a = c .before .before .before .before .before .before .before .args in
+    added-no (a .edges .now) (a .n) (a .m) (c .before .before .before .loop .k) _ _ (c .before .before .loop-test .taken) (fault-end (a .edges .now) (a .n) (c .before .before .before .loop .k) (sym (c .before .bad-end .ensures) ∙ c .if1 .taken))
+
+cast-end-a : tie.Need-cast-end-a Inv-loop μ-loop
+cast-end-a c = omega arith
+
+end-a-requires : tie.Need-end-a-requires Inv-loop μ-loop
+end-a-requires c κs = omega (arith, c .before .before .before .before .before .before .before .pre .1, c .before .before .loop-test .taken)
+
+cast-end-b : tie.Need-cast-end-b Inv-loop μ-loop
+cast-end-b c = omega arith
+
+end-b-requires : tie.Need-end-b-requires Inv-loop μ-loop
+end-b-requires c κs = omega (arith, c .before .before .before .before .before .before .before .before .pre .1, c .before .before .before .loop-test .taken)
+
+-- the ends read are handsets
+ends : (c : tie.After-end-b Inv-loop μ-loop)
+    → (let n = c .before .before .before .before .before .before .before .before .before .args .n in let u = c .before .end-a .result in let v = c .end-b .result in (u < n) × (v < n) × (u < 512) × (v < 512))
+ends c =
+    let a = c .before .before .before .before .before .before .before .before .before .args in
+    let g = good-ends (a .edges .now) (a .n) (c .before .before .before .before .before .loop .k) (subst (λ (b : Bool). T (not b)) (sym (sym (c .before .before .before .bad-end .ensures) ∙ c .before .before .if1 .left)) tt) in
+    let p = c .before .end-a .ensures in
+    let q = c .end-b .ensures in
+    let n = c .before .before .before .before .before .before .before .before .before .pre .0 in
+    (omega (arith, g .0, p), omega (arith, g .1, q), omega (arith, g .0, p, n), omega (arith, g .1, q, n))
+
+mul-has : tie.Need-mul-has Inv-loop μ-loop
+mul-has c = omega (arith, ends (c .before))
+
+add-has : tie.Need-add-has Inv-loop μ-loop
+add-has c = omega (arith, ends (c .before))
+
+has-requires : tie.Need-has-requires Inv-loop μ-loop
+has-requires c κs = tt
+
+-- the bit looked at tells whether this edge is at fault
+told : (c : tie.After-has Inv-loop μ-loop) → (let a = c .before .before .before .before .before .before .before .before .before .before .before .args in faulty (a .edges .now) (a .n) (c .before .before .before .before .before .before .before .loop .k) ≡ c .has .result)
+told c =
+    let a = c .before .before .before .before .before .before .before .before .before .before .before .args in
+    let l = c .before .before .before .before .before .before .before .loop in
+    let e = ends (c .before .before) in
+    let p = c .before .before .before .end-a .ensures in
+    let q = c .before .before .end-b .ensures in
+    fault-linked (a .edges .now) (a .n) (l .k) (sym (c .before .before .before .before .before .bad-end .ensures) ∙ c .before .before .before .before .if1 .left) (omega (arith, e .0, p))
+    ∙ sym (c .has .ensures ∙ table-has (linked (a .n) (a .edges .now) (l .k)) (l .inv .2) _ _ (e .2) (e .3) ∙ ap₂ (linked (a .n) (a .edges .now) (l .k)) p q)
+
+same-length-3 : tie.Need-same-length-3 Inv-loop μ-loop
+same-length-3 c = c .before .before .before .before .before .before .before .before .loop .inv .2 .size ∙ sym (c .before .before .before .before .before .before .before .before .before .before .before .before .pre .2 .size)
+
+same-length-4 : tie.Need-same-length-4 Inv-loop μ-loop
+same-length-4 c = c .before .before .before .before .before .before .before .before .loop .inv .3 .size ∙ sym (c .before .before .before .before .before .before .before .before .before .before .before .before .pre .3 .size)
+
+returns-2 : tie.Need-returns-2 Inv-loop μ-loop
+returns-2 c =
+    let a = c .before .before .before .before .before .before .before .before .before .before .before .before .args in
+    added-no (a .edges .now) (a .n) (a .m) (c .before .before .before .before .before .before .before .before .loop .k) _ _ (c .before .before .before .before .before .before .before .loop-test .taken) (told (c .before) ∙ c .if2 .taken)
+
+add-requires : tie.Need-add-requires Inv-loop μ-loop
+add-requires c κs =
+    let e = ends (c .before .before .before .before .before) in
+    let l = c .before .before .before .before .before .before .before .before .before .before .loop in
+    (e .2, e .3, l .inv .2 .size, l .inv .3, zero-is _ (bitAt-lt (l .table) _) (sym (c .before .before .before .has .ensures) ∙ c .before .before .if2 .left))
+
+add-requires-2 : tie.Need-add-requires-2 Inv-loop μ-loop
+add-requires-2 c κs =
+    let e = ends (c .before .before .before .before .before .before .before .before .before .before .before .before) in
+    let l = c .before .before .before .before .before .before .before .before .before .before .before .before .before .before .before .before .before .loop in
+    let a = c .before .before .before .before .before .before .before .before .before .before .before .before .before .before .before .before .before .before .before .before .before .args in
+    let u = c .before .before .before .before .before .before .before .before .before .before .before .before .before .end-a .result in
+    let v = c .before .before .before .before .before .before .before .before .before .before .before .before .end-b .result in
+    let made = c .before .before .before .before .before .before .add .ensures in (
+      e .3,
+      e .2,
+      ap length (made .0) ∙ length-withBit (l .table) (u * 512 + v) ∙ l .inv .2 .size,
+      made .1,
+      rw (made .0) (second-new (a .n) (a .edges .now) (l .k) (l .inv .2) u v (e .0) (e .2) (e .3) (zero-is _ (bitAt-lt (l .table) _) (sym (c .before .before .before .before .before .before .before .before .before .before .has .ensures) ∙ c .before .before .before .before .before .before .before .before .before .if2 .left))),
+    )
+
+add-k : tie.Need-add-k Inv-loop μ-loop
+add-k c = omega (arith, c .before .before .before .before .before .before .before .before .before .before .before .before .before .before .before .before .before .before .before .before .before .before .before .before .before .before .pre .1, c .before .before .before .before .before .before .before .before .before .before .before .before .before .before .before .before .before .before .before .before .before .loop-test .taken)
+
+loop-less : tie.Need-loop-less Inv-loop μ-loop
+loop-less c = omega arith
+
+loop-again : tie.Need-loop-again Inv-loop μ-loop
+loop-again c =
+    let e = ends (c .before .before .before .before .before .before .before .before .before .before .before .before .before .before .before .before .before) in
+    let l = c .before .before .before .before .before .before .before .before .before .before .before .before .before .before .before .before .before .before .before .before .before .before .loop in
+    let a = c .before .before .before .before .before .before .before .before .before .before .before .before .before .before .before .before .before .before .before .before .before .before .before .before .before .before .args in
+    let p = c .before .before .before .before .before .before .before .before .before .before .before .before .before .before .before .before .before .before .end-a .ensures in
+    let q = c .before .before .before .before .before .before .before .before .before .before .before .before .before .before .before .before .before .end-b .ensures in (
+      omega arith,
+      scan-more _ (l .k) (l .inv .1) (told (c .before .before .before .before .before .before .before .before .before .before .before .before .before .before .before) ∙ c .before .before .before .before .before .before .before .before .before .before .before .before .before .before .if2 .left),
+      subst (λ (ws : List ℕ). Table ws (linked (a .n) (a .edges .now) (l .k + 1)))
+          (sym (c .before .before .before .before .add2 .ensures .0 ∙ ap (λ (ws : List ℕ). withBit ws (c .before .before .before .before .before .before .before .before .before .before .before .before .before .before .before .before .before .end-b .result * 512 + c .before .before .before .before .before .before .before .before .before .before .before .before .before .before .before .before .before .before .end-a .result)) (c .before .before .before .before .before .before .before .before .before .before .before .add .ensures .0) ∙ ap₂ (λ (x y : ℕ). withBit (withBit (l .table) (x * 512 + y)) (y * 512 + x)) p q))
+          (linked-more (a .n) (a .edges .now) (l .k) (omega (arith, e .2, p)) (omega (arith, e .3, q)) (l .inv .2)),
+      c .before .before .before .before .add2 .ensures .1,
+    )
+
+same-length-5 : tie.Need-same-length-5 Inv-loop μ-loop
+same-length-5 c = c .before .loop .inv .2 .size ∙ sym (c .before .before .before .before .before .pre .2 .size)
+
+same-length-6 : tie.Need-same-length-6 Inv-loop μ-loop
+same-length-6 c = c .before .loop .inv .3 .size ∙ sym (c .before .before .before .before .before .pre .3 .size)
+
+returns-3 : tie.Need-returns-3 Inv-loop μ-loop
+returns-3 c =
+    let l = c .before .loop in
+    let a = c .before .before .before .before .before .args in
+    let e : l .k ≡ a .m = omega arith in
+    added-yes (a .edges .now) (a .n) (a .m) (subst (λ (j : ℕ). T (not (any j (faulty (a .edges .now) (a .n))))) e (l .inv .1)) (subst (λ (j : ℕ). Table (l .table) (linked (a .n) (a .edges .now) j)) e (l .inv .2)) (l .inv .3)
+
+pub add-edges-spec : {M : Type 1} → statement M
+add-edges-spec =
+    tie.close
+    (tie.spec
+    Inv-loop
+    μ-loop
+    loop-holds
+    bad-end-requires
+    same-length
+    same-length-2
+    returns
+    cast-end-a
+    end-a-requires
+    cast-end-b
+    end-b-requires
+    mul-has
+    add-has
+    has-requires
+    same-length-3
+    same-length-4
+    returns-2
+    add-requires
+    add-requires-2
+    add-k
+    loop-less
+    loop-again
+    same-length-5
+    same-length-6
+    returns-3)

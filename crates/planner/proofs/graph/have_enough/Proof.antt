@@ -1,0 +1,57 @@
+-- `planner::graph::have_enough` meets its contract: the marks in common are counted, and tested against the two sizes.
+use Prim.Native.Nat.{ℕ, _*_}
+use native.Mathlib.Omega.{arith}
+use mathlib.Core.Path.{_≡_, _∙_, ap}
+use lib.Dec.{leb}
+use lib.ListN.{getD}
+use borrow.Author.Needs.{needs}
+use Rattle.planner.proofs.graph.have_enough.Statement.{statement}
+use Rattle.planner.proofs.graph.have_enough.Tie as tie
+
+common-requires : tie.Need-common-requires
+common-requires c κs = c .before .before .pre .0
+
+cast-c : tie.Need-cast-c
+cast-c c = search needs
+
+mul-meets-epsilon : tie.Need-mul-meets-epsilon
+mul-meets-epsilon c = search needs
+
+shared-slice-read-meets-epsilon : tie.Need-shared-slice-read-meets-epsilon
+shared-slice-read-meets-epsilon c = search needs
+
+cast-meets-epsilon : tie.Need-cast-meets-epsilon
+cast-meets-epsilon c = search needs
+
+mul-meets-epsilon-2 : tie.Need-mul-meets-epsilon-2
+mul-meets-epsilon-2 c = search needs
+
+shared-slice-read-meets-epsilon-2 : tie.Need-shared-slice-read-meets-epsilon-2
+shared-slice-read-meets-epsilon-2 c = search needs
+
+cast-meets-epsilon-2 : tie.Need-cast-meets-epsilon-2
+cast-meets-epsilon-2 c = search needs
+
+meets-epsilon-requires : tie.Need-meets-epsilon-requires
+meets-epsilon-requires c κs = let s = c .before .before .before .before .before in (c .before .before .common .ensures .1, s .pre .1 .1, s .pre .1 .2, s .pre .1 .3, s .pre .1 .4)
+
+returns : tie.Need-returns
+returns c =
+    let a = c .before .before .before .before .before .before .args in
+    c .meets-epsilon .ensures
+    ∙ ap (λ (x : ℕ). leb (a .p * a .p * (getD (a .sizes .now) (a .u) 0 * getD (a .sizes .now) (a .v) 0)) (x * x * (a .q * a .q))) (c .before .before .before .common .ensures .0)
+
+pub have-enough-spec : {M : Type 1} → statement M
+have-enough-spec =
+    tie.close
+    (tie.spec
+    common-requires
+    cast-c
+    mul-meets-epsilon
+    shared-slice-read-meets-epsilon
+    cast-meets-epsilon
+    mul-meets-epsilon-2
+    shared-slice-read-meets-epsilon-2
+    cast-meets-epsilon-2
+    meets-epsilon-requires
+    returns)

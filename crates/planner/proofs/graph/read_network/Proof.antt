@@ -1,0 +1,132 @@
+-- `planner::graph::read_network` meets its contract. The header has passed, so both tables lie in the image; a position or an edge at fault is a no to
+-- one of questions 7 to 10, and else all of them get a yes.
+use native.Mathlib.Omega.{arith}
+use mathlib.Core.Path.{_≡_, sym, ap, _∙_, subst}
+use mathlib.Core.Bool.{Bool, true, false, not}
+use mathlib.Core.List.{List}
+use Rattle.image.specs.Questions.{headerOf}
+use Rattle.image.proofs.Acceptance.{Checked, header-yes}
+use Rattle.planner.specs.Held.{Positions, Added}
+use Rattle.planner.proofs.GraphLaws.{Read, header-is, positions-told, edges-told, not-read, network-read}
+use borrow.Author.Needs.{needs}
+use Rattle.planner.proofs.graph.read_network.Statement.{statement}
+use Rattle.planner.proofs.graph.read_network.Tie as tie
+
+-- questions 1 to 6 got a yes
+passed : (c : tie.Start) → Checked (c .args .image .now) × (c .args .h ≡ headerOf (c .args .image .now))
+passed c = header-yes (c .args .image .now) (c .args .h) (c .pre .0)
+
+facts : (c : tie.Start) → Read (c .args .image .now) (c .args .h)
+facts c = header-is (c .args .image .now) (c .args .h) (passed c .0) (passed c .1)
+
+cast-n : tie.Need-cast-n
+cast-n c = search needs
+
+cast-m : tie.Need-cast-m
+cast-m c = search needs
+
+cast-from : tie.Need-cast-from
+cast-from c = search needs
+
+mul-to : tie.Need-mul-to
+mul-to c = search needs
+
+add-to : tie.Need-add-to
+add-to c = search needs
+
+cast-a : tie.Need-cast-a
+cast-a c = search needs
+
+mul-b : tie.Need-mul-b
+mul-b c = search needs
+
+add-b : tie.Need-add-b
+add-b c = search needs
+
+sub-read-positions : tie.Need-sub-read-positions
+sub-read-positions c = search needs
+
+part-read-positions-start : tie.Need-part-read-positions-start
+part-read-positions-start c = search needs
+
+part-read-positions-end : tie.Need-part-read-positions-end
+part-read-positions-end c = let r = facts (c .before .before .before .before .before .before .before .before .before) in omega (arith, r .length-of, r .fits .handsets-to)
+
+read-positions-requires : tie.Need-read-positions-requires
+read-positions-requires c κs = let s = c .before .before .before .before .before .before .before .before .before .before .before .before in (facts s .fits .n-limit, s .pre .1, s .pre .2)
+
+same-length : tie.Need-same-length
+same-length c = search needs
+
+same-length-2 : tie.Need-same-length-2
+same-length-2 c = search needs
+
+returns : tie.Need-returns
+returns c =
+    let s = c .before .before .before .before .before .before .before .before .before .before .before .before .before .before .before .before .before .before in
+    let r = c .before .before .before .before .before .read-positions in
+    not-read (s .args .image .now) (c .if1 .taken) (positions-told (s .args .image .now) (s .args .h) (passed s .1) (r .ensures)) _ _ _ _
+
+add-selves-requires : tie.Need-add-selves-requires
+add-selves-requires c κs = let s = c .before .before .before .before .before .before .before .before .before .before .before .before .before .before .before .before .before .before .before .before in (s .pre .3, s .pre .4, facts s .fits .n-limit)
+
+sub-add-edges : tie.Need-sub-add-edges
+sub-add-edges c = search needs
+
+part-add-edges-start : tie.Need-part-add-edges-start
+part-add-edges-start c = search needs
+
+part-add-edges-end : tie.Need-part-add-edges-end
+part-add-edges-end c = let r = facts (c .before .before .before .before .before .before .before .before .before .before .before .before .before .before .before .before .before .before .before .before .before .before .before .before .before) in omega (arith, r .length-of, r .fits .edges-to)
+
+add-edges-requires : tie.Need-add-edges-requires
+add-edges-requires c κs = let s = c .before .before .before .before .before .before .before .before .before .before .before .before .before .before .before .before .before .before .before .before .before .before .before .before .before .before .before .before in let a = c .before .before .before .before .before .before .before .add-selves .ensures in (facts s .fits .n-limit, facts s .fits .m-limit, a .0, a .1)
+
+same-length-3 : tie.Need-same-length-3
+same-length-3 c = search needs
+
+same-length-4 : tie.Need-same-length-4
+same-length-4 c = search needs
+
+same-length-5 : tie.Need-same-length-5
+same-length-5 c = search needs
+
+same-length-6 : tie.Need-same-length-6
+same-length-6 c = search needs
+
+returns-2 : tie.Need-returns-2
+returns-2 c =
+    let s = c .before .before .before .before .before .before .before .before .before .before .before .before .before .before .before .before .before .before .before .before .before .before .before .before .before .before .before .before .before .before .before .before .before in
+    let r = c .before .before .before .before .before .before .before .before .before .before .before .before .before .before .before .before .before .before .before .before .read-positions in
+    network-read (s .args .image .now) (passed s .0) (c .before .before .before .before .before .before .before .before .before .before .before .before .before .before .before .if1 .left) (positions-told (s .args .image .now) (s .args .h) (passed s .1) (r .ensures))
+    (edges-told (s .args .image .now) (s .args .h) (passed s .1) (c .before .before .before .before .add-edges .ensures))
+
+pub read-network-spec : {M : Type 1} → statement M
+read-network-spec =
+    tie.close
+    (tie.spec
+    cast-n
+    cast-m
+    cast-from
+    mul-to
+    add-to
+    cast-a
+    mul-b
+    add-b
+    sub-read-positions
+    part-read-positions-start
+    part-read-positions-end
+    read-positions-requires
+    same-length
+    same-length-2
+    returns
+    add-selves-requires
+    sub-add-edges
+    part-add-edges-start
+    part-add-edges-end
+    add-edges-requires
+    same-length-3
+    same-length-4
+    same-length-5
+    same-length-6
+    returns-2)
