@@ -198,7 +198,7 @@ pub fn out_of_limits(part: &[u8], v: u16) -> bool
 }
 
 // Whether edge k has an end that is no handset.
-pub fn bad_end(part: &[u8], n: u16, k: u16) -> bool
+fn bad_end(part: &[u8], n: u16, k: u16) -> bool
     ensures { λ r. ⌜ r ≡ badEnd (now (part .entry)) n k ⌝ }
 {
     let at = 4 * (k as usize);

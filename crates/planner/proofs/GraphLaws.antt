@@ -19,7 +19,8 @@ use mathlib.Core.Logic.{_⊎_, inl, inr, ⊎-elim}
 use mathlib.Core.Bool.{Bool, true, false, _&&_, _||_, not, and-true, and-assoc, or-false}
 use mathlib.Core.List.{List}
 use lib.Dec.{T, leb, ltb, eqb, ltb→lt, lt→ltb, eqb→eq, eqb-refl, T-not, not-T}
-use lib.ListN.{length, getD, take, drop, length-replicate}
+use lib.ListN.{length, getD, take, drop, length-drop, length-replicate}
+use lib.Seq.{length-take-le}
 use Rattle.sets.specs.Below.{any, bit, count, sum}
 use Rattle.sets.specs.Bits.{bitAt, cell, withBit, withoutBit}
 use Rattle.sets.proofs.Tests.{and-make, and-left, and-right, or-left, or-right, or-cases, decide, T-true, T-false, T-ext, any-make, any-take, any-cong, any-none, none-any, not-any, eqb-of, eqb-not, eqb-comm}
@@ -196,6 +197,10 @@ second-new n edges k {ws} t u v h hu hv z =
 
 -- what an edge's fault is
 module _ (edges : List ℕ) (n k : ℕ) where
+  pub end-told : (u v : ℕ) (x : Bool) → u ≡ endA edges k → v ≡ endB edges k → not (ltb u n && ltb v n) ≡ x → badEnd edges n k ≡ x
+  unfolding badEnd
+  end-told u v x p q e = ap₂ (λ (a b : ℕ). not (ltb a n && ltb b n)) (sym p) (sym q) ∙ e
+
   pub fault-end : badEnd edges n k ≡ true → faulty edges n k ≡ true
   unfolding faulty
   fault-end e = ap (λ (b : Bool). b || (isLoop edges k || repeatsEarlier edges k)) e
@@ -454,6 +459,12 @@ module _ (s : List ℕ) (h : Header) (e : h ≡ headerOf s) where
   handsetPart-is =
       ap (λ (j : ℕ). take j (drop (h .handsets) s)) (add-sub-cancel-left (h .handsets) (8 * h .n)) ∙ ap (λ (x : Header). take (8 * x .n) (drop (x .handsets) s)) e
 
+-- all of the part is there
+pub edgePart-length : (s : List ℕ) (h : Header) → Read s h → length (edgePart s h) ≡ 4 * h .m
+edgePart-length s h r =
+    let rest : length (drop (h .edges) s) ≡ length s - h .edges = length-drop (h .edges) s in
+    length-take-le (h .edges + 4 * h .m - h .edges) (drop (h .edges) s) (omega (arith, rest, r .length-of, r .fits .edges-to)) ∙ add-sub-cancel-left (h .edges) (4 * h .m)
+
 -- ---- the image is accepted exactly when no position and no edge is at fault
 module _ (s : List ℕ) where
   faults : (k : ℕ) → T (not (faulty (edgeRecords s) (handsetCount s) k))
@@ -704,15 +715,15 @@ module _ (s : List ℕ) (h : Header) (ok : Accepted s) (e : h ≡ headerOf s) wh
       subst (λ (part : List ℕ). (endA part k < handsetCount s) × (endB part k < handsetCount s)) (sym (edgePart-is s h e)) (ends-below s ok k (omega (arith, l, read .m-is)))
 
   -- and below 512
-  pub ends-small : (k : ℕ) → k < h .m → (k < 4096) × (endA (edgePart s h) k < 512) × (endB (edgePart s h) k < 512)
+  pub ends-small : (k : ℕ) → k < h .m → (k < 4096) × (4 * k + 4 ≤ length (edgePart s h)) × (endA (edgePart s h) k < 512) × (endB (edgePart s h) k < 512)
   ends-small k l =
       let b = part-ends k l in
       let r = read in
-      (omega (arith, l, r .fits .m-limit), omega (arith, b .0, r .n-is, r .fits .n-limit), omega (arith, b .1, r .n-is, r .fits .n-limit))
+      (omega (arith, l, r .fits .m-limit), omega (arith, l, edgePart-length s h r), omega (arith, b .0, r .n-is, r .fits .n-limit), omega (arith, b .1, r .n-is, r .fits .n-limit))
 
   -- the edges of a list that is picked from all
   pub list-small : {list : List ℕ} {c : ℕ} {test : ℕ → Bool} → Picks list c (λ k. k) (h .m) test
-      → (i : ℕ) → i < c → (getD list i 0 < 4096) × (endA (edgePart s h) (getD list i 0) < 512) × (endB (edgePart s h) (getD list i 0) < 512)
+      → (i : ℕ) → i < c → (getD list i 0 < 4096) × (4 * getD list i 0 + 4 ≤ length (edgePart s h)) × (endA (edgePart s h) (getD list i 0) < 512) × (endB (edgePart s h) (getD list i 0) < 512)
   list-small {list} p i l = ends-small (getD list i 0) (picks-below (h .m) (λ k q. q) p i l)
 
   module _ (xs ys : List ℕ) (at : (v : ℕ) → v < h .n → (getD xs v 0 ≡ xAt (handsetRecords s) v) × (getD ys v 0 ≡ yAt (handsetRecords s) v)) where
@@ -725,8 +736,8 @@ module _ (s : List ℕ) (h : Header) (ok : Accepted s) (e : h ≡ headerOf s) wh
         let small = ends-small k l in
         let p = at (endA (edgePart s h) k) (omega (arith, b .0, read .n-is)) in
         let q = at (endB (edgePart s h) k) (omega (arith, b .1, read .n-is)) in (
-          small .1,
           small .2,
+          small .3,
           omega (arith, p .0, q .0, x-limits s ok (endA (edgePart s h) k) (b .0), x-limits s ok (endB (edgePart s h) k) (b .1)),
           omega (arith, p .1, q .1, y-limits s ok (endA (edgePart s h) k) (b .0), y-limits s ok (endB (edgePart s h) k) (b .1)),
         )
@@ -769,7 +780,7 @@ module _ (s : List ℕ) (h : Header) (ok : Accepted s) (e : h ≡ headerOf s) wh
     small : network s .n ≤ 512
     small = omega (arith, read .n-is, read .fits .n-limit)
 
-    pub listed-small : (i : ℕ) → i < c → (getD near i 0 < 4096) × (endA (edgePart s h) (getD near i 0) < 512) × (endB (edgePart s h) (getD near i 0) < 512)
+    pub listed-small : (i : ℕ) → i < c → (getD near i 0 < 4096) × (4 * getD near i 0 + 4 ≤ length (edgePart s h)) × (endA (edgePart s h) (getD near i 0) < 512) × (endB (edgePart s h) (getD near i 0) < 512)
     listed-small = list-small (subst (λ (m : ℕ). Picks near c (λ k. k) m (λ k. within s (endA (edgeRecords s) k) (endB (edgeRecords s) k))) (sym (read .m-is)) (kept .listed))
 
     pub rows-end : (u w : ℕ) → u < 512 → h .n ≤ w → w < 512 → cell ws u w ≡ 0
@@ -794,7 +805,7 @@ module _ (s : List ℕ) (h : Header) (ok : Accepted s) (e : h ≡ headerOf s) wh
           (picks-cong (λ k. not (enough ws sizes (h .p) (h .q) (endA (edgePart s h) k) (endB (edgePart s h) k))) (λ k. not (meets (network s) (endA (edgeRecords s) k) (endB (edgeRecords s) k))) unlike-test picked)
           (kept .listed)
 
-      pub unlike-small : (i : ℕ) → i < r → (getD unlike i 0 < 4096) × (endA (edgePart s h) (getD unlike i 0) < 512) × (endB (edgePart s h) (getD unlike i 0) < 512)
+      pub unlike-small : (i : ℕ) → i < r → (getD unlike i 0 < 4096) × (4 * getD unlike i 0 + 4 ≤ length (edgePart s h)) × (endA (edgePart s h) (getD unlike i 0) < 512) × (endB (edgePart s h) (getD unlike i 0) < 512)
       unlike-small =
           list-small (subst (λ (m : ℕ). Picks unlike r (λ k. k) m (λ k. within s (endA (edgeRecords s) k) (endB (edgeRecords s) k) && not (meets (network s) (endA (edgeRecords s) k) (endB (edgeRecords s) k)))) (sym (read .m-is)) picked-all)
 

@@ -17,20 +17,20 @@ ghost use Rattle.planner.specs.Held.{SetOf, Table, Counted, linked, Adde
 use image::Header;
 use image::Opened;
 
-// The first end of edge k.
+// The first end of edge k. The record is known to be there, so it is read without the reader's test for that.
 fn end_a(edges: &[u8], k: usize) -> usize
-    requires { ⌜ k < 4096 ⌝ }
+    requires { ⌜ (k < 4096) × (4 * k + 4 ≤ length (now edges)) ⌝ }
     ensures { λ r. ⌜ r ≡ endA (now (edges .entry)) k ⌝ }
 {
-    image::read2(edges, 4 * k) as usize
+    (edges[4 * k] as usize) + 256 * (edges[4 * k + 1] as usize)
 }
 
 // The second end of edge k.
 fn end_b(edges: &[u8], k: usize) -> usize
-    requires { ⌜ k < 4096 ⌝ }
+    requires { ⌜ (k < 4096) × (4 * k + 4 ≤ length (now edges)) ⌝ }
     ensures { λ r. ⌜ r ≡ endB (now (edges .entry)) k ⌝ }
 {
-    image::read2(edges, 4 * k + 2) as usize
+    (edges[4 * k + 2] as usize) + 256 * (edges[4 * k + 3] as usize)
 }
 
 // Adds v to row u, which does not have it.
@@ -71,17 +71,17 @@ fn add_selves(table: &mut [u64], sizes: &mut [u32], n: usize)
 
 // Adds the ends of each edge to each other's rows. Stops with a no at an edge that has an end that is no handset, that goes from a handset to itself,
 // or that joins what an earlier one joins: the row has that end already.
-fn add_edges(edges: &[u8], n: u16, m: u16, table: &mut [u64], sizes: &mut [u32]) -> bool
-    requires { ⌜ (n ≤ 512) × (m ≤ 4096) × (Table (now table) (λ u v. ltb u n && eqb u v)) × (Counted (now table) (now sizes)) ⌝ }
+fn add_edges(edges: &[u8], n: usize, m: usize, table: &mut [u64], sizes: &mut [u32]) -> bool
+    requires { ⌜ (n ≤ 512) × (m ≤ 4096) × (Table (now table) (λ u v. ltb u n && eqb u v)) × (Counted (now table) (now sizes)) × (4 * m ≤ length (now edges)) ⌝ }
     ensures { λ r. ⌜ Added (now (edges .entry)) n m r (now (table .exit)) (now (sizes .exit)) ⌝ }
 {
-    let mut k: u16 = 0;
+    let mut k: usize = 0;
     while k < m {
-        if image::bad_end(edges, n, k) {
+        let u = end_a(edges, k);
+        let v = end_b(edges, k);
+        if !((u < n) & (v < n)) {
             return false;
         }
-        let u = end_a(edges, k as usize);
-        let v = end_b(edges, k as usize);
         if sets::has(table, u * 512 + v) {
             return false;
         }
@@ -136,7 +136,7 @@ fn list_by_length<'a>(
     near: &mut [u16],
     far: &mut [u16],
 ) -> usize
-    requires { ⌜ (m ≤ 4096) × (length (now near) ≡ 4096) × (length (now far) ≡ 4096) × (length (now xs) ≡ 512) × (length (now ys) ≡ 512) ⌝ }
+    requires { ⌜ (m ≤ 4096) × (length (now near) ≡ 4096) × (length (now far) ≡ 4096) × (length (now xs) ≡ 512) × (length (now ys) ≡ 512) × (4 * m ≤ length (now edges)) ⌝ }
     requires { ⌜ ((k : ℕ) → k < m → (endA (now edges) k < 512) × (endB (now edges) k < 512) × (gap (getD (now xs) (endA (now edges) k) 0) (getD (now xs) (endB (now edges) k) 0) ≤ 2000000) × (gap (getD (now ys) (endA (now edges) k) 0) (getD (now ys) (endB (now edges) k) 0) ≤ 2000000)) ⌝ }
     ensures most { λ r. ⌜ r ≤ m ⌝ }
     ensures near { λ r. ⌜ Picks (now (near .exit)) r (λ k. k) m (λ k. leb (apart (now (xs .entry)) (now (ys .entry)) (endA (now (edges .entry)) k) (endB (now (edges .entry)) k)) limit) ⌝ }
@@ -164,7 +164,7 @@ fn drop_edges<'a>(
     table: &mut [u64],
     sizes: &mut [u32],
 )
-    requires { ⌜ (count ≤ 4096) × (length (now list) ≡ 4096) × (length (now table) ≡ 4096) × (Counted (now table) (now sizes)) × ((i : ℕ) → i < count → (getD (now list) i 0 < 4096) × (endA (now edges) (getD (now list) i 0) < 512) × (endB (now edges) (getD (now list) i 0) < 512)) ⌝ }
+    requires { ⌜ (count ≤ 4096) × (length (now list) ≡ 4096) × (length (now table) ≡ 4096) × (Counted (now table) (now sizes)) × ((i : ℕ) → i < count → (getD (now list) i 0 < 4096) × (4 * getD (now list) i 0 + 4 ≤ length (now edges)) × (endA (now edges) (getD (now list) i 0) < 512) × (endB (now edges) (getD (now list) i 0) < 512)) ⌝ }
     ensures dropped { λ _. ⌜ Dropped (now (edges .entry)) (now (list .entry)) count (now (table .entry)) (now (table .exit)) ⌝ }
     ensures counted { λ _. ⌜ Counted (now (table .exit)) (now (sizes .exit)) ⌝ }
 {
@@ -248,7 +248,7 @@ fn list_unlike<'a>(
     unlike: &mut [u16],
 ) -> usize
     requires { ⌜ (count ≤ 4096) × (length (now list) ≡ 4096) × (length (now unlike) ≡ 4096) × (length (now table) ≡ 4096) × (h .n ≤ 512) × (h .p ≤ 1000) × (h .q ≤ 1000) ⌝ }
-    requires { ⌜ ((i : ℕ) → i < count → (getD (now list) i 0 < 4096) × (endA (now edges) (getD (now list) i 0) < 512) × (endB (now edges) (getD (now list) i 0) < 512)) ⌝ }
+    requires { ⌜ ((i : ℕ) → i < count → (getD (now list) i 0 < 4096) × (4 * getD (now list) i 0 + 4 ≤ length (now edges)) × (endA (now edges) (getD (now list) i 0) < 512) × (endB (now edges) (getD (now list) i 0) < 512)) ⌝ }
     requires { ⌜ (length (now sizes) ≡ 512) × ((u : ℕ) → u < 512 → getD (now sizes) u 0 ≤ 512) × ((u w : ℕ) → u < 512 → h .n ≤ w → w < 512 → cell (now table) u w ≡ 0) ⌝ }
     ensures most { λ r. ⌜ r ≤ count ⌝ }
     ensures listed { λ r. ⌜ Picks (now (unlike .exit)) r (λ i. getD (now (list .entry)) i 0) count (λ k. not (enough (now (table .entry)) (now (sizes .entry)) (h .p) (h .q) (endA (now (edges .entry)) k) (endB (now (edges .entry)) k))) ⌝ }
@@ -317,7 +317,7 @@ fn read_network(
         return false;
     }
     add_selves(table, sizes, n);
-    add_edges(&image[a..b], h.n, h.m, table, sizes)
+    add_edges(&image[a..b], n, m, table, sizes)
 }
 
 // Drops the edges that are too long from the table of all edges of an accepted site, which leaves its neighbour relation. Lists the others, and gives

@@ -5,18 +5,17 @@ use native.Mathlib.Omega.{arith}
 use mathlib.Core.Path.{_≡_, sym, ap, ap₂, _∙_, subst}
 use mathlib.Core.Bool.{Bool, true, false, not}
 use mathlib.Core.List.{List}
-use lib.Dec.{T, eqb}
+use lib.Dec.{T}
 use lib.ListN.{length}
 use Rattle.sets.specs.Below.{any}
-use Rattle.sets.specs.Bits.{cell, withBit}
+use Rattle.sets.specs.Bits.{withBit}
 use Rattle.sets.proofs.Bits.{bitAt-lt, length-withBit}
-use Rattle.image.specs.Image.{endA, endB}
 use Rattle.image.specs.Questions.{badEnd}
 use Rattle.image.proofs.Acceptance.{good-ends}
 use Rattle.image.proofs.Scanning.{scan-none, scan-more}
 use Rattle.planner.specs.Held.{Table, Counted, linked, faulty}
 use Rattle.planner.proofs.Rows.{zero-is}
-use Rattle.planner.proofs.GraphLaws.{linked-none, linked-more, table-has, second-new, fault-end, fault-linked, added-no, added-yes}
+use Rattle.planner.proofs.GraphLaws.{linked-none, linked-more, table-has, second-new, end-told, fault-end, fault-linked, added-no, added-yes}
 use Rattle.planner.proofs.graph.add_edges.Statement.{statement}
 use Rattle.planner.proofs.graph.add_edges.Tie as tie
 
@@ -29,41 +28,39 @@ abbrev μ-loop : tie.MeasureT-loop
 loop-holds : tie.Need-loop-holds Inv-loop μ-loop
 loop-holds c = let s = c .before .before .before in (omega arith, scan-none _, linked-none (s .args .n) (s .args .edges .now) (s .pre .2), s .pre .3)
 
-bad-end-requires : tie.Need-bad-end-requires Inv-loop μ-loop
-bad-end-requires c κs = tt
+end-a-requires : tie.Need-end-a-requires Inv-loop μ-loop
+end-a-requires c κs = let s = c .before .before .before .before .before in (omega (arith, s .pre .1, c .loop-test .taken), omega (arith, s .pre .4, c .loop-test .taken))
+
+end-b-requires : tie.Need-end-b-requires Inv-loop μ-loop
+end-b-requires c κs = let s = c .before .before .before .before .before .before in (omega (arith, s .pre .1, c .before .loop-test .taken), omega (arith, s .pre .4, c .before .loop-test .taken))
 
 same-length : tie.Need-same-length Inv-loop μ-loop
-same-length c = c .before .before .before .loop .inv .2 .size ∙ sym (c .before .before .before .before .before .before .before .pre .2 .size)
+same-length c = c .before .before .before .before .loop .inv .2 .size ∙ sym (c .before .before .before .before .before .before .before .before .pre .2 .size)
 
 same-length-2 : tie.Need-same-length-2 Inv-loop μ-loop
-same-length-2 c = c .before .before .before .loop .inv .3 .size ∙ sym (c .before .before .before .before .before .before .before .pre .3 .size)
+same-length-2 c = c .before .before .before .before .loop .inv .3 .size ∙ sym (c .before .before .before .before .before .before .before .before .pre .3 .size)
 
 returns : tie.Need-returns Inv-loop μ-loop
 returns c =
-    let a = c .before .before .before .before .before .before .before .args in
-    added-no (a .edges .now) (a .n) (a .m) (c .before .before .before .loop .k) _ _ (c .before .before .loop-test .taken) (fault-end (a .edges .now) (a .n) (c .before .before .before .loop .k) (sym (c .before .bad-end .ensures) ∙ c .if1 .taken))
+    let a = c .before .before .before .before .before .before .before .before .args in
+    let k = c .before .before .before .before .loop .k in
+    added-no (a .edges .now) (a .n) (a .m) k _ _ (c .before .before .before .loop-test .taken)
+    (fault-end (a .edges .now) (a .n) k (end-told (a .edges .now) (a .n) k (c .before .before .end-a .result) (c .before .end-b .result) true (c .before .before .end-a .ensures) (c .before .end-b .ensures) (c .if1 .taken)))
 
-cast-end-a : tie.Need-cast-end-a Inv-loop μ-loop
-cast-end-a c = omega arith
+-- both ends are handsets
+good : (c : tie.Else1 Inv-loop μ-loop) → badEnd (c .before .before .before .before .before .before .before .before .args .edges .now) (c .before .before .before .before .before .before .before .before .args .n) (c .before .before .before .before .loop .k) ≡ false
+good c =
+    let a = c .before .before .before .before .before .before .before .before .args in
+    end-told (a .edges .now) (a .n) (c .before .before .before .before .loop .k) (c .before .before .end-a .result) (c .before .end-b .result) false (c .before .before .end-a .ensures) (c .before .end-b .ensures) (c .if1 .left)
 
-end-a-requires : tie.Need-end-a-requires Inv-loop μ-loop
-end-a-requires c κs = omega (arith, c .before .before .before .before .before .before .before .pre .1, c .before .before .loop-test .taken)
-
-cast-end-b : tie.Need-cast-end-b Inv-loop μ-loop
-cast-end-b c = omega arith
-
-end-b-requires : tie.Need-end-b-requires Inv-loop μ-loop
-end-b-requires c κs = omega (arith, c .before .before .before .before .before .before .before .before .pre .1, c .before .before .before .loop-test .taken)
-
--- the ends read are handsets
-ends : (c : tie.After-end-b Inv-loop μ-loop)
-    → (let n = c .before .before .before .before .before .before .before .before .before .args .n in let u = c .before .end-a .result in let v = c .end-b .result in (u < n) × (v < n) × (u < 512) × (v < 512))
+ends : (c : tie.Else1 Inv-loop μ-loop)
+    → (let n = c .before .before .before .before .before .before .before .before .args .n in let u = c .before .before .end-a .result in let v = c .before .end-b .result in (u < n) × (v < n) × (u < 512) × (v < 512))
 ends c =
-    let a = c .before .before .before .before .before .before .before .before .before .args in
-    let g = good-ends (a .edges .now) (a .n) (c .before .before .before .before .before .loop .k) (subst (λ (b : Bool). T (not b)) (sym (sym (c .before .before .before .bad-end .ensures) ∙ c .before .before .if1 .left)) tt) in
-    let p = c .before .end-a .ensures in
-    let q = c .end-b .ensures in
-    let n = c .before .before .before .before .before .before .before .before .before .pre .0 in
+    let a = c .before .before .before .before .before .before .before .before .args in
+    let g = good-ends (a .edges .now) (a .n) (c .before .before .before .before .loop .k) (subst (λ (b : Bool). T (not b)) (sym (good c)) tt) in
+    let p = c .before .before .end-a .ensures in
+    let q = c .before .end-b .ensures in
+    let n = c .before .before .before .before .before .before .before .before .pre .0 in
     (omega (arith, g .0, p), omega (arith, g .1, q), omega (arith, g .0, p, n), omega (arith, g .1, q, n))
 
 mul-has : tie.Need-mul-has Inv-loop μ-loop
@@ -76,40 +73,40 @@ has-requires : tie.Need-has-requires Inv-loop μ-loop
 has-requires c κs = tt
 
 -- the bit looked at tells whether this edge is at fault
-told : (c : tie.After-has Inv-loop μ-loop) → (let a = c .before .before .before .before .before .before .before .before .before .before .before .args in faulty (a .edges .now) (a .n) (c .before .before .before .before .before .before .before .loop .k) ≡ c .has .result)
+told : (c : tie.After-has Inv-loop μ-loop) → (let a = c .before .before .before .before .before .before .before .before .before .before .args in faulty (a .edges .now) (a .n) (c .before .before .before .before .before .before .loop .k) ≡ c .has .result)
 told c =
-    let a = c .before .before .before .before .before .before .before .before .before .before .before .args in
-    let l = c .before .before .before .before .before .before .before .loop in
+    let a = c .before .before .before .before .before .before .before .before .before .before .args in
+    let l = c .before .before .before .before .before .before .loop in
     let e = ends (c .before .before) in
-    let p = c .before .before .before .end-a .ensures in
-    let q = c .before .before .end-b .ensures in
-    fault-linked (a .edges .now) (a .n) (l .k) (sym (c .before .before .before .before .before .bad-end .ensures) ∙ c .before .before .before .before .if1 .left) (omega (arith, e .0, p))
+    let p = c .before .before .before .before .end-a .ensures in
+    let q = c .before .before .before .end-b .ensures in
+    fault-linked (a .edges .now) (a .n) (l .k) (good (c .before .before)) (omega (arith, e .0, p))
     ∙ sym (c .has .ensures ∙ table-has (linked (a .n) (a .edges .now) (l .k)) (l .inv .2) _ _ (e .2) (e .3) ∙ ap₂ (linked (a .n) (a .edges .now) (l .k)) p q)
 
 same-length-3 : tie.Need-same-length-3 Inv-loop μ-loop
-same-length-3 c = c .before .before .before .before .before .before .before .before .loop .inv .2 .size ∙ sym (c .before .before .before .before .before .before .before .before .before .before .before .before .pre .2 .size)
+same-length-3 c = c .before .before .before .before .before .before .before .loop .inv .2 .size ∙ sym (c .before .before .before .before .before .before .before .before .before .before .before .pre .2 .size)
 
 same-length-4 : tie.Need-same-length-4 Inv-loop μ-loop
-same-length-4 c = c .before .before .before .before .before .before .before .before .loop .inv .3 .size ∙ sym (c .before .before .before .before .before .before .before .before .before .before .before .before .pre .3 .size)
+same-length-4 c = c .before .before .before .before .before .before .before .loop .inv .3 .size ∙ sym (c .before .before .before .before .before .before .before .before .before .before .before .pre .3 .size)
 
 returns-2 : tie.Need-returns-2 Inv-loop μ-loop
 returns-2 c =
-    let a = c .before .before .before .before .before .before .before .before .before .before .before .before .args in
-    added-no (a .edges .now) (a .n) (a .m) (c .before .before .before .before .before .before .before .before .loop .k) _ _ (c .before .before .before .before .before .before .before .loop-test .taken) (told (c .before) ∙ c .if2 .taken)
+    let a = c .before .before .before .before .before .before .before .before .before .before .before .args in
+    added-no (a .edges .now) (a .n) (a .m) (c .before .before .before .before .before .before .before .loop .k) _ _ (c .before .before .before .before .before .before .loop-test .taken) (told (c .before) ∙ c .if2 .taken)
 
 add-requires : tie.Need-add-requires Inv-loop μ-loop
 add-requires c κs =
     let e = ends (c .before .before .before .before .before) in
-    let l = c .before .before .before .before .before .before .before .before .before .before .loop in
+    let l = c .before .before .before .before .before .before .before .before .before .loop in
     (e .2, e .3, l .inv .2 .size, l .inv .3, zero-is _ (bitAt-lt (l .table) _) (sym (c .before .before .before .has .ensures) ∙ c .before .before .if2 .left))
 
 add-requires-2 : tie.Need-add-requires-2 Inv-loop μ-loop
 add-requires-2 c κs =
     let e = ends (c .before .before .before .before .before .before .before .before .before .before .before .before) in
-    let l = c .before .before .before .before .before .before .before .before .before .before .before .before .before .before .before .before .before .loop in
-    let a = c .before .before .before .before .before .before .before .before .before .before .before .before .before .before .before .before .before .before .before .before .before .args in
-    let u = c .before .before .before .before .before .before .before .before .before .before .before .before .before .end-a .result in
-    let v = c .before .before .before .before .before .before .before .before .before .before .before .before .end-b .result in
+    let l = c .before .before .before .before .before .before .before .before .before .before .before .before .before .before .before .before .loop in
+    let a = c .before .before .before .before .before .before .before .before .before .before .before .before .before .before .before .before .before .before .before .before .args in
+    let u = c .before .before .before .before .before .before .before .before .before .before .before .before .before .before .end-a .result in
+    let v = c .before .before .before .before .before .before .before .before .before .before .before .before .before .end-b .result in
     let made = c .before .before .before .before .before .before .add .ensures in (
       e .3,
       e .2,
@@ -119,7 +116,7 @@ add-requires-2 c κs =
     )
 
 add-k : tie.Need-add-k Inv-loop μ-loop
-add-k c = omega (arith, c .before .before .before .before .before .before .before .before .before .before .before .before .before .before .before .before .before .before .before .before .before .before .before .before .before .before .pre .1, c .before .before .before .before .before .before .before .before .before .before .before .before .before .before .before .before .before .before .before .before .before .loop-test .taken)
+add-k c = omega (arith, c .before .before .before .before .before .before .before .before .before .before .before .before .before .before .before .before .before .before .before .before .before .before .before .before .before .pre .1, c .before .before .before .before .before .before .before .before .before .before .before .before .before .before .before .before .before .before .before .before .loop-test .taken)
 
 loop-less : tie.Need-loop-less Inv-loop μ-loop
 loop-less c = omega arith
@@ -127,14 +124,14 @@ loop-less c = omega arith
 loop-again : tie.Need-loop-again Inv-loop μ-loop
 loop-again c =
     let e = ends (c .before .before .before .before .before .before .before .before .before .before .before .before .before .before .before .before .before) in
-    let l = c .before .before .before .before .before .before .before .before .before .before .before .before .before .before .before .before .before .before .before .before .before .before .loop in
-    let a = c .before .before .before .before .before .before .before .before .before .before .before .before .before .before .before .before .before .before .before .before .before .before .before .before .before .before .args in
-    let p = c .before .before .before .before .before .before .before .before .before .before .before .before .before .before .before .before .before .before .end-a .ensures in
-    let q = c .before .before .before .before .before .before .before .before .before .before .before .before .before .before .before .before .before .end-b .ensures in (
+    let l = c .before .before .before .before .before .before .before .before .before .before .before .before .before .before .before .before .before .before .before .before .before .loop in
+    let a = c .before .before .before .before .before .before .before .before .before .before .before .before .before .before .before .before .before .before .before .before .before .before .before .before .before .args in
+    let p = c .before .before .before .before .before .before .before .before .before .before .before .before .before .before .before .before .before .before .before .end-a .ensures in
+    let q = c .before .before .before .before .before .before .before .before .before .before .before .before .before .before .before .before .before .before .end-b .ensures in (
       omega arith,
       scan-more _ (l .k) (l .inv .1) (told (c .before .before .before .before .before .before .before .before .before .before .before .before .before .before .before) ∙ c .before .before .before .before .before .before .before .before .before .before .before .before .before .before .if2 .left),
       subst (λ (ws : List ℕ). Table ws (linked (a .n) (a .edges .now) (l .k + 1)))
-          (sym (c .before .before .before .before .add2 .ensures .0 ∙ ap (λ (ws : List ℕ). withBit ws (c .before .before .before .before .before .before .before .before .before .before .before .before .before .before .before .before .before .end-b .result * 512 + c .before .before .before .before .before .before .before .before .before .before .before .before .before .before .before .before .before .before .end-a .result)) (c .before .before .before .before .before .before .before .before .before .before .before .add .ensures .0) ∙ ap₂ (λ (x y : ℕ). withBit (withBit (l .table) (x * 512 + y)) (y * 512 + x)) p q))
+          (sym (c .before .before .before .before .add2 .ensures .0 ∙ ap (λ (ws : List ℕ). withBit ws (c .before .before .before .before .before .before .before .before .before .before .before .before .before .before .before .before .before .before .end-b .result * 512 + c .before .before .before .before .before .before .before .before .before .before .before .before .before .before .before .before .before .before .before .end-a .result)) (c .before .before .before .before .before .before .before .before .before .before .before .add .ensures .0) ∙ ap₂ (λ (x y : ℕ). withBit (withBit (l .table) (x * 512 + y)) (y * 512 + x)) p q))
           (linked-more (a .n) (a .edges .now) (l .k) (omega (arith, e .2, p)) (omega (arith, e .3, q)) (l .inv .2)),
       c .before .before .before .before .add2 .ensures .1,
     )
@@ -159,14 +156,11 @@ add-edges-spec =
     Inv-loop
     μ-loop
     loop-holds
-    bad-end-requires
+    end-a-requires
+    end-b-requires
     same-length
     same-length-2
     returns
-    cast-end-a
-    end-a-requires
-    cast-end-b
-    end-b-requires
     mul-has
     add-has
     has-requires

@@ -32,16 +32,16 @@ cast-k : tie.Need-cast-k Inv-loop μ-loop
 cast-k c = omega (arith, c .before .before .before .before .before .before .before .pre .4 (c .before .before .loop .i) (c .before .loop-test .taken) .0)
 
 end-a-requires : tie.Need-end-a-requires Inv-loop μ-loop
-end-a-requires c κs = c .before .before .before .before .before .before .before .pre .4 (c .before .before .loop .i) (c .before .loop-test .taken) .0
+end-a-requires c κs = let b = c .before .before .before .before .before .before .before .pre .4 (c .before .before .loop .i) (c .before .loop-test .taken) in (b .0, b .1)
 
 end-b-requires : tie.Need-end-b-requires Inv-loop μ-loop
-end-b-requires c κs = c .before .before .before .before .before .before .before .before .pre .4 (c .before .before .before .loop .i) (c .before .before .loop-test .taken) .0
+end-b-requires c κs = let b = c .before .before .before .before .before .before .before .before .pre .4 (c .before .before .before .loop .i) (c .before .before .loop-test .taken) in (b .0, b .1)
 
 -- the ends read are below 512
 ends : (c : tie.After-end-b Inv-loop μ-loop) → (c .before .end-a .result < 512) × (c .end-b .result < 512)
 ends c =
     let b = c .before .before .before .before .before .before .before .before .before .pre .4 (c .before .before .before .before .loop .i) (c .before .before .before .loop-test .taken) in
-    (omega (arith, c .before .end-a .ensures, b .1), omega (arith, c .end-b .ensures, b .2))
+    (omega (arith, c .before .end-a .ensures, b .2), omega (arith, c .end-b .ensures, b .3))
 
 take-out-requires : tie.Need-take-out-requires Inv-loop μ-loop
 take-out-requires c κs =

@@ -3,7 +3,7 @@
 use Prim.Native.Nat.{ℕ}
 use native.Mathlib.Omega.{arith}
 use mathlib.Core.Path.{refl}
-use Rattle.planner.proofs.GraphLaws.{Read, header-is, checked-of, length-ready, list-small, near-kept}
+use Rattle.planner.proofs.GraphLaws.{Read, header-is, checked-of, edgePart-length, length-ready, list-small, near-kept}
 use borrow.Author.Needs.{needs}
 use Rattle.planner.proofs.graph.keep_near.Statement.{statement}
 use Rattle.planner.proofs.graph.keep_near.Tie as tie
@@ -39,7 +39,7 @@ list-by-length-requires : tie.Need-list-by-length-requires
 list-by-length-requires c κs =
     let s = c .before .before .before .before .before .before .before .before .before .before .before in
     let a = s .args in
-    ((facts s .fits .m-limit, s .pre .0 .2, refl, s .pre .0 .3, s .pre .0 .4), length-ready (a .image .now) (a .h) (s .pre .0 .0) (s .pre .0 .1) (a .xs .now) (a .ys .now) (s .pre .1 .0))
+    ((facts s .fits .m-limit, s .pre .0 .2, refl, s .pre .0 .3, s .pre .0 .4, omega (arith, edgePart-length (a .image .now) (a .h) (facts s))), length-ready (a .image .now) (a .h) (s .pre .0 .0) (s .pre .0 .1) (a .xs .now) (a .ys .now) (s .pre .1 .0))
 
 slice-aggregate-drop-edges : tie.Need-slice-aggregate-drop-edges
 slice-aggregate-drop-edges c = search needs

@@ -25,10 +25,10 @@ loop-holds : tie.Need-loop-holds Inv-loop μ-loop
 loop-holds c = let s = c .before .before .before .before .before in (omega arith, omega arith, s .pre .0 .1, s .pre .0 .2, picks-none _ _ _, picks-none _ _ _)
 
 end-a-requires : tie.Need-end-a-requires Inv-loop μ-loop
-end-a-requires c κs = omega (arith, c .before .before .before .before .before .before .before .pre .0 .0, c .loop-test .taken)
+end-a-requires c κs = let s = c .before .before .before .before .before .before .before in (omega (arith, s .pre .0 .0, c .loop-test .taken), omega (arith, s .pre .0 .5, c .loop-test .taken))
 
 end-b-requires : tie.Need-end-b-requires Inv-loop μ-loop
-end-b-requires c κs = omega (arith, c .before .before .before .before .before .before .before .before .pre .0 .0, c .before .loop-test .taken)
+end-b-requires c κs = let s = c .before .before .before .before .before .before .before .before in (omega (arith, s .pre .0 .0, c .before .loop-test .taken), omega (arith, s .pre .0 .5, c .before .loop-test .taken))
 
 squared-distance-requires : tie.Need-squared-distance-requires Inv-loop μ-loop
 squared-distance-requires c κs =

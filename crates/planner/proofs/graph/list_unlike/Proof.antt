@@ -37,17 +37,17 @@ cast-k : tie.Need-cast-k Inv-loop μ-loop
 cast-k c = omega (arith, c .before .before .before .before .before .before .before .before .before .pre .1 .0 (c .before .before .loop .i) (c .before .loop-test .taken) .0)
 
 end-a-requires : tie.Need-end-a-requires Inv-loop μ-loop
-end-a-requires c κs = c .before .before .before .before .before .before .before .before .before .pre .1 .0 (c .before .before .loop .i) (c .before .loop-test .taken) .0
+end-a-requires c κs = let b = c .before .before .before .before .before .before .before .before .before .pre .1 .0 (c .before .before .loop .i) (c .before .loop-test .taken) in (b .0, b .1)
 
 end-b-requires : tie.Need-end-b-requires Inv-loop μ-loop
-end-b-requires c κs = c .before .before .before .before .before .before .before .before .before .before .pre .1 .0 (c .before .before .before .loop .i) (c .before .before .loop-test .taken) .0
+end-b-requires c κs = let b = c .before .before .before .before .before .before .before .before .before .before .pre .1 .0 (c .before .before .before .loop .i) (c .before .before .loop-test .taken) in (b .0, b .1)
 
 have-enough-requires : tie.Need-have-enough-requires Inv-loop μ-loop
 have-enough-requires c κs =
     let s = c .before .before .before .before .before .before .before .before .before .before .before in
     let b = s .pre .1 .0 (c .before .before .before .before .loop .i) (c .before .before .before .loop-test .taken) in
-    let u : c .before .end-a .result < 512 = omega (arith, b .1, c .before .end-a .ensures) in
-    let v : c .end-b .result < 512 = omega (arith, b .2, c .end-b .ensures) in (
+    let u : c .before .end-a .result < 512 = omega (arith, b .2, c .before .end-a .ensures) in
+    let v : c .end-b .result < 512 = omega (arith, b .3, c .end-b .ensures) in (
       (u, v, s .pre .0 .3, s .pre .0 .4, λ w. s .pre .1 .1 .2 (c .before .end-a .result) w u),
       (s .pre .1 .1 .0, s .pre .1 .1 .1 (c .before .end-a .result) u, s .pre .1 .1 .1 (c .end-b .result) v, s .pre .0 .5, s .pre .0 .6),
     )

@@ -7,7 +7,7 @@ use mathlib.Core.List.{List}
 use Rattle.image.specs.Questions.{headerOf}
 use Rattle.image.proofs.Acceptance.{Checked, header-yes}
 use Rattle.planner.specs.Held.{Positions, Added}
-use Rattle.planner.proofs.GraphLaws.{Read, header-is, positions-told, edges-told, not-read, network-read}
+use Rattle.planner.proofs.GraphLaws.{Read, header-is, edgePart-length, positions-told, edges-told, not-read, network-read}
 use borrow.Author.Needs.{needs}
 use Rattle.planner.proofs.graph.read_network.Statement.{statement}
 use Rattle.planner.proofs.graph.read_network.Tie as tie
@@ -80,7 +80,7 @@ part-add-edges-end : tie.Need-part-add-edges-end
 part-add-edges-end c = let r = facts (c .before .before .before .before .before .before .before .before .before .before .before .before .before .before .before .before .before .before .before .before .before .before .before .before .before) in omega (arith, r .length-of, r .fits .edges-to)
 
 add-edges-requires : tie.Need-add-edges-requires
-add-edges-requires c κs = let s = c .before .before .before .before .before .before .before .before .before .before .before .before .before .before .before .before .before .before .before .before .before .before .before .before .before .before .before .before in let a = c .before .before .before .before .before .before .before .add-selves .ensures in (facts s .fits .n-limit, facts s .fits .m-limit, a .0, a .1)
+add-edges-requires c κs = let s = c .before .before .before .before .before .before .before .before .before .before .before .before .before .before .before .before .before .before .before .before .before .before .before .before .before .before .before .before in let a = c .before .before .before .before .before .before .before .add-selves .ensures in (facts s .fits .n-limit, facts s .fits .m-limit, a .0, a .1, omega (arith, edgePart-length (s .args .image .now) (s .args .h) (facts s)))
 
 same-length-3 : tie.Need-same-length-3
 same-length-3 c = search needs
