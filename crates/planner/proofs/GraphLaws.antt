@@ -27,8 +27,9 @@ use Rattle.sets.specs.Bits.{bitAt, cell, withBit}
 use Rattle.sets.proofs.Tests.{and-make, and-left, and-right, or-left, or-right, or-cases, decide, T-true, T-false, T-ext, any-make, any-take, eqb-of, eqb-not}
 use Rattle.sets.proofs.Counting.{bit-true, count-cong, count-sum, count-wide, count-at, count-le, sum-cong}
 use Rattle.sets.proofs.Bits.{bitOf-and, bitAt-set-same, bitAt-set-other, length-withBit, cell-word, sum-word, bitAt-zeros, zeros}
-use Rattle.image.specs.Bytes.{number}
-use Rattle.image.specs.Image.{handsetCount, edgeCount, limitSquared, epsilonNum, epsilonDen, muField, mu, coreSize, handsetRecords, edgeRecords, gap, xAt, yAt, distanceAt, distanceSquared, endA, endB, joins, adjacent, within, neighbour}
+use Rattle.fields.specs.Bytes.{number}
+use Rattle.fields.specs.Fields.{coreSize}
+use Rattle.image.specs.Image.{handsetCount, edgeCount, limitSquared, epsilonNum, epsilonDen, muField, mu, handsetRecords, edgeRecords, gap, xAt, yAt, distanceAt, distanceSquared, endA, endB, joins, adjacent, within, neighbour}
 use Rattle.image.specs.Questions.{Accepted, headerOf, isLoop}
 use Rattle.image.specs.declared.Header.{Header}
 use Rattle.image.proofs.Acceptance.{Fits, ends-below, accepted-fits, length-is, x-limits, y-limits}

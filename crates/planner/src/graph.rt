@@ -48,12 +48,12 @@ fn squared_distance(handsets: &[u8], u: usize, v: usize) -> u64
     ensures { λ r. ⌜ r ≡ distanceAt (now (handsets .entry)) u v ⌝ }
 {
     let dx = gap_of(
-        image::coordinate(handsets, 8 * u),
-        image::coordinate(handsets, 8 * v),
+        fields::coordinate(handsets, 8 * u),
+        fields::coordinate(handsets, 8 * v),
     );
     let dy = gap_of(
-        image::coordinate(handsets, 8 * u + 4),
-        image::coordinate(handsets, 8 * v + 4),
+        fields::coordinate(handsets, 8 * u + 4),
+        fields::coordinate(handsets, 8 * v + 4),
     );
     dx * dx + dy * dy
 }
@@ -75,8 +75,8 @@ fn mark_neighbours(image: &[u8], h: Header, near: &mut [u64])
     mark_selves(near, n);
     let mut k = 0;
     while k < m {
-        let u = image::read2(edges, 4 * k) as usize;
-        let v = image::read2(edges, 4 * k + 2) as usize;
+        let u = fields::read2(edges, 4 * k) as usize;
+        let v = fields::read2(edges, 4 * k + 2) as usize;
         if squared_distance(handsets, u, v) <= h.limit {
             mark_both(near, u, v);
         }
@@ -161,8 +161,8 @@ fn mark_similar(image: &[u8], h: Header, near: &[u64], sizes: &[u32], alike: &mu
     mark_selves(alike, n);
     let mut k = 0;
     while k < m {
-        let u = image::read2(edges, 4 * k) as usize;
-        let v = image::read2(edges, 4 * k + 2) as usize;
+        let u = fields::read2(edges, 4 * k) as usize;
+        let v = fields::read2(edges, 4 * k + 2) as usize;
         if are_similar(near, sizes, u, v, h.p, h.q) {
             mark_both(alike, u, v);
         }
@@ -200,5 +200,5 @@ pub(crate) fn survey(
     mark_neighbours(image, h, near);
     measure(near, n, &mut sizes);
     mark_similar(image, h, near, &sizes, alike);
-    mark_cores(alike, n, image::core_size(h.mu) as u32, cores);
+    mark_cores(alike, n, fields::core_size(h.mu) as u32, cores);
 }
