@@ -24,16 +24,16 @@ unfolding tableLines
 loop-holds c = (omega arith, nothing _ _ _ (omega arith))
 
 tally-at-requires : tie.Need-tally-at-requires Inv-loop μ-loop
-tally-at-requires c κs = search needs
+tally-at-requires c κs = omega arith
 
 members-requires : tie.Need-members-requires Inv-loop μ-loop
-members-requires c κs = search needs
+members-requires c κs = tt
 
 put-group-requires : tie.Need-put-group-requires Inv-loop μ-loop
-put-group-requires c κs = search needs
+put-group-requires c κs = tt
 
 add-k : tie.Need-add-k Inv-loop μ-loop
-add-k c = search needs
+add-k c = omega arith
 
 loop-less : tie.Need-loop-less Inv-loop μ-loop
 loop-less c = search needs

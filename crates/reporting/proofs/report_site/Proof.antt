@@ -8,13 +8,13 @@ use Rattle.reporting.proofs.report_site.Statement.{statement}
 use Rattle.reporting.proofs.report_site.Tie as tie
 
 slice-aggregate-plan-and-cores : tie.Need-slice-aggregate-plan-and-cores
-slice-aggregate-plan-and-cores c = search needs
+slice-aggregate-plan-and-cores c = refl
 
 slice-aggregate-plan-and-cores-2 : tie.Need-slice-aggregate-plan-and-cores-2
-slice-aggregate-plan-and-cores-2 c = search needs
+slice-aggregate-plan-and-cores-2 c = refl
 
 plan-and-cores-requires : tie.Need-plan-and-cores-requires
-plan-and-cores-requires c κs = search needs
+plan-and-cores-requires c κs = tt
 
 enum-known-answer : tie.Need-enum-known-answer
 enum-known-answer c = search needs
