@@ -11,7 +11,6 @@ use Rattle.sets.specs.Bits.{bitAt}
 use Rattle.sets.proofs.Bits.{length-withBit}
 use Rattle.planner.specs.Held.{SetOf}
 use Rattle.reporting.proofs.Marking.{below-start, below-more}
-use borrow.Author.Needs.{needs}
 use Rattle.reporting.proofs.mark_below.Statement.{statement}
 use Rattle.reporting.proofs.mark_below.Tie as tie
 
@@ -36,7 +35,7 @@ add-v : tie.Need-add-v Inv-loop μ-loop
 add-v c = omega arith
 
 loop-less : tie.Need-loop-less Inv-loop μ-loop
-loop-less c = search needs
+loop-less c = omega arith
 
 loop-again : tie.Need-loop-again Inv-loop μ-loop
 loop-again c =

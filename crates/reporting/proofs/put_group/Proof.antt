@@ -4,7 +4,6 @@ use mathlib.Core.List.{append-assoc}
 use Rattle.text.proofs.Writing.{chain}
 use Rattle.reporting.specs.Report.{groupLine}
 use Rattle.reporting.specs.Held.{scoresPart}
-use borrow.Author.Needs.{needs}
 use Rattle.reporting.proofs.put_group.Statement.{statement}
 use Rattle.reporting.proofs.put_group.Tie as tie
 
@@ -21,7 +20,7 @@ put-requires-2 : tie.Need-put-requires-2
 put-requires-2 c κs = tt
 
 same-length : tie.Need-same-length
-same-length c = search needs
+same-length c = omega arith
 
 returns : tie.Need-returns
 unfolding groupLine scoresPart

@@ -9,7 +9,6 @@ use Rattle.text.specs.Text.{Wrote}
 use Rattle.reporting.specs.Held.{tableLines}
 use Rattle.reporting.proofs.Lines.{lines-more}
 use denote.Ref.{now}
-use borrow.Author.Needs.{needs}
 use Rattle.reporting.proofs.put_groups.Statement.{statement}
 use Rattle.reporting.proofs.put_groups.Tie as tie
 
@@ -36,7 +35,7 @@ add-k : tie.Need-add-k Inv-loop μ-loop
 add-k c = omega arith
 
 loop-less : tie.Need-loop-less Inv-loop μ-loop
-loop-less c = search needs
+loop-less c = omega arith
 
 loop-again : tie.Need-loop-again Inv-loop μ-loop
 loop-again c =

@@ -6,7 +6,6 @@ use denote.Ref.{now}
 use native.Mathlib.Omega.{arith}
 use Rattle.text.proofs.Writing.{chain}
 use Rattle.reporting.proofs.Lines.{head-parts}
-use borrow.Author.Needs.{needs}
 use Rattle.reporting.proofs.put_head.Statement.{statement}
 use Rattle.reporting.proofs.put_head.Tie as tie
 
@@ -38,7 +37,7 @@ put-requires : tie.Need-put-requires
 put-requires c κs = tt
 
 same-length : tie.Need-same-length
-same-length c = search needs
+same-length c = omega arith
 
 returns : tie.Need-returns
 returns c =

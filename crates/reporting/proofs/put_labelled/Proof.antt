@@ -1,6 +1,5 @@
 -- `reporting::put_labelled` meets its contract: the word, then the digits.
 use native.Mathlib.Omega.{arith}
-use borrow.Author.Needs.{needs}
 use Rattle.text.proofs.Writing.{chain}
 use Rattle.reporting.proofs.put_labelled.Statement.{statement}
 use Rattle.reporting.proofs.put_labelled.Tie as tie
@@ -12,7 +11,7 @@ put-decimal-requires : tie.Need-put-decimal-requires
 put-decimal-requires c κs = tt
 
 same-length : tie.Need-same-length
-same-length c = search needs
+same-length c = omega arith
 
 returns : tie.Need-returns
 returns c = chain (omega arith) (c .before .before .before .before .before .before .put-all .ensures) (c .before .before .put-decimal .ensures)

@@ -6,7 +6,6 @@ use Rattle.reporting.proofs.Lines.{refused-parts}
 use Prim.Native.Nat.{_≤_}
 use lib.ListN.{length}
 use denote.Ref.{now}
-use borrow.Author.Needs.{needs}
 use Rattle.reporting.proofs.put_refusal.Statement.{statement}
 use Rattle.reporting.proofs.put_refusal.Tie as tie
 
@@ -29,7 +28,7 @@ put-requires : tie.Need-put-requires
 put-requires c κs = tt
 
 same-length : tie.Need-same-length
-same-length c = search needs
+same-length c = omega arith
 
 returns : tie.Need-returns
 returns c =

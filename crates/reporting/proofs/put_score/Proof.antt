@@ -26,7 +26,7 @@ put-requires : tie.Need-put-requires
 put-requires c κs = tt
 
 same-length : tie.Need-same-length
-same-length c = search needs
+same-length c = omega arith
 
 returns : tie.Need-returns
 unfolding scoreText
@@ -35,7 +35,7 @@ returns c =
     rw ratio (chain (omega arith) (c .before .before .before .before .before .before .before .put-decimal .ensures) (c .before .before .put-labelled .ensures))
 
 same-length-2 : tie.Need-same-length-2
-same-length-2 c = search needs
+same-length-2 c = omega arith
 
 returns-2 : tie.Need-returns-2
 unfolding scoreText

@@ -7,7 +7,6 @@ use native.Mathlib.Omega.{arith}
 use mathlib.Core.List.{append-assoc}
 use Rattle.text.proofs.Writing.{chain}
 use Rattle.reporting.specs.Held.{scoresPart}
-use borrow.Author.Needs.{needs}
 use Rattle.reporting.proofs.put_scores.Statement.{statement}
 use Rattle.reporting.proofs.put_scores.Tie as tie
 
@@ -39,7 +38,7 @@ put-score-requires-2 : tie.Need-put-score-requires-2
 put-score-requires-2 c κs = tt
 
 same-length : tie.Need-same-length
-same-length c = search needs
+same-length c = omega arith
 
 returns : tie.Need-returns
 unfolding scoresPart

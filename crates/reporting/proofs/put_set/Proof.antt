@@ -3,7 +3,6 @@ use native.Mathlib.Omega.{arith}
 use mathlib.Core.List.{append-assoc}
 use Rattle.text.proofs.Writing.{chain}
 use Rattle.reporting.specs.Report.{listLine}
-use borrow.Author.Needs.{needs}
 use Rattle.reporting.proofs.put_set.Statement.{statement}
 use Rattle.reporting.proofs.put_set.Tie as tie
 
@@ -17,7 +16,7 @@ put-requires : tie.Need-put-requires
 put-requires c κs = tt
 
 same-length : tie.Need-same-length
-same-length c = search needs
+same-length c = omega arith
 
 returns : tie.Need-returns
 unfolding listLine

@@ -6,7 +6,6 @@ use mathlib.Core.List.{List}
 use denote.Ref.{now}
 use Rattle.reporting.specs.Held.{Filled}
 use Rattle.reporting.proofs.Whole.{groups-few, handsets-few, edges-fit, members-fit, text-held}
-use borrow.Author.Needs.{needs}
 use Rattle.reporting.proofs.report_plan.Statement.{statement}
 use Rattle.reporting.proofs.report_plan.Tie as tie
 
@@ -47,7 +46,7 @@ mark-below-requires : tie.Need-mark-below-requires
 mark-below-requires c κs = (handsets-few (c .before .before .before .before .before .before .before .before .before .before .before .before .before .pre), refl)
 
 slice-aggregate-unmark-all : tie.Need-slice-aggregate-unmark-all
-slice-aggregate-unmark-all c = search needs
+slice-aggregate-unmark-all c = omega arith
 
 sub-unmark-all : tie.Need-sub-unmark-all
 sub-unmark-all c = omega arith
@@ -62,16 +61,16 @@ unmark-all-requires : tie.Need-unmark-all-requires
 unmark-all-requires c κs = tt
 
 slice-aggregate-write-report : tie.Need-slice-aggregate-write-report
-slice-aggregate-write-report c = search needs
+slice-aggregate-write-report c = omega arith
 
 slice-aggregate-write-report-2 : tie.Need-slice-aggregate-write-report-2
-slice-aggregate-write-report-2 c = search needs
+slice-aggregate-write-report-2 c = omega arith
 
 write-report-requires : tie.Need-write-report-requires
 write-report-requires c κs = groups-few (c .before .before .before .before .before .before .before .before .before .before .before .before .before .before .before .before .before .before .before .before .before .before .pre)
 
 same-length : tie.Need-same-length
-same-length c = search needs
+same-length c = omega arith
 
 returns : tie.Need-returns
 returns c =

@@ -20,13 +20,13 @@ enum-known-answer : tie.Need-enum-known-answer
 enum-known-answer c = search needs
 
 slice-aggregate-report-plan : tie.Need-slice-aggregate-report-plan
-slice-aggregate-report-plan c = search needs
+slice-aggregate-report-plan c = omega arith
 
 slice-aggregate-report-plan-2 : tie.Need-slice-aggregate-report-plan-2
-slice-aggregate-report-plan-2 c = search needs
+slice-aggregate-report-plan-2 c = omega arith
 
 slice-aggregate-report-plan-3 : tie.Need-slice-aggregate-report-plan-3
-slice-aggregate-report-plan-3 c = search needs
+slice-aggregate-report-plan-3 c = omega arith
 
 report-plan-requires : tie.Need-report-plan-requires
 report-plan-requires c κs =
@@ -40,7 +40,7 @@ enum-known-answer-2 : tie.Need-enum-known-answer-2
 enum-known-answer-2 c = search needs
 
 same-length : tie.Need-same-length
-same-length c = search needs
+same-length c = omega arith
 
 returns : tie.Need-returns
 returns c = search needs

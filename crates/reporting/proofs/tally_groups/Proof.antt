@@ -10,7 +10,6 @@ use Rattle.scores.specs.declared.Tally.{Tally}
 use Rattle.scores.specs.Scored.{talliedAt}
 use Rattle.reporting.specs.Held.{countedOf, threeOf, talliesIn}
 use Rattle.reporting.proofs.Tallies.{tallies-more}
-use borrow.Author.Needs.{needs}
 use Rattle.reporting.proofs.tally_groups.Statement.{statement}
 use Rattle.reporting.proofs.tally_groups.Tie as tie
 
@@ -40,7 +39,7 @@ add-k : tie.Need-add-k Inv-loop μ-loop
 add-k c = omega arith
 
 loop-less : tie.Need-loop-less Inv-loop μ-loop
-loop-less c = search needs
+loop-less c = omega arith
 
 loop-again : tie.Need-loop-again Inv-loop μ-loop
 loop-again c =

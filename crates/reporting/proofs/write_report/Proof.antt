@@ -10,7 +10,6 @@ use Rattle.sets.proofs.Writing.{sets-front}
 use Rattle.reporting.specs.Report.{writtenOf, writtenIn}
 use Rattle.reporting.specs.Held.{tableText, Filled}
 use Rattle.reporting.specs.declared.Reported.the-variants.{Written}
-use borrow.Author.Needs.{needs}
 use Rattle.reporting.proofs.write_report.Statement.{statement}
 use Rattle.reporting.proofs.write_report.Tie as tie
 
@@ -24,7 +23,7 @@ put-report-requires-2 : tie.Need-put-report-requires-2
 put-report-requires-2 c κs = omega arith
 
 same-length : tie.Need-same-length
-same-length c = search needs
+same-length c = omega arith
 
 returns : tie.Need-returns
 unfolding writtenOf writtenIn
