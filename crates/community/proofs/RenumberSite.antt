@@ -19,11 +19,12 @@ use Rattle.sets.specs.Below.{any}
 use Rattle.sets.specs.Renumbering.{Renumbering}
 use Rattle.sets.proofs.Tests.{and-make, and-left, and-right, any-make, any-take, any-none, none-any, not-any, eqb-of, T-ext, three}
 use Rattle.sets.proofs.Counting.{to-apart, inverse, count-le, sum-across}
-use Rattle.image.specs.Bytes.{number}
-use Rattle.image.specs.Image.{handsetCount, edgeCount, handsetOffset, edgeOffset, imageLength, limitSquared, epsilonNum, epsilonDen, muField, mu, reserved, coreSize, handsetRecords, edgeRecords, shifted, gap, xAt, yAt, distanceAt, distanceSquared, endA, endB, joins, adjacent, within, neighbour}
+use Rattle.fields.specs.Bytes.{number}
+use Rattle.fields.specs.Fields.{coreSize, shifted}
+use Rattle.fields.proofs.Bytes.{number-cong}
+use Rattle.image.specs.Image.{handsetCount, edgeCount, handsetOffset, edgeOffset, imageLength, limitSquared, epsilonNum, epsilonDen, muField, mu, reserved, handsetRecords, edgeRecords, gap, xAt, yAt, distanceAt, distanceSquared, endA, endB, joins, adjacent, within, neighbour}
 use Rattle.image.specs.Questions.{headerOf, countsFit, thresholdsFit, tablesFit, inLimits, outOfLimits, badEnd, isLoop, repeatsEarlier, Accepted}
 use Rattle.image.specs.declared.Header.{Header}
-use Rattle.image.proofs.Bytes.{number-cong}
 use Rattle.image.proofs.Acceptance.{accepted-fits, length-is, ends-below}
 use Rattle.community.specs.Network.{Network, IsCommunity, isLeader, reachable, communities, role, neighbourhoodSize}
 use Rattle.community.specs.Tables.{memberTable}

@@ -6,7 +6,8 @@ use mathlib.Core.Bool.{Bool, _&&_, _||_}
 use mathlib.Core.List.{List}
 use lib.Dec.{T, leb, eqb, eqb-refl}
 use Rattle.sets.proofs.Tests.{or-left, or-comm, eqb-comm, any-cong}
-use Rattle.image.specs.Image.{gap, xAt, yAt, distanceAt, distanceSquared, handsetRecords, edgeRecords, joins, endA, endB, adjacent, within, edgeCount, neighbour, limitSquared, epsilonNum, epsilonDen, mu, muField, coreSize}
+use Rattle.fields.specs.Fields.{coreSize}
+use Rattle.image.specs.Image.{gap, xAt, yAt, distanceAt, distanceSquared, handsetRecords, edgeRecords, joins, endA, endB, adjacent, within, edgeCount, neighbour, limitSquared, epsilonNum, epsilonDen, mu, muField}
 use Rattle.image.specs.Questions.{Accepted, headerOf}
 use Rattle.image.proofs.Acceptance.{accepted-fits}
 use Rattle.community.specs.Site.{network}

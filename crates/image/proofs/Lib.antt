@@ -1,4 +1,3 @@
-pub mod Bytes
 pub mod Acceptance
 pub mod Signed
 pub mod Scanning

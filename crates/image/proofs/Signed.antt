@@ -11,8 +11,9 @@ use lib.IntN.{ℤ, pos, negsuc, natAbs, subℕ, _+ℤ_, _-ℤ_, _*ℤ_}
 use lib.Signed.{mag}
 use lib.ListN.{length, getD}
 use Rattle.sets.proofs.Tests.{decide, T-true, T-false}
-use Rattle.image.specs.Bytes.{le, number}
-use Rattle.image.specs.Image.{shifted, gap, xAt, yAt, distanceAt, distanceSquared, handsetRecords}
+use Rattle.fields.specs.Bytes.{le, number}
+use Rattle.fields.specs.Fields.{shifted}
+use Rattle.image.specs.Image.{gap, xAt, yAt, distanceAt, distanceSquared, handsetRecords}
 use Rattle.image.specs.Signed as S
 use Rattle.image.specs.Signed.{signed32, signedX, signedY, signedDistance}
 

@@ -1,4 +1,3 @@
-pub mod Bytes
 pub mod Image
 pub mod Signed
 pub mod Questions

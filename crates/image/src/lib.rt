@@ -1,17 +1,15 @@
-// The site image: the numbers in its bytes, and the reader that puts questions 1 to 10 to it.
+// The site image: its header and records, and the reader that puts questions 1 to 10 to it.
 //
-// `open` answers the header of an image that is accepted, or the number and place of the first no. Callers read the records on by `read2`
-// and `coordinate`, and cite `accepted`, `accepted-fits`, `ends-below` and `x-limits` of proofs/Acceptance for what an accepted image keeps to.
+// `open` answers the header of an image that is accepted, or the number and place of the first no. Callers read the records on by `fields::read2`
+// and `fields::coordinate`, and cite `accepted`, `accepted-fits`, `ends-below` and `x-limits` of proofs/Acceptance for what an accepted image keeps to.
 ghost use mathlib.Core.Path.{_≡_};
 ghost use Prim.Native.Nat.{ℕ, _+_, _*_, _≤_, _<_, min, max};
-ghost use lib.Dec.{leb};
 ghost use lib.ListN.{length, take, drop};
 ghost use Rattle.sets.specs.Below.{find};
-ghost use Rattle.image.specs.Bytes.{le, number};
-ghost use Rattle.image.specs.Image.{coreSize, shifted, endA, endB};
+ghost use Rattle.image.specs.Image.{endA, endB};
 ghost use Rattle.image.specs.Questions.{headerOf, countsFit, thresholdsFit, tablesFit, inLimits, outOfLimits, badEnd, isLoop, repeatsEarlier, ask, askEach, askRecords, askHeader, openHeader, openOf, refusalOf};
 
-// The header's numbers as they stand: `limit` is G, and a blank `mu` is still 0 (`core_size`).
+// The header's numbers as they stand: `limit` is G, and a blank `mu` is still 0 (`fields::core_size`).
 pub struct Header {
     pub n: u16,
     pub m: u16,
@@ -37,98 +35,21 @@ pub enum Opened {
     Refused(Refusal),
 }
 
-// Whether w bytes stand at a place in len bytes. No place is so far off that the sum wraps.
-fn stands(len: usize, at: usize, w: usize) -> bool
-    ensures { λ r. ⌜ r ≡ leb (at + w) len ⌝ }
-{
-    if len < w { false } else { at <= len - w }
-}
-
-// A byte, wide enough for the sums.
-fn wide(x: u8) -> u64
-    ensures { λ r. ⌜ (r ≡ x) × (r < 256) ⌝ }
-{
-    x as u64
-}
-
-// The number in two bytes, the lowest first.
-fn two(s: &[u8], at: usize) -> u64
-    requires { ⌜ at + 2 ≤ length (now s) ⌝ }
-    ensures { λ r. ⌜ (r ≡ le 2 (now (s .entry)) at) × (r < 65536) ⌝ }
-{
-    wide(s[at]) + 256 * wide(s[at + 1])
-}
-
-// The number in four bytes: its two halves, which the compiler reads as one word.
-fn four(s: &[u8], at: usize) -> u64
-    requires { ⌜ at + 4 ≤ length (now s) ⌝ }
-    ensures { λ r. ⌜ (r ≡ le 4 (now (s .entry)) at) × (r < 4294967296) ⌝ }
-{
-    two(s, at) + 65536 * two(s, at + 2)
-}
-
-// The number in the two bytes at a place; 0 where fewer stand there.
-pub fn read2(s: &[u8], at: usize) -> u16
-    ensures { λ r. ⌜ r ≡ number 2 (now (s .entry)) at ⌝ }
-{
-    if stands(s.len(), at, 2) {
-        two(s, at) as u16
-    } else {
-        0
-    }
-}
-
-// The same for four bytes.
-pub fn read4(s: &[u8], at: usize) -> u32
-    ensures { λ r. ⌜ r ≡ number 4 (now (s .entry)) at ⌝ }
-{
-    if stands(s.len(), at, 4) {
-        four(s, at) as u32
-    } else {
-        0
-    }
-}
-
-// The same for eight.
-fn read8(s: &[u8], at: usize) -> u64
-    ensures { λ r. ⌜ r ≡ number 8 (now (s .entry)) at ⌝ }
-{
-    if stands(s.len(), at, 8) {
-        four(s, at) + 4294967296 * four(s, at + 4)
-    } else {
-        0
-    }
-}
-
-// The coordinate at a place, plus 2 ^ 31, so that it is never negative.
-pub fn coordinate(part: &[u8], at: usize) -> u64
-    ensures { λ r. ⌜ r ≡ shifted (number 4 (now (part .entry)) at) ⌝ }
-{
-    (read4(part, at) as u64 + 2147483648) % 4294967296
-}
-
-// How many handsets make a core: a blank mu, 0, means 3.
-pub fn core_size(mu: u16) -> u16
-    ensures { λ r. ⌜ r ≡ coreSize mu ⌝ }
-{
-    if mu == 0 { 3 } else { mu }
-}
-
 // The header's numbers as they stand; 0 for one that is not there.
 fn read_header(s: &[u8]) -> Header
     ensures { λ r. ⌜ r ≡ headerOf (now (s .entry)) ⌝ }
 {
     Header {
-        n: read2(s, 0),
-        m: read2(s, 2),
-        handsets: read4(s, 4),
-        edges: read4(s, 8),
-        len: read4(s, 12),
-        limit: read8(s, 16),
-        p: read2(s, 24),
-        q: read2(s, 26),
-        mu: read2(s, 28),
-        reserved: read2(s, 30),
+        n: fields::read2(s, 0),
+        m: fields::read2(s, 2),
+        handsets: fields::read4(s, 4),
+        edges: fields::read4(s, 8),
+        len: fields::read4(s, 12),
+        limit: fields::read8(s, 16),
+        p: fields::read2(s, 24),
+        q: fields::read2(s, 26),
+        mu: fields::read2(s, 28),
+        reserved: fields::read2(s, 30),
     }
 }
 
@@ -194,7 +115,7 @@ pub fn out_of_limits(part: &[u8], v: u16) -> bool
     ensures { λ r. ⌜ r ≡ outOfLimits (now (part .entry)) v ⌝ }
 {
     let at = 8 * (v as usize);
-    !(in_limits(coordinate(part, at)) & in_limits(coordinate(part, at + 4)))
+    !(in_limits(fields::coordinate(part, at)) & in_limits(fields::coordinate(part, at + 4)))
 }
 
 // Whether edge k has an end that is no handset.
@@ -202,7 +123,7 @@ fn bad_end(part: &[u8], n: u16, k: u16) -> bool
     ensures { λ r. ⌜ r ≡ badEnd (now (part .entry)) n k ⌝ }
 {
     let at = 4 * (k as usize);
-    !((read2(part, at) < n) & (read2(part, at + 2) < n))
+    !((fields::read2(part, at) < n) & (fields::read2(part, at + 2) < n))
 }
 
 // Whether edge k goes from a handset to itself.
@@ -210,7 +131,7 @@ fn is_loop(part: &[u8], k: u16) -> bool
     ensures { λ r. ⌜ r ≡ isLoop (now (part .entry)) k ⌝ }
 {
     let at = 4 * (k as usize);
-    read2(part, at) == read2(part, at + 2)
+    fields::read2(part, at) == fields::read2(part, at + 2)
 }
 
 // Question 7: the first handset with a coordinate out of its limits, or n where there is none.
@@ -260,8 +181,8 @@ fn cell_of(part: &[u8], k: u16) -> usize
     ensures { λ r. ⌜ r ≡ min (endA (now (part .entry)) k) (endB (now (part .entry)) k) * 512 + max (endA (now (part .entry)) k) (endB (now (part .entry)) k) ⌝ }
 {
     let at = 4 * (k as usize);
-    let a = read2(part, at) as usize;
-    let b = read2(part, at + 2) as usize;
+    let a = fields::read2(part, at) as usize;
+    let b = fields::read2(part, at + 2) as usize;
     if a < b { a * 512 + b } else { b * 512 + a }
 }
 

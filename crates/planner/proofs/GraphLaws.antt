@@ -26,7 +26,8 @@ use Rattle.sets.specs.Bits.{bitAt, cell, withBit, withoutBit}
 use Rattle.sets.proofs.Tests.{and-make, and-left, and-right, or-left, or-right, or-cases, decide, T-true, T-false, T-ext, any-make, any-take, any-cong, any-none, none-any, not-any, eqb-of, eqb-not, eqb-comm}
 use Rattle.sets.proofs.Counting.{bit-true, bit-false, count-cong, count-sum, count-wide, count-at, count-le, sum-cong}
 use Rattle.sets.proofs.Bits.{bitAt-set-same, bitAt-set-other, bitAt-clear-same, bitAt-clear-other, length-withBit, length-withoutBit, bitAt-lt, bitAt-zeros, zeros}
-use Rattle.image.specs.Image.{handsetCount, edgeCount, imageLength, limitSquared, epsilonNum, epsilonDen, muField, mu, coreSize, handsetRecords, edgeRecords, gap, xAt, yAt, distanceAt, distanceSquared, endA, endB, joins, adjacent, within, neighbour}
+use Rattle.fields.specs.Fields.{coreSize}
+use Rattle.image.specs.Image.{handsetCount, edgeCount, imageLength, limitSquared, epsilonNum, epsilonDen, muField, mu, handsetRecords, edgeRecords, gap, xAt, yAt, distanceAt, distanceSquared, endA, endB, joins, adjacent, within, neighbour}
 use Rattle.image.specs.Questions.{Accepted, headerOf, openHeader, outOfLimits, badEnd, isLoop, repeatsEarlier}
 use Rattle.image.specs.declared.Header.{Header}
 use Rattle.image.specs.declared.Opened.the-variants as O

@@ -2,7 +2,8 @@
 --
 --     Found g todo rows k b    the rows are the communities of the leaders below b; todo has the cores that none of these reaches
 --     closure-reachable        what is collected from a leader over the cores left is what is reachable from it
---     Finding                  the loop of find_groups: the rows found so far, for every network with the given tables; u is the smallest core left
+--     Finding                  the loop of find_groups: the rows found so far, for every network with the given tables; u is the smallest core left, and
+--                              rows are written only before it
 use Prim.Native.Nat.{ℕ, zero, suc, _+_, _*_, _-_, _≤_, _<_}
 use native.Mathlib.Omega.{arith}
 use native.Mathlib.Decide.{ℕ-discrete, decLt}
@@ -287,7 +288,10 @@ sum-less (suc n) f g i h le l =
     (λ q. omega (arith, sum-less n f g i q (λ v r. le v (omega arith)) l, le n (omega arith)))
     (below h)
 
+-- the first k rows are written, and those of the cores left are as they were
 pub record Finding (alike cores rows todo : List ℕ) (k u : ℕ) : Type 0 where
+  pub behind : k ≤ u
+  pub kept : (x v : ℕ) → x < 512 → v < 512 → bitAt todo x ≡ 1 → cell rows x v ≡ cell alike x v
   pub size : length rows ≡ 4096
   pub todo-size : length todo ≡ 8
   pub first : FirstCommon todo todo u
@@ -295,13 +299,15 @@ pub record Finding (alike cores rows todo : List ℕ) (k u : ℕ) : Type 0 where
   pub found : (g : Network) → Surveyed g alike cores → (b : ℕ) × Found g todo rows k b
 
 module _ (alike cores : List ℕ) where
-  pub finding-start : (rows todo : List ℕ) (u : ℕ) → length rows ≡ 4096 → Joined cores 0 (zeros 8) todo → FirstCommon todo todo u → Finding alike cores rows todo 0 u
-  finding-start rows todo u size copy first = record {
+  pub finding-start : (todo : List ℕ) (u : ℕ) → length alike ≡ 4096 → Joined cores 0 (zeros 8) todo → FirstCommon todo todo u → Finding alike cores alike todo 0 u
+  finding-start todo u size copy first = record {
+    behind = omega arith;
+    kept = λ x v hx hv t. refl;
     size = size;
     todo-size = copy .size;
     first = first;
     room = omega (arith, sum-le 512 (bitAt todo) (λ v. 1) (λ v h. omega (arith, bitAt-lt todo v)), sum-const 512 1);
-    found = λ g given. (0, found-start given todo rows same);
+    found = λ g given. (0, found-start given todo alike same);
   }
     where
       same : (v : ℕ) → v < 512 → bitAt todo v ≡ bitAt cores v
@@ -313,7 +319,25 @@ module _ (alike cores : List ℕ) where
     pub finding-left : u < 512 → bitAt todo u ≡ 1
     finding-left h = omega (arith, now .first .found h)
 
-    module _ (h : u < 512) (left set : List ℕ) (col : Collected alike todo u left set) where
+    module _ (h : u < 512) (left set : List ℕ) (here : Collected rows todo u left set) where
+      -- the rows that were gone through are those of the table at first
+      col : Collected alike todo u left set
+      col = record {
+        size = here .size;
+        start = here .start;
+        closed = λ x v hx hv s t e. here .closed x v hx hv s t (now .kept x v hx hv t ∙ e);
+        least = λ f fu on. here .least f fu (λ x v hx hv fx t e. on x v hx hv fx t (sym (now .kept x v hx hv t) ∙ e));
+        rest = here .rest;
+      }
+
+      -- a core that is left comes after u
+      later : (x : ℕ) → x < 512 → bitAt left x ≡ 1 → (bitAt todo x ≡ 1) × (u < x)
+      later x hx t =
+          let was : bitAt todo x ≡ 1 = omega (arith, here .rest x hx, t, bitAt-lt todo x) in
+          let other : x ≡ u → ⊥ = λ e. omega (arith, here .rest x hx, t, here .start, ap (bitAt set) e) in
+          let before : x < u → ⊥ = λ l. omega (arith, now .first .before x l, was) in
+          (was, omega (arith, other, before))
+
       pub finding-falls : sum 512 (bitAt left) < sum 512 (bitAt todo)
       finding-falls =
           sum-less 512 (bitAt todo) (bitAt left) u h (λ v l. omega (arith, col .rest v l))
@@ -321,6 +345,8 @@ module _ (alike cores : List ℕ) where
 
       pub finding-on : (after : List ℕ) (u′ : ℕ) → length left ≡ 8 → Stored rows k set after → FirstCommon left left u′ → Finding alike cores after left (k + 1) u′
       finding-on after u′ size st first = record {
+        behind = next (decLt u′ 512);
+        kept = λ x v hx hv t. let l = later x hx t in st .others x v hv (λ e. omega (arith, l .1, now .behind, e)) ∙ now .kept x v hx hv (l .0);
         size = st .size ∙ now .size;
         todo-size = size;
         first = first;
@@ -331,6 +357,10 @@ module _ (alike cores : List ℕ) where
               found-on given todo rows k (f .0) (f .1) u h (finding-left h) (λ v l. omega (arith, now .first .before v l)) left set col after st,
             );
       }
+        where
+          next : Dec (u′ < 512) → k + 1 ≤ u′
+          next (yes l) = omega (arith, later u′ l (omega (arith, first .found l, bitAt-lt left u′)) .1, now .behind)
+          next (no d) = omega (arith, d, h, now .behind)
 
     pub finding-end : 512 ≤ u → GroupsFound alike cores rows k
     finding-end h = record {

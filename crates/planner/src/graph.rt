@@ -102,8 +102,8 @@ fn read_positions(handsets: &[u8], n: u16, xs: &mut [u64], ys: &mut [u64]) -> bo
         if image::out_of_limits(handsets, v) {
             return false;
         }
-        xs[v as usize] = image::coordinate(handsets, 8 * (v as usize));
-        ys[v as usize] = image::coordinate(handsets, 8 * (v as usize) + 4);
+        xs[v as usize] = fields::coordinate(handsets, 8 * (v as usize));
+        ys[v as usize] = fields::coordinate(handsets, 8 * (v as usize) + 4);
         v += 1;
     }
     true
@@ -367,7 +367,7 @@ fn keep_similar<'a>(
     let mut alike = [0u32; 512];
     copy_sizes(sizes, &mut alike);
     drop_edges(edges, &unlike, unlikes, table, &mut alike);
-    mark_cores(&alike, h.n as usize, image::core_size(h.mu) as u32, cores);
+    mark_cores(&alike, h.n as usize, fields::core_size(h.mu) as u32, cores);
 }
 
 // Works out the network of an image whose header has passed, in three empty tables: the similar handsets of each handset, the size of each

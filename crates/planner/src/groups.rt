@@ -66,18 +66,19 @@ fn collect(alike: &[u64], todo: &mut [u64], u: usize) -> [u64; 8]
     set
 }
 
-// Writes the communities as the first rows of the table, by their smallest cores, and gives their number.
-pub(crate) fn find_groups(alike: &[u64], cores: &[u64], rows: &mut [u64]) -> usize
-    requires { ⌜ (length (now alike) ≡ 4096) × (length (now cores) ≡ 8) × (length (now rows) ≡ 4096) ⌝ }
-    ensures { λ r. ⌜ GroupsFound (now (alike .entry)) (now (cores .entry)) (now (rows .exit)) r ⌝ }
+// Makes the first rows of the similarity table the communities, by their smallest cores, and gives their number. Row k is written when the community
+// of the k-th smallest core is known: by then no core up to that one is left, so no row is lost that is still to be added.
+pub(crate) fn find_groups(table: &mut [u64], cores: &[u64]) -> usize
+    requires { ⌜ (length (now table) ≡ 4096) × (length (now cores) ≡ 8) ⌝ }
+    ensures { λ r. ⌜ GroupsFound (now (table .entry)) (now (cores .entry)) (now (table .exit)) r ⌝ }
 {
     let mut todo = [0u64; 8];
     join_row(cores, 0, &mut todo);
     let mut k: usize = 0;
     let mut u = first_common(&todo, &todo);
     while u < 512 {
-        let set = collect(alike, &mut todo, u);
-        store_row(rows, k, &set);
+        let set = collect(table, &mut todo, u);
+        store_row(table, k, &set);
         k += 1;
         u = first_common(&todo, &todo);
     }

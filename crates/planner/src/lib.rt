@@ -59,9 +59,8 @@ pub fn plan_and_cores(image: &[u8], starts: &mut [u32], members: &mut [u16]) -> 
             cores: [0u64; 8],
         };
     }
-    let mut rows = [0u64; 4096];
-    let count = groups::find_groups(&table, &cores, &mut rows);
-    let answer = tables::make_plan(&rows, count, starts, members);
+    let count = groups::find_groups(&mut table, &cores);
+    let answer = tables::make_plan(&table, count, starts, members);
     Outcome { answer, cores }
 }
 
@@ -109,9 +108,8 @@ pub fn role(image: &[u8], v: usize) -> Known
             place: 0,
         });
     }
-    let mut rows = [0u64; 4096];
-    let count = groups::find_groups(&table, &cores, &mut rows);
-    let role = role_in(&cores, &rows, count, v);
+    let count = groups::find_groups(&mut table, &cores);
+    let role = role_in(&cores, &table, count, v);
     Known::Handset(Standing {
         neighbours: sizes[v],
         role,

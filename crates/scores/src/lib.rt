@@ -124,8 +124,8 @@ fn count_edges(edges: &[u8], m: usize, table: &[u16]) -> EdgeCounts
     let mut leaving: u32 = 0;
     let mut k: usize = 0;
     while k < m {
-        let a = held(table, image::read2(edges, 4 * k));
-        let b = held(table, image::read2(edges, 4 * k + 2));
+        let a = held(table, fields::read2(edges, 4 * k));
+        let b = held(table, fields::read2(edges, 4 * k + 2));
         tied += a * b;
         leaving += just_one(a, b);
         k += 1;

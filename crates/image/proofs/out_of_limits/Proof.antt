@@ -1,7 +1,9 @@
 -- `image::out_of_limits` meets its contract: the code is the definition, of the two coordinates read.
 use native.Mathlib.Omega.{arith}
+use mathlib.Core.Path.{ap, ap₂, _∙_}
+use mathlib.Core.Bool.{Bool, _&&_, not}
 use Rattle.image.specs.Image.{xAt, yAt}
-use Rattle.image.specs.Questions.{outOfLimits}
+use Rattle.image.specs.Questions.{inLimits, outOfLimits}
 use Rattle.image.proofs.out_of_limits.Statement.{statement}
 use Rattle.image.proofs.out_of_limits.Tie as tie
 
@@ -25,7 +27,10 @@ in-limits-requires-2 c κs = tt
 
 returns : tie.Need-returns
 unfolding outOfLimits xAt yAt
-returns c = cc
+returns c =
+    let x = c .before .before in
+    ap₂ (λ (a b : Bool). not (a && b)) (x .in-limits .ensures ∙ ap inLimits (x .before .coordinate .ensures))
+    (c .in-limits2 .ensures ∙ ap inLimits (c .before .coordinate2 .ensures))
 
 pub out-of-limits-spec : {M : Type 1} → statement M
 out-of-limits-spec =

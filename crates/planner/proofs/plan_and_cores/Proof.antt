@@ -65,13 +65,10 @@ slice-aggregate-find-groups c = search needs
 slice-aggregate-find-groups-2 : tie.Need-slice-aggregate-find-groups-2
 slice-aggregate-find-groups-2 c = search needs
 
-slice-aggregate-find-groups-3 : tie.Need-slice-aggregate-find-groups-3
-slice-aggregate-find-groups-3 c = search needs
-
 find-groups-requires : tie.Need-find-groups-requires
 find-groups-requires c κs =
-    let y = c .before .before .before .before .before .before .before .survey .ensures .survey (is-yes (c .before .before .before .before .before .before .before .survey .result) (c .before .before .before .if1 .left)) in
-    (y .similar-table .size, y .core-set .size, refl)
+    let y = c .before .before .before .before .before .before .survey .ensures .survey (is-yes (c .before .before .before .before .before .before .survey .result) (c .before .before .if1 .left)) in
+    (y .similar-table .size, y .core-set .size)
 
 slice-aggregate-make-plan : tie.Need-slice-aggregate-make-plan
 slice-aggregate-make-plan c = search needs
@@ -87,10 +84,10 @@ same-length-2 c = search needs
 
 returns-3 : tie.Need-returns-3
 returns-3 c =
-    let s = c .before .before .before .before .before .before .before .before .before .before .before .before .before .before .before .before .before .before .before .before .before .before .before .before .before .before .before .before .args in
+    let s = c .before .before .before .before .before .before .before .before .before .before .before .before .before .before .before .before .before .before .before .before .before .before .before .before .before .before .before .args in
     let m = c .before .before .before .before .make-plan .ensures in
-    let y = is-yes (c .before .before .before .before .before .before .before .before .before .before .before .before .before .before .before .before .before .survey .result) (c .before .before .before .before .before .before .before .before .before .before .before .before .before .if1 .left) in
-    let v = c .before .before .before .before .before .before .before .before .before .before .before .before .before .before .before .before .before .survey .ensures in
+    let y = is-yes (c .before .before .before .before .before .before .before .before .before .before .before .before .before .before .before .before .survey .result) (c .before .before .before .before .before .before .before .before .before .before .before .before .if1 .left) in
+    let v = c .before .before .before .before .before .before .before .before .before .before .before .before .before .before .before .before .survey .ensures in
     let ok = v .accepted y in
     let f = found-of (s .image .now) ok (v .survey y) (c .before .before .before .before .before .before .before .before .before .find-groups .ensures) in
     (plan-found (s .image .now) ok f (s .starts .now) (s .members .now) _ _ _ (m .0) (m .1 .0) (m .1 .1), cores-found (s .image .now) ok (f .core-set))
@@ -113,7 +110,6 @@ plan-and-cores-spec =
     returns-2
     slice-aggregate-find-groups
     slice-aggregate-find-groups-2
-    slice-aggregate-find-groups-3
     find-groups-requires
     slice-aggregate-make-plan
     make-plan-requires

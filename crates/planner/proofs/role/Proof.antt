@@ -77,13 +77,10 @@ slice-aggregate-find-groups c = search needs
 slice-aggregate-find-groups-2 : tie.Need-slice-aggregate-find-groups-2
 slice-aggregate-find-groups-2 c = search needs
 
-slice-aggregate-find-groups-3 : tie.Need-slice-aggregate-find-groups-3
-slice-aggregate-find-groups-3 c = search needs
-
 find-groups-requires : tie.Need-find-groups-requires
 find-groups-requires c κs =
-    let y = c .before .before .before .before .before .before .before .before .before .survey .ensures .survey (is-yes (c .before .before .before .before .before .before .before .before .before .survey .result) (c .before .before .before .before .before .if1 .left)) in
-    (y .similar-table .size, y .core-set .size, refl)
+    let y = c .before .before .before .before .before .before .before .before .survey .ensures .survey (is-yes (c .before .before .before .before .before .before .before .before .survey .result) (c .before .before .before .before .if1 .left)) in
+    (y .similar-table .size, y .core-set .size)
 
 slice-aggregate-role-in : tie.Need-slice-aggregate-role-in
 slice-aggregate-role-in c = search needs
@@ -104,20 +101,20 @@ small : (c : tie.Else2) → c .before .before .before .before .before .before .b
 small c = omega (arith, within c, handsets-most (c .before .before .before .before .before .before .before .before .before .before .before .before .before .before .before .args .image .now) (fine c))
 
 role-in-requires : tie.Need-role-in-requires
-role-in-requires c κs = (c .before .before .before .find-groups .ensures .most, small (c .before .before .before .before .before .before .before))
+role-in-requires c κs = (c .before .before .before .find-groups .ensures .most, small (c .before .before .before .before .before .before))
 
-mul-t22 : tie.Need-mul-t22
-mul-t22 c = omega (arith, small (c .before .before .before .before .before .before .before .before))
+mul-t21 : tie.Need-mul-t21
+mul-t21 c = omega (arith, small (c .before .before .before .before .before .before .before))
 
-array-read-t36 : tie.Need-array-read-t36
-array-read-t36 c = small (c .before .before .before .before .before .before .before .before)
+array-read-t33 : tie.Need-array-read-t33
+array-read-t33 c = small (c .before .before .before .before .before .before .before)
 
 returns-4 : tie.Need-returns-4
 returns-4 c =
-    let s = c .before .before .before .before .before .before .before .before .before .before .before .before .before .before .before .before .before .before .before .before .before .before .before .args in
-    let e = c .before .before .before .before .before .before .before .before in
-    let y = is-yes (c .before .before .before .before .before .before .before .before .before .before .before .before .before .before .survey .result) (c .before .before .before .before .before .before .before .before .before .before .if1 .left) in
-    let v = c .before .before .before .before .before .before .before .before .before .before .before .before .before .before .survey .ensures in
+    let s = c .before .before .before .before .before .before .before .before .before .before .before .before .before .before .before .before .before .before .before .before .before .before .args in
+    let e = c .before .before .before .before .before .before .before in
+    let y = is-yes (c .before .before .before .before .before .before .before .before .before .before .before .before .before .survey .result) (c .before .before .before .before .before .before .before .before .before .if1 .left) in
+    let v = c .before .before .before .before .before .before .before .before .before .before .before .before .before .survey .ensures in
     let f = found-of (s .image .now) (fine e) (v .survey y) (c .before .before .before .before .find-groups .ensures) in
     known-found (s .image .now) (fine e) (s .v) (within e) _ (v .survey y .near-sizes (s .v) (within e)) (c .role-in .ensures ∙ role-found (s .image .now) (fine e) f (s .v) (within e))
 
@@ -141,11 +138,10 @@ role-spec =
     returns-3
     slice-aggregate-find-groups
     slice-aggregate-find-groups-2
-    slice-aggregate-find-groups-3
     find-groups-requires
     slice-aggregate-role-in
     slice-aggregate-role-in-2
     role-in-requires
-    mul-t22
-    array-read-t36
+    mul-t21
+    array-read-t33
     returns-4)

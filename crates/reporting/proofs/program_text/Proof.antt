@@ -9,16 +9,16 @@ use Rattle.reporting.proofs.program_text.Statement.{statement}
 use Rattle.reporting.proofs.program_text.Tie as tie
 
 put-refusal-requires : tie.Need-put-refusal-requires
-put-refusal-requires c κs = search needs
+put-refusal-requires c κs = tt
 
 same-length : tie.Need-same-length
-same-length c = search needs
+same-length c = omega arith
 
 returns : tie.Need-returns
 returns c = rw (program-long (now (c .before .before .before .before .before .before .before .args .input)) (length (now (c .before .before .before .before .before .before .before .args .out))) (c .before .before .before .before .if1 .taken)) (c .before .before .put-refusal .ensures)
 
 report-requires : tie.Need-report-requires
-report-requires c κs = search needs
+report-requires c κs = tt
 
 enum-known-reported : tie.Need-enum-known-reported
 enum-known-reported c = search needs
@@ -27,10 +27,10 @@ enum-known-reported-2 : tie.Need-enum-known-reported-2
 enum-known-reported-2 c = search needs
 
 put-refusal-requires-2 : tie.Need-put-refusal-requires-2
-put-refusal-requires-2 c κs = search needs
+put-refusal-requires-2 c κs = tt
 
 same-length-2 : tie.Need-same-length-2
-same-length-2 c = search needs
+same-length-2 c = omega arith
 
 returns-2 : tie.Need-returns-2
 returns-2 c =
@@ -40,7 +40,7 @@ returns-2 c =
     program-written (now (start .args .input)) (now (start .args .out)) (c .before .before .before .before .before .before .before .if1 .left) _ _ _ small (written .1) (c .before .before .before .before .before .report .ensures)
 
 same-length-3 : tie.Need-same-length-3
-same-length-3 c = search needs
+same-length-3 c = omega arith
 
 returns-3 : tie.Need-returns-3
 returns-3 c =

@@ -9,7 +9,6 @@ use Rattle.text.specs.Text.{Wrote}
 use Rattle.reporting.specs.Held.{tableLines}
 use Rattle.reporting.proofs.Lines.{lines-more}
 use denote.Ref.{now}
-use borrow.Author.Needs.{needs}
 use Rattle.reporting.proofs.put_groups.Statement.{statement}
 use Rattle.reporting.proofs.put_groups.Tie as tie
 
@@ -24,19 +23,19 @@ unfolding tableLines
 loop-holds c = (omega arith, nothing _ _ _ (omega arith))
 
 tally-at-requires : tie.Need-tally-at-requires Inv-loop μ-loop
-tally-at-requires c κs = search needs
+tally-at-requires c κs = omega arith
 
 members-requires : tie.Need-members-requires Inv-loop μ-loop
-members-requires c κs = search needs
+members-requires c κs = tt
 
 put-group-requires : tie.Need-put-group-requires Inv-loop μ-loop
-put-group-requires c κs = search needs
+put-group-requires c κs = tt
 
 add-k : tie.Need-add-k Inv-loop μ-loop
-add-k c = search needs
+add-k c = omega arith
 
 loop-less : tie.Need-loop-less Inv-loop μ-loop
-loop-less c = search needs
+loop-less c = omega arith
 
 loop-again : tie.Need-loop-again Inv-loop μ-loop
 loop-again c =

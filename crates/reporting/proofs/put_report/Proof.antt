@@ -1,34 +1,34 @@
 -- `reporting::put_report` meets its contract: line one, the groups, the cores, the outliers.
+use mathlib.Core.Path.{refl}
 use native.Mathlib.Omega.{arith}
 use Rattle.text.proofs.Writing.{chain}
 use Rattle.reporting.proofs.Lines.{text-parts}
 use Prim.Native.Nat.{_≤_}
 use lib.ListN.{length}
 use denote.Ref.{now}
-use borrow.Author.Needs.{needs}
 use Rattle.reporting.proofs.put_report.Statement.{statement}
 use Rattle.reporting.proofs.put_report.Tie as tie
 
 put-head-requires : tie.Need-put-head-requires
-put-head-requires c κs = search needs
+put-head-requires c κs = tt
 
 put-groups-requires : tie.Need-put-groups-requires
-put-groups-requires c κs = search needs
+put-groups-requires c κs = (omega arith, omega arith)
 
 slice-aggregate-put-set : tie.Need-slice-aggregate-put-set
-slice-aggregate-put-set c = search needs
+slice-aggregate-put-set c = refl
 
 put-set-requires : tie.Need-put-set-requires
-put-set-requires c κs = search needs
+put-set-requires c κs = tt
 
 slice-aggregate-put-set-2 : tie.Need-slice-aggregate-put-set-2
-slice-aggregate-put-set-2 c = search needs
+slice-aggregate-put-set-2 c = refl
 
 put-set-requires-2 : tie.Need-put-set-requires-2
-put-set-requires-2 c κs = search needs
+put-set-requires-2 c κs = tt
 
 same-length : tie.Need-same-length
-same-length c = search needs
+same-length c = omega arith
 
 returns : tie.Need-returns
 returns c =

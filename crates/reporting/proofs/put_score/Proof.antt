@@ -1,4 +1,5 @@
 -- `reporting::put_score` meets its contract: the two cases of a score.
+use mathlib.Core.Path.{refl}
 use native.Mathlib.Omega.{arith}
 use Rattle.text.proofs.Writing.{chain}
 use Rattle.reporting.specs.Report.{scoreText}
@@ -10,22 +11,22 @@ enum-known-score : tie.Need-enum-known-score
 enum-known-score c = search needs
 
 put-decimal-requires : tie.Need-put-decimal-requires
-put-decimal-requires c κs = search needs
+put-decimal-requires c κs = tt
 
 slice-aggregate-put-labelled : tie.Need-slice-aggregate-put-labelled
-slice-aggregate-put-labelled c = search needs
+slice-aggregate-put-labelled c = refl
 
 put-labelled-requires : tie.Need-put-labelled-requires
-put-labelled-requires c κs = search needs
+put-labelled-requires c κs = tt
 
 enum-told : tie.Need-enum-told
 enum-told c = search needs
 
 put-requires : tie.Need-put-requires
-put-requires c κs = search needs
+put-requires c κs = tt
 
 same-length : tie.Need-same-length
-same-length c = search needs
+same-length c = omega arith
 
 returns : tie.Need-returns
 unfolding scoreText
@@ -34,7 +35,7 @@ returns c =
     rw ratio (chain (omega arith) (c .before .before .before .before .before .before .before .put-decimal .ensures) (c .before .before .put-labelled .ensures))
 
 same-length-2 : tie.Need-same-length-2
-same-length-2 c = search needs
+same-length-2 c = omega arith
 
 returns-2 : tie.Need-returns-2
 unfolding scoreText

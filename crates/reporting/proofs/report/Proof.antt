@@ -1,4 +1,5 @@
 -- `reporting::report` meets its contract: a refused image ends the call, and of an accepted one the report is written.
+use native.Mathlib.Omega.{arith}
 use mathlib.Core.Path.{_≡_, refl, sym, ap, _∙_}
 use denote.Ref.{now}
 use Rattle.image.specs.Questions.{openOf, refusalOf}
@@ -10,7 +11,7 @@ use Rattle.reporting.proofs.report.Statement.{statement}
 use Rattle.reporting.proofs.report.Tie as tie
 
 open-requires : tie.Need-open-requires
-open-requires c κs = search needs
+open-requires c κs = tt
 
 enum-known-opened : tie.Need-enum-known-opened
 enum-known-opened c = search needs
@@ -19,7 +20,7 @@ enum-told : tie.Need-enum-told
 enum-told c = search needs
 
 refusal-of-requires : tie.Need-refusal-of-requires
-refusal-of-requires c κs = search needs
+refusal-of-requires c κs = tt
 
 returns : tie.Need-returns
 returns c =
@@ -33,7 +34,7 @@ report-site-requires : tie.Need-report-site-requires
 report-site-requires c κs = accepted (now (c .before .before .before .before .before .before .before .args .image)) (c .before .before .opened .given .0 .0) (sym (c .before .before .before .before .«open» .ensures) ∙ c .before .before .opened .given .1)
 
 same-length : tie.Need-same-length
-same-length c = search needs
+same-length c = omega arith
 
 returns-2 : tie.Need-returns-2
 returns-2 c = site-answer (c .before .before .before .before .before .opened .given .0 .0) (sym (c .before .before .before .before .before .before .before .«open» .ensures) ∙ c .before .before .before .before .before .opened .given .1) (c .before .before .report-site .ensures)

@@ -6,72 +6,71 @@ use mathlib.Core.List.{List}
 use denote.Ref.{now}
 use Rattle.reporting.specs.Held.{Filled}
 use Rattle.reporting.proofs.Whole.{groups-few, handsets-few, edges-fit, members-fit, text-held}
-use borrow.Author.Needs.{needs}
 use Rattle.reporting.proofs.report_plan.Statement.{statement}
 use Rattle.reporting.proofs.report_plan.Tie as tie
 
 cast-a : tie.Need-cast-a
-cast-a c = search needs
+cast-a c = omega arith
 
 cast-b : tie.Need-cast-b
-cast-b c = search needs
+cast-b c = omega arith
 
 mul-b : tie.Need-mul-b
-mul-b c = search needs
+mul-b c = omega arith
 
 add-b : tie.Need-add-b
-add-b c = search needs
+add-b c = omega arith
 
 sub-tally-groups : tie.Need-sub-tally-groups
-sub-tally-groups c = search needs
+sub-tally-groups c = omega arith
 
 part-tally-groups-start : tie.Need-part-tally-groups-start
-part-tally-groups-start c = search needs
+part-tally-groups-start c = omega arith
 
 part-tally-groups-end : tie.Need-part-tally-groups-end
 part-tally-groups-end c = edges-fit (c .before .before .before .before .before .before .before .pre)
 
 slice-aggregate-tally-groups : tie.Need-slice-aggregate-tally-groups
-slice-aggregate-tally-groups c = search needs
+slice-aggregate-tally-groups c = refl
 
 tally-groups-requires : tie.Need-tally-groups-requires
 tally-groups-requires c κs = (groups-few (c .before .before .before .before .before .before .before .before .before .pre), refl)
 
 slice-aggregate-mark-below : tie.Need-slice-aggregate-mark-below
-slice-aggregate-mark-below c = search needs
+slice-aggregate-mark-below c = refl
 
 cast-mark-below : tie.Need-cast-mark-below
-cast-mark-below c = search needs
+cast-mark-below c = omega arith
 
 mark-below-requires : tie.Need-mark-below-requires
 mark-below-requires c κs = (handsets-few (c .before .before .before .before .before .before .before .before .before .before .before .before .before .pre), refl)
 
 slice-aggregate-unmark-all : tie.Need-slice-aggregate-unmark-all
-slice-aggregate-unmark-all c = search needs
+slice-aggregate-unmark-all c = omega arith
 
 sub-unmark-all : tie.Need-sub-unmark-all
-sub-unmark-all c = search needs
+sub-unmark-all c = omega arith
 
 part-unmark-all-start : tie.Need-part-unmark-all-start
-part-unmark-all-start c = search needs
+part-unmark-all-start c = omega arith
 
 part-unmark-all-end : tie.Need-part-unmark-all-end
 part-unmark-all-end c = members-fit (c .before .before .before .before .before .before .before .before .before .before .before .before .before .before .before .before .pre)
 
 unmark-all-requires : tie.Need-unmark-all-requires
-unmark-all-requires c κs = search needs
+unmark-all-requires c κs = tt
 
 slice-aggregate-write-report : tie.Need-slice-aggregate-write-report
-slice-aggregate-write-report c = search needs
+slice-aggregate-write-report c = omega arith
 
 slice-aggregate-write-report-2 : tie.Need-slice-aggregate-write-report-2
-slice-aggregate-write-report-2 c = search needs
+slice-aggregate-write-report-2 c = omega arith
 
 write-report-requires : tie.Need-write-report-requires
 write-report-requires c κs = groups-few (c .before .before .before .before .before .before .before .before .before .before .before .before .before .before .before .before .before .before .before .before .before .before .pre)
 
 same-length : tie.Need-same-length
-same-length c = search needs
+same-length c = omega arith
 
 returns : tie.Need-returns
 returns c =

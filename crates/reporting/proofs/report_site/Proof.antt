@@ -8,25 +8,25 @@ use Rattle.reporting.proofs.report_site.Statement.{statement}
 use Rattle.reporting.proofs.report_site.Tie as tie
 
 slice-aggregate-plan-and-cores : tie.Need-slice-aggregate-plan-and-cores
-slice-aggregate-plan-and-cores c = search needs
+slice-aggregate-plan-and-cores c = refl
 
 slice-aggregate-plan-and-cores-2 : tie.Need-slice-aggregate-plan-and-cores-2
-slice-aggregate-plan-and-cores-2 c = search needs
+slice-aggregate-plan-and-cores-2 c = refl
 
 plan-and-cores-requires : tie.Need-plan-and-cores-requires
-plan-and-cores-requires c κs = search needs
+plan-and-cores-requires c κs = tt
 
 enum-known-answer : tie.Need-enum-known-answer
 enum-known-answer c = search needs
 
 slice-aggregate-report-plan : tie.Need-slice-aggregate-report-plan
-slice-aggregate-report-plan c = search needs
+slice-aggregate-report-plan c = omega arith
 
 slice-aggregate-report-plan-2 : tie.Need-slice-aggregate-report-plan-2
-slice-aggregate-report-plan-2 c = search needs
+slice-aggregate-report-plan-2 c = omega arith
 
 slice-aggregate-report-plan-3 : tie.Need-slice-aggregate-report-plan-3
-slice-aggregate-report-plan-3 c = search needs
+slice-aggregate-report-plan-3 c = omega arith
 
 report-plan-requires : tie.Need-report-plan-requires
 report-plan-requires c κs =
@@ -40,7 +40,7 @@ enum-known-answer-2 : tie.Need-enum-known-answer-2
 enum-known-answer-2 c = search needs
 
 same-length : tie.Need-same-length
-same-length c = search needs
+same-length c = omega arith
 
 returns : tie.Need-returns
 returns c = search needs

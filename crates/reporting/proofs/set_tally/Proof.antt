@@ -10,34 +10,34 @@ use Rattle.reporting.proofs.set_tally.Statement.{statement}
 use Rattle.reporting.proofs.set_tally.Tie as tie
 
 mul-tallies : tie.Need-mul-tallies
-mul-tallies c = search needs
+mul-tallies c = omega arith
 
 mul-tallies-2 : tie.Need-mul-tallies-2
-mul-tallies-2 c = search needs
+mul-tallies-2 c = omega arith
 
 slice-write-tallies : tie.Need-slice-write-tallies
-slice-write-tallies c = search needs
+slice-write-tallies c = omega arith
 
 mul-tallies-3 : tie.Need-mul-tallies-3
-mul-tallies-3 c = search needs
+mul-tallies-3 c = omega arith
 
 add-tallies : tie.Need-add-tallies
-add-tallies c = search needs
+add-tallies c = omega arith
 
 mul-tallies-4 : tie.Need-mul-tallies-4
-mul-tallies-4 c = search needs
+mul-tallies-4 c = omega arith
 
 slice-write-tallies-2 : tie.Need-slice-write-tallies-2
 slice-write-tallies-2 c = simp length-set (omega arith)
 
 mul-tallies-5 : tie.Need-mul-tallies-5
-mul-tallies-5 c = search needs
+mul-tallies-5 c = omega arith
 
 add-tallies-2 : tie.Need-add-tallies-2
-add-tallies-2 c = search needs
+add-tallies-2 c = omega arith
 
 mul-tallies-6 : tie.Need-mul-tallies-6
-mul-tallies-6 c = search needs
+mul-tallies-6 c = omega arith
 
 slice-write-tallies-3 : tie.Need-slice-write-tallies-3
 slice-write-tallies-3 c = simp length-set (omega arith)

@@ -10,7 +10,6 @@ use Rattle.scores.specs.declared.Tally.{Tally}
 use Rattle.scores.specs.Scored.{talliedAt}
 use Rattle.reporting.specs.Held.{countedOf, threeOf, talliesIn}
 use Rattle.reporting.proofs.Tallies.{tallies-more}
-use borrow.Author.Needs.{needs}
 use Rattle.reporting.proofs.tally_groups.Statement.{statement}
 use Rattle.reporting.proofs.tally_groups.Tie as tie
 
@@ -25,22 +24,22 @@ unfolding talliesIn
 loop-holds c = (omega arith, refl)
 
 members-requires : tie.Need-members-requires Inv-loop μ-loop
-members-requires c κs = search needs
+members-requires c κs = tt
 
 tally-part-requires : tie.Need-tally-part-requires Inv-loop μ-loop
-tally-part-requires c κs = search needs
+tally-part-requires c κs = tt
 
 counted-requires : tie.Need-counted-requires Inv-loop μ-loop
-counted-requires c κs = search needs
+counted-requires c κs = tt
 
 set-tally-requires : tie.Need-set-tally-requires Inv-loop μ-loop
 set-tally-requires c κs = (omega arith, ap length (c .before .before .before .before .before .loop .inv .1) ∙ simp length-sets (c .before .before .before .before .before .before .before .before .before .before .pre .1))
 
 add-k : tie.Need-add-k Inv-loop μ-loop
-add-k c = search needs
+add-k c = omega arith
 
 loop-less : tie.Need-loop-less Inv-loop μ-loop
-loop-less c = search needs
+loop-less c = omega arith
 
 loop-again : tie.Need-loop-again Inv-loop μ-loop
 loop-again c =

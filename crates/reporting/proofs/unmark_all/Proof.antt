@@ -14,7 +14,6 @@ use Rattle.sets.proofs.Bits.{length-withoutBit}
 use Rattle.community.specs.Network.{contains}
 use Rattle.reporting.specs.Held.{Without}
 use Rattle.reporting.proofs.Marking.{without-start, without-more}
-use borrow.Author.Needs.{needs}
 use Rattle.reporting.proofs.unmark_all.Statement.{statement}
 use Rattle.reporting.proofs.unmark_all.Tie as tie
 
@@ -28,22 +27,22 @@ loop-holds : tie.Need-loop-holds Inv-loop μ-loop
 loop-holds c = (omega arith, record { size = refl; bits = without-start (now (c .before .before .args .set)) })
 
 mul-wide : tie.Need-mul-wide Inv-loop μ-loop
-mul-wide c = search needs
+mul-wide c = omega arith
 
 shared-slice-read-wide : tie.Need-shared-slice-read-wide Inv-loop μ-loop
-shared-slice-read-wide c = search needs
+shared-slice-read-wide c = omega arith
 
 wide-requires : tie.Need-wide-requires Inv-loop μ-loop
-wide-requires c κs = search needs
+wide-requires c κs = tt
 
 unmark-requires : tie.Need-unmark-requires Inv-loop μ-loop
-unmark-requires c κs = search needs
+unmark-requires c κs = tt
 
 add-i : tie.Need-add-i Inv-loop μ-loop
-add-i c = search needs
+add-i c = omega arith
 
 loop-less : tie.Need-loop-less Inv-loop μ-loop
-loop-less c = search needs
+loop-less c = omega arith
 
 loop-again : tie.Need-loop-again Inv-loop μ-loop
 loop-again c =

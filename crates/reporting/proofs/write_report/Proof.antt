@@ -1,7 +1,7 @@
 -- `reporting::write_report` meets its contract. The position after the measuring run is the text's length, so that it fits exactly when the test passes.
 use native.Mathlib.Omega.{arith}
 use Prim.Native.Nat.{ℕ, _≤_, _<_}
-use mathlib.Core.Path.{_≡_, ap, _∙_}
+use mathlib.Core.Path.{refl, _≡_, ap, _∙_}
 use mathlib.Core.List.{List}
 use lib.ListN.{length}
 use denote.Ref.{now}
@@ -10,21 +10,20 @@ use Rattle.sets.proofs.Writing.{sets-front}
 use Rattle.reporting.specs.Report.{writtenOf, writtenIn}
 use Rattle.reporting.specs.Held.{tableText, Filled}
 use Rattle.reporting.specs.declared.Reported.the-variants.{Written}
-use borrow.Author.Needs.{needs}
 use Rattle.reporting.proofs.write_report.Statement.{statement}
 use Rattle.reporting.proofs.write_report.Tie as tie
 
 slice-aggregate-put-report : tie.Need-slice-aggregate-put-report
-slice-aggregate-put-report c = search needs
+slice-aggregate-put-report c = refl
 
 put-report-requires : tie.Need-put-report-requires
-put-report-requires c κs = search needs
+put-report-requires c κs = omega arith
 
 put-report-requires-2 : tie.Need-put-report-requires-2
-put-report-requires-2 c κs = search needs
+put-report-requires-2 c κs = omega arith
 
 same-length : tie.Need-same-length
-same-length c = search needs
+same-length c = omega arith
 
 returns : tie.Need-returns
 unfolding writtenOf writtenIn

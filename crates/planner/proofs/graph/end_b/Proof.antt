@@ -3,8 +3,8 @@ use Prim.Native.Nat.{ℕ, _+_, _*_}
 use native.Mathlib.Omega.{arith}
 use mathlib.Core.Path.{_≡_, sym, ap, _∙_}
 use lib.ListN.{getD}
-use Rattle.image.specs.Bytes.{le}
-use Rattle.image.proofs.Bytes.{number-le}
+use Rattle.fields.specs.Bytes.{le}
+use Rattle.fields.proofs.Bytes.{number-le}
 use Rattle.image.specs.Image.{endB}
 use borrow.Author.Needs.{needs}
 use Rattle.planner.proofs.graph.end_b.Statement.{statement}

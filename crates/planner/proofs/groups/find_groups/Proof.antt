@@ -1,5 +1,5 @@
--- `planner::groups::find_groups` meets its contract. The rows are the communities of the leaders below the cores that are left, and the smallest core
--- left is the next leader, whose closure over the cores left is its community. The measure is the number of cores left.
+-- `planner::groups::find_groups` meets its contract. The rows written are the communities of the leaders below the cores that are left, whose own rows are
+-- as they were; the smallest core left is the next leader, and its closure over the cores left is its community. The measure is the number of cores left.
 use mathlib.Core.Path.{_≡_, refl, sym, _∙_}
 use Prim.Native.Nat.{_<_}
 use native.Mathlib.Omega.{arith}
@@ -11,27 +11,27 @@ use Rattle.planner.proofs.groups.find_groups.Statement.{statement}
 use Rattle.planner.proofs.groups.find_groups.Tie as tie
 
 abbrev Inv-loop : tie.InvT-loop
-Inv-loop alike cores rows₀ todo₀ k₀ u₀ rows todo k u = Finding alike cores rows todo k u
+Inv-loop table₀ cores todo₀ k₀ u₀ table todo k u = Finding table₀ cores table todo k u
 
 abbrev μ-loop : tie.MeasureT-loop
-μ-loop alike cores rows₀ todo₀ k₀ u₀ rows todo k u = sum 512 (bitAt todo)
+μ-loop table₀ cores todo₀ k₀ u₀ table todo k u = sum 512 (bitAt todo)
 
 -- after a community is collected fewer cores are left, in as many words
-falls : (r : tie.After-collect Inv-loop μ-loop) → sum 512 (bitAt (r .collect .last .1 .0)) < sum 512 (bitAt (r .before .before .before .loop .todo))
+falls : (r : tie.After-collect Inv-loop μ-loop) → sum 512 (bitAt (r .collect .last .1 .0)) < sum 512 (bitAt (r .before .before .before .before .loop .todo))
 falls r =
-    let l = r .before .before .before .loop in
+    let l = r .before .before .before .before .loop in
     let a = r .before .before .before .before .before .before .before .before .before .before .before .before .before .args in
-    finding-falls (a .alike .now) (a .cores .now) (l .rows) (l .todo) (l .k) (l .u) (l .inv) (r .before .before .loop-test .taken)
+    finding-falls (a .table .now) (a .cores .now) (l .table) (l .todo) (l .k) (l .u) (l .inv) (r .before .before .before .loop-test .taken)
     (r .collect .last .1 .0) (r .collect .result) (r .collect .ensures)
 
 left-size : (r : tie.After-collect Inv-loop μ-loop) → length (r .collect .last .1 .0) ≡ 8
-left-size r = r .collect .kept .1 .0 ∙ r .before .before .before .loop .inv .todo-size
+left-size r = r .collect .kept .1 .0 ∙ r .before .before .before .before .loop .inv .todo-size
 
 slice-aggregate-join-row : tie.Need-slice-aggregate-join-row Inv-loop μ-loop
 slice-aggregate-join-row c = refl
 
 join-row-requires : tie.Need-join-row-requires Inv-loop μ-loop
-join-row-requires c κs = (omega (arith, c .before .before .before .before .pre .1), refl)
+join-row-requires c κs = (omega (arith, c .before .before .before .pre .1), refl)
 
 slice-aggregate-first-common : tie.Need-slice-aggregate-first-common Inv-loop μ-loop
 slice-aggregate-first-common c = sym (c .before .before .join-row .ensures .size)
@@ -45,19 +45,18 @@ first-common-requires c κs = let j = c .before .before .before .join-row .ensur
 loop-holds : tie.Need-loop-holds Inv-loop μ-loop
 loop-holds c =
     let j = c .before .before .before .before in
-    let s = j .before .before .before .before .before in
-    finding-start (s .args .alike .now) (s .args .cores .now) (s .args .rows .now) (j .join-row .last .1 .1 .0) (c .first-common .result)
-    (s .pre .2) (j .join-row .ensures) (c .first-common .ensures)
+    let s = c .before .before .before .before .before .before .before .before in
+    finding-start (s .args .table .now) (s .args .cores .now) (j .join-row .last .1 .1 .0) (c .first-common .result) (s .pre .0) (j .join-row .ensures) (c .first-common .ensures)
 
 slice-aggregate-collect : tie.Need-slice-aggregate-collect Inv-loop μ-loop
-slice-aggregate-collect c = sym (c .before .before .loop .inv .todo-size)
+slice-aggregate-collect c = sym (c .before .before .before .loop .inv .todo-size)
 
 collect-requires : tie.Need-collect-requires Inv-loop μ-loop
 collect-requires c κs =
-    let l = c .before .before .loop in
+    let l = c .before .before .before .loop in
     let s = c .before .before .before .before .before .before .before .before .before .before .before .before in
-    let h : l .u < 512 = c .before .loop-test .taken in
-    (h, s .pre .0, l .inv .todo-size, finding-left (s .args .alike .now) (s .args .cores .now) (l .rows) (l .todo) (l .k) (l .u) (l .inv) h)
+    let h : l .u < 512 = c .before .before .loop-test .taken in
+    (h, l .inv .size, l .inv .todo-size, finding-left (s .args .table .now) (s .args .cores .now) (l .table) (l .todo) (l .k) (l .u) (l .inv) h)
 
 slice-aggregate-store-row : tie.Need-slice-aggregate-store-row Inv-loop μ-loop
 slice-aggregate-store-row c = sym (c .before .before .before .collect .ensures .size)
@@ -65,16 +64,16 @@ slice-aggregate-store-row c = sym (c .before .before .before .collect .ensures .
 store-row-requires : tie.Need-store-row-requires Inv-loop μ-loop
 store-row-requires c κs =
     let r = c .before .before .before in
-    (omega (arith, falls r, r .before .before .before .loop .inv .room, r .before .before .before .loop .inv .size), r .collect .ensures .size)
+    (omega (arith, falls r, r .before .before .before .before .loop .inv .room, r .before .before .before .before .loop .inv .size), r .collect .ensures .size)
 
 add-k : tie.Need-add-k Inv-loop μ-loop
-add-k c = omega (arith, c .before .before .before .before .before .before .before .before .before .loop .inv .room)
+add-k c = omega (arith, c .before .before .before .before .before .before .before .before .before .before .loop .inv .room)
 
 slice-aggregate-first-common-3 : tie.Need-slice-aggregate-first-common-3 Inv-loop μ-loop
-slice-aggregate-first-common-3 c = let r = c .before .before .before .before .before .before .before in sym (left-size r)
+slice-aggregate-first-common-3 c = sym (left-size (c .before .before .before .before .before .before .before))
 
 slice-aggregate-first-common-4 : tie.Need-slice-aggregate-first-common-4 Inv-loop μ-loop
-slice-aggregate-first-common-4 c = let r = c .before .before .before .before .before .before .before .before in sym (left-size r)
+slice-aggregate-first-common-4 c = sym (left-size (c .before .before .before .before .before .before .before .before))
 
 first-common-requires-2 : tie.Need-first-common-requires-2 Inv-loop μ-loop
 first-common-requires-2 c κs = let r = c .before .before .before .before .before .before .before .before in (left-size r, left-size r)
@@ -85,20 +84,20 @@ loop-less c = falls (c .before .before .before .before .before .before .before .
 loop-again : tie.Need-loop-again Inv-loop μ-loop
 loop-again c =
     let r = c .before .before .before .before .before .before .before .before .before in
-    let l = r .before .before .before .loop in
+    let l = r .before .before .before .before .loop in
     let a = c .before .before .before .before .before .before .before .before .before .before .before .before .before .before .before .before .before .before .before .before .before .before .args in
-    finding-on (a .alike .now) (a .cores .now) (l .rows) (l .todo) (l .k) (l .u) (l .inv) (r .before .before .loop-test .taken)
+    finding-on (a .table .now) (a .cores .now) (l .table) (l .todo) (l .k) (l .u) (l .inv) (r .before .before .before .loop-test .taken)
     (r .collect .last .1 .0) (r .collect .result) (r .collect .ensures) (c .before .before .before .before .before .store-row .last .0) (c .first-common2 .result)
     (left-size r) (c .before .before .before .before .before .store-row .ensures) (c .first-common2 .ensures)
 
 same-length : tie.Need-same-length Inv-loop μ-loop
-same-length c = c .before .loop .inv .size ∙ sym (c .before .before .before .before .before .before .before .before .before .before .before .pre .2)
+same-length c = c .before .loop .inv .size ∙ sym (c .before .before .before .before .before .before .before .before .before .before .pre .0)
 
 returns : tie.Need-returns Inv-loop μ-loop
 returns c =
     let l = c .before .loop in
-    let a = c .before .before .before .before .before .before .before .before .before .before .before .args in
-    finding-end (a .alike .now) (a .cores .now) (l .rows) (l .todo) (l .k) (l .u) (l .inv) (c .loop-test .left)
+    let a = c .before .before .before .before .before .before .before .before .before .before .args in
+    finding-end (a .table .now) (a .cores .now) (l .table) (l .todo) (l .k) (l .u) (l .inv) (c .loop-test .left)
 
 pub find-groups-spec : {M : Type 1} → statement M
 find-groups-spec =

@@ -1,9 +1,9 @@
--- `image::core_size` meets its contract. A blank mu is 3 by the definition, and any other is itself.
+-- `fields::core_size` meets its contract. A blank mu is 3 by the definition, and any other is itself.
 use Prim.Native.Nat.{ℕ, zero, suc}
 use mathlib.Core.Path.{_≡_, refl, sym, ap}
-use Rattle.image.specs.Image.{coreSize}
-use Rattle.image.proofs.core_size.Statement.{statement}
-use Rattle.image.proofs.core_size.Tie as tie
+use Rattle.fields.specs.Fields.{coreSize}
+use Rattle.fields.proofs.core_size.Statement.{statement}
+use Rattle.fields.proofs.core_size.Tie as tie
 
 kept : (x : ℕ) → (x ≡ 0 → ⊥) → x ≡ coreSize x
 kept zero h = absurd (h refl)

@@ -1,4 +1,4 @@
--- `image::read8` meets its contract. Where all bytes are there the number is made of two of four bytes, else it is 0.
+-- `fields::read8` meets its contract. Where all bytes are there the number is made of two of four bytes, else it is 0.
 use Prim.Native.Nat.{_<_, ℕ, _+_, _*_, _≤_}
 use native.Mathlib.Omega.{arith}
 use mathlib.Core.Path.{sym, ap₂, _∙_}
@@ -7,9 +7,9 @@ use borrow.Author.Tests.{leb-true}
 use denote.Ref.{now}
 use mir.Syntax.{w64}
 use mir.Val.{Fits}
-use Rattle.image.proofs.Bytes.{number-le, number-none, le-split}
-use Rattle.image.proofs.read8.Statement.{statement}
-use Rattle.image.proofs.read8.Tie as tie
+use Rattle.fields.proofs.Bytes.{number-le, number-none, le-split}
+use Rattle.fields.proofs.read8.Statement.{statement}
+use Rattle.fields.proofs.read8.Tie as tie
 
 -- eight bytes fit
 high : (y : ℕ) → y < 4294967296 → Fits w64 (4294967296 * y)

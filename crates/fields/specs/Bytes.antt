@@ -1,7 +1,7 @@
 -- Numbers in a list of bytes, the lowest byte first.
 --
 --     le w s at        the number in the w bytes from a place on
---     number w s at    the same, and 0 where fewer than w bytes stand there: what the reader reads
+--     number w s at    the same, and 0 where fewer than w bytes stand there: what a read gives
 use Prim.Native.Nat.{ℕ, zero, suc, _+_, _*_}
 use mathlib.Core.Bool.{cond}
 use mathlib.Core.List.{List}

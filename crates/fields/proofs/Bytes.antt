@@ -1,7 +1,7 @@
 -- Laws of numbers in bytes.
 --
 --     le-cong, number-cong       equal bytes make equal numbers
---     le-split                   a number of a + b bytes is made of two: how the reader makes four bytes of two, and eight of four
+--     le-split                   a number of a + b bytes is made of two: how `four` makes four bytes of two, and `read8` eight of four
 --     number-le, number-none     a number whose bytes are all there, and one that lacks some
 use Prim.Native.Nat.{ℕ, zero, suc, _+_, _*_, _^_, _≤_, _<_}
 use native.Mathlib.Omega.{arith}
@@ -13,7 +13,7 @@ use lib.Dec.{T, leb, le→leb}
 use lib.ListN.{length, getD}
 use borrow.Author.Tests.{lt-leb}
 use Rattle.sets.proofs.Tests.{T-true}
-use Rattle.image.specs.Bytes.{le, number}
+use Rattle.fields.specs.Bytes.{le, number}
 
 shift : (x i : ℕ) → x + 1 + i ≡ x + suc i
 shift x i = omega arith

@@ -1,4 +1,4 @@
--- `image::stands` meets its contract. Where the length is below the width nothing stands there; else the difference does not wrap, and the test is the
+-- `fields::stands` meets its contract. Where the length is below the width nothing stands there; else the difference does not wrap, and the test is the
 -- sum's.
 use Prim.Native.Nat.{_+_, _-_}
 use native.Mathlib.Omega.{arith}
@@ -6,8 +6,8 @@ use mathlib.Core.Path.{sym}
 use lib.Dec.{leb→le, le→leb}
 use borrow.Author.Tests.{lt-leb}
 use Rattle.sets.proofs.Tests.{T-ext}
-use Rattle.image.proofs.stands.Statement.{statement}
-use Rattle.image.proofs.stands.Tie as tie
+use Rattle.fields.proofs.stands.Statement.{statement}
+use Rattle.fields.proofs.stands.Tie as tie
 
 returns : tie.Need-returns
 returns c = let a = c .before .args in sym (lt-leb (a .at + a .w) (a .len) (omega arith))

@@ -1,11 +1,11 @@
--- `image::four` meets its contract. A number of four bytes is made of two of two bytes.
+-- `fields::four` meets its contract. A number of four bytes is made of two of two bytes.
 use Prim.Native.Nat.{ℕ, _+_, _*_}
 use native.Mathlib.Omega.{arith}
 use mathlib.Core.Path.{sym, ap₂, _∙_}
 use denote.Ref.{now}
-use Rattle.image.proofs.Bytes.{le-split}
-use Rattle.image.proofs.four.Statement.{statement}
-use Rattle.image.proofs.four.Tie as tie
+use Rattle.fields.proofs.Bytes.{le-split}
+use Rattle.fields.proofs.four.Statement.{statement}
+use Rattle.fields.proofs.four.Tie as tie
 
 two-requires : tie.Need-two-requires
 two-requires c κs = omega arith

@@ -1,0 +1,86 @@
+// The fields of a site image: numbers in bytes, the lowest byte first, a coordinate, and the core size.
+//
+// Every read is of a place that may not be there, and then gives 0. Callers cite `number-cong` of proofs/Bytes where the same bytes stand at two places.
+ghost use mathlib.Core.Path.{_≡_};
+ghost use Prim.Native.Nat.{_+_, _≤_, _<_};
+ghost use lib.Dec.{leb};
+ghost use lib.ListN.{length};
+ghost use Rattle.fields.specs.Bytes.{le, number};
+ghost use Rattle.fields.specs.Fields.{coreSize, shifted};
+
+// Whether w bytes stand at a place in len bytes. No place is so far off that the sum wraps.
+fn stands(len: usize, at: usize, w: usize) -> bool
+    ensures { λ r. ⌜ r ≡ leb (at + w) len ⌝ }
+{
+    if len < w { false } else { at <= len - w }
+}
+
+// A byte, wide enough for the sums.
+fn wide(x: u8) -> u64
+    ensures { λ r. ⌜ (r ≡ x) × (r < 256) ⌝ }
+{
+    x as u64
+}
+
+// The number in two bytes, the lowest first.
+fn two(s: &[u8], at: usize) -> u64
+    requires { ⌜ at + 2 ≤ length (now s) ⌝ }
+    ensures { λ r. ⌜ (r ≡ le 2 (now (s .entry)) at) × (r < 65536) ⌝ }
+{
+    wide(s[at]) + 256 * wide(s[at + 1])
+}
+
+// The number in four bytes: its two halves, which the compiler reads as one word.
+fn four(s: &[u8], at: usize) -> u64
+    requires { ⌜ at + 4 ≤ length (now s) ⌝ }
+    ensures { λ r. ⌜ (r ≡ le 4 (now (s .entry)) at) × (r < 4294967296) ⌝ }
+{
+    two(s, at) + 65536 * two(s, at + 2)
+}
+
+// The number in the two bytes at a place; 0 where fewer stand there.
+pub fn read2(s: &[u8], at: usize) -> u16
+    ensures { λ r. ⌜ r ≡ number 2 (now (s .entry)) at ⌝ }
+{
+    if stands(s.len(), at, 2) {
+        two(s, at) as u16
+    } else {
+        0
+    }
+}
+
+// The same for four bytes.
+pub fn read4(s: &[u8], at: usize) -> u32
+    ensures { λ r. ⌜ r ≡ number 4 (now (s .entry)) at ⌝ }
+{
+    if stands(s.len(), at, 4) {
+        four(s, at) as u32
+    } else {
+        0
+    }
+}
+
+// The same for eight.
+pub fn read8(s: &[u8], at: usize) -> u64
+    ensures { λ r. ⌜ r ≡ number 8 (now (s .entry)) at ⌝ }
+{
+    if stands(s.len(), at, 8) {
+        four(s, at) + 4294967296 * four(s, at + 4)
+    } else {
+        0
+    }
+}
+
+// The coordinate at a place, plus 2 ^ 31, so that it is never negative.
+pub fn coordinate(part: &[u8], at: usize) -> u64
+    ensures { λ r. ⌜ r ≡ shifted (number 4 (now (part .entry)) at) ⌝ }
+{
+    (read4(part, at) as u64 + 2147483648) % 4294967296
+}
+
+// How many handsets make a core: a blank mu, 0, means 3.
+pub fn core_size(mu: u16) -> u16
+    ensures { λ r. ⌜ r ≡ coreSize mu ⌝ }
+{
+    if mu == 0 { 3 } else { mu }
+}
