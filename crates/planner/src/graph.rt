@@ -199,16 +199,16 @@ fn common(table: &[u64], u: usize, v: usize, n: usize) -> u32
     requires { ⌜ (u < 512) × (v < 512) × (length (now table) ≡ 4096) × (n ≤ 512) × ((w : ℕ) → n ≤ w → w < 512 → cell (now table) u w ≡ 0) ⌝ }
     ensures { λ r. ⌜ (r ≡ sum 512 (λ w. min (cell (now (table .entry)) u w) (cell (now (table .entry)) v w))) × (r ≤ 512) ⌝ }
 {
-    if n <= 64 {
-        return common_words(table, u, v, 1);
+    if 256 < n {
+        return common_words(table, u, v, 8);
     }
-    if n <= 128 {
-        return common_words(table, u, v, 2);
-    }
-    if n <= 256 {
+    if 128 < n {
         return common_words(table, u, v, 4);
     }
-    common_words(table, u, v, 8)
+    if 64 < n {
+        return common_words(table, u, v, 2);
+    }
+    common_words(table, u, v, 1)
 }
 
 // Whether c common neighbours of a and b are enough: c / √(a b) ≥ p / q, in whole numbers.
