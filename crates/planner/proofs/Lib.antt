@@ -4,5 +4,6 @@ pub mod Lowest
 pub mod Growth
 pub mod Grouping
 pub mod Listing
+pub mod Edges
 pub mod GraphLaws
 pub mod Calls

@@ -15,7 +15,7 @@ use Rattle.image.proofs.Acceptance.{good-ends}
 use Rattle.image.proofs.Scanning.{scan-none, scan-more}
 use Rattle.planner.specs.Held.{Table, Counted, linked, faulty}
 use Rattle.planner.proofs.Rows.{zero-is}
-use Rattle.planner.proofs.GraphLaws.{linked-none, linked-more, table-has, second-new, end-told, fault-end, fault-linked, added-no, added-yes}
+use Rattle.planner.proofs.Edges.{linked-none, linked-more, table-has, second-new, end-told, fault-end, fault-linked, added-no, added-yes}
 use Rattle.planner.proofs.graph.add_edges.Statement.{statement}
 use Rattle.planner.proofs.graph.add_edges.Tie as tie
 

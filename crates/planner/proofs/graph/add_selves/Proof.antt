@@ -7,7 +7,7 @@ use mathlib.Core.Bool.{_&&_}
 use lib.Dec.{ltb, eqb}
 use lib.ListN.{length}
 use Rattle.planner.specs.Held.{Table, Counted}
-use Rattle.planner.proofs.GraphLaws.{selves-none, selves-more, selves-new}
+use Rattle.planner.proofs.Edges.{selves-none, selves-more, selves-new}
 use Rattle.planner.proofs.Rows.{counted-none}
 use Rattle.planner.proofs.graph.add_selves.Statement.{statement}
 use Rattle.planner.proofs.graph.add_selves.Tie as tie

@@ -8,7 +8,7 @@ use mathlib.Core.List.{List}
 use lib.Dec.{leb, ltb, le→leb, leb→le, not-T}
 use lib.ListN.{length, getD, length-replicate}
 use Rattle.planner.specs.Held.{SetOf}
-use Rattle.planner.proofs.GraphLaws.{passed-none, passed-yes, passed-no}
+use Rattle.planner.proofs.Edges.{passed-none, passed-yes, passed-no}
 use Rattle.planner.proofs.graph.mark_cores.Statement.{statement}
 use Rattle.planner.proofs.graph.mark_cores.Tie as tie
 
