@@ -4,13 +4,12 @@
 --     scan-found, scan-ended     so the place where the scan stops is `find`
 --     each-no, each-yes          a question to each record, by whether the scan came to the end
 --     each-passed                none is bad where it did
---     all-none, some-found       three scans in one: its answer, and none-found, each-none: what a yes says
 use Prim.Native.Nat.{ℕ, _+_, _≤_, _<_}
 use native.Mathlib.Omega.{arith}
 use native.Mathlib.Numerals.{add-one}
 use mathlib.Core.Path.{_≡_, refl, sym, ap, _∙_, subst}
 use mathlib.Core.Logic.{⊎-elim}
-use mathlib.Core.Bool.{Bool, true, false, _&&_, _||_, not}
+use mathlib.Core.Bool.{Bool, true, false, _||_, not}
 use lib.Dec.{T}
 use Rattle.sets.specs.Below.{any, find}
 use Rattle.sets.proofs.Tests.{decide, any-none, find-law, find-none, find-is, T-true, T-false}
@@ -50,26 +49,3 @@ module _ (n : ℕ) (bad : ℕ → Bool) (r : ℕ) (found : r ≡ find n bad) whe
 
   pub each-passed : n ≤ r → (k : ℕ) → k < n → T (not (bad k))
   each-passed h = any-none n bad (none-bad n bad (omega arith))
-
--- three scans at once: whether none of them finds anything
-pub all-none : (a b c : Bool) → T (not a) → T (not b) → T (not c) → true ≡ (not a && (not b && not c))
-all-none false false false p q r = refl
-all-none false false true p q r = absurd r
-all-none false true c p q r = absurd q
-all-none true b c p q r = absurd p
-
-pub some-found : (a b c : Bool) → T (a || (b || c)) → false ≡ (not a && (not b && not c))
-some-found true b c t = refl
-some-found false true c t = refl
-some-found false false true t = refl
-some-found false false false t = absurd t
-
-pub none-found : (a b c : Bool) → (not a && (not b && not c)) ≡ true → T (not a) × T (not b) × T (not c)
-none-found false false false e = (tt, tt, tt)
-none-found false false true e = absurd (subst T (sym e) tt)
-none-found false true c e = absurd (subst T (sym e) tt)
-none-found true b c e = absurd (subst T (sym e) tt)
-
-pub each-none : (n : ℕ) (bad : ℕ → Bool) (number : ℕ) (next : Opened) → T (not (any n bad)) → askEach n bad number next ≡ next
-unfolding askEach ask
-each-none n bad number next t = rw (T-false (any n bad) t)

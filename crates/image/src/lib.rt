@@ -5,8 +5,7 @@
 ghost use mathlib.Core.Path.{_≡_};
 ghost use Prim.Native.Nat.{ℕ, _+_, _*_, _≤_, _<_, min, max};
 ghost use lib.ListN.{length, take, drop};
-ghost use mathlib.Core.Bool.{_&&_, not};
-ghost use Rattle.sets.specs.Below.{any, find};
+ghost use Rattle.sets.specs.Below.{find};
 ghost use Rattle.image.specs.Image.{endA, endB};
 ghost use Rattle.image.specs.Questions.{headerOf, countsFit, thresholdsFit, tablesFit, inLimits, outOfLimits, badEnd, isLoop, repeatsEarlier, ask, askEach, askRecords, askHeader, openHeader, openOf, refusalOf};
 
@@ -225,41 +224,6 @@ fn ask_edges(part: &[u8], h: Header) -> Opened
     Opened::Site(h)
 }
 
-// Whether every edge gets a yes to questions 8 to 10, in one pass.
-fn edges_fit(part: &[u8], m: u16, n: u16) -> bool
-    requires { ⌜ n ≤ 512 ⌝ }
-    ensures { λ r. ⌜ r ≡ (not (any m (badEnd (now (part .entry)) n)) && (not (any m (isLoop (now (part .entry)))) && not (any m (repeatsEarlier (now (part .entry)))))) ⌝ }
-{
-    let mut seen = [0u64; 4096];
-    let mut k: u16 = 0;
-    while k < m {
-        if bad_end(part, n, k) {
-            return false;
-        }
-        if is_loop(part, k) {
-            return false;
-        }
-        let cell = cell_of(part, k);
-        if sets::has(&seen, cell) {
-            return false;
-        }
-        sets::mark(&mut seen, cell);
-        k += 1;
-    }
-    true
-}
-
-// Questions 8 to 10. Most images have no fault, and only where there is one is the first looked for.
-fn check_edges(part: &[u8], h: Header) -> Opened
-    requires { ⌜ h .n ≤ 512 ⌝ }
-    ensures { λ r. ⌜ r ≡ askEach (h .m) (badEnd (now (part .entry)) (h .n)) 8 (askEach (h .m) (isLoop (now (part .entry))) 9 (askEach (h .m) (repeatsEarlier (now (part .entry))) 10 (Opened.Site h))) ⌝ }
-{
-    if edges_fit(part, h.m, h.n) {
-        return Opened::Site(h);
-    }
-    ask_edges(part, h)
-}
-
 // Questions 7 to 10, of the two tables of records.
 fn ask_records(handsets: &[u8], edges: &[u8], h: Header) -> Opened
     requires { ⌜ h .n ≤ 512 ⌝ }
@@ -269,7 +233,7 @@ fn ask_records(handsets: &[u8], edges: &[u8], h: Header) -> Opened
     if far < h.n {
         return refused(7, far as usize);
     }
-    check_edges(edges, h)
+    ask_edges(edges, h)
 }
 
 // Questions 7 to 10, each table read from the part of the image that begins at its offset.

@@ -19,12 +19,12 @@ returns : tie.Need-returns
 unfolding askRecords
 returns c = c .refused .ensures ∙ sym (each-no _ _ _ (c .before .before .before .first-out-of-limits .ensures) 7 _ (c .before .if1 .taken))
 
-check-edges-requires : tie.Need-check-edges-requires
-check-edges-requires c κs = omega arith
+ask-edges-requires : tie.Need-ask-edges-requires
+ask-edges-requires c κs = omega arith
 
 returns-2 : tie.Need-returns-2
 unfolding askRecords
-returns-2 c = c .check-edges .ensures ∙ sym (each-yes _ _ _ (c .before .before .before .first-out-of-limits .ensures) 7 _ (c .before .if1 .left))
+returns-2 c = c .ask-edges .ensures ∙ sym (each-yes _ _ _ (c .before .before .before .first-out-of-limits .ensures) 7 _ (c .before .if1 .left))
 
 pub ask-records-spec : {M : Type 1} → statement M
 ask-records-spec =
@@ -34,5 +34,5 @@ ask-records-spec =
     cast-refused
     refused-requires
     returns
-    check-edges-requires
+    ask-edges-requires
     returns-2)
