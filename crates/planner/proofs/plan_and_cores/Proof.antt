@@ -14,7 +14,7 @@ use Rattle.planner.proofs.plan_and_cores.Statement.{statement}
 use Rattle.planner.proofs.plan_and_cores.Tie as tie
 
 open-header-requires : tie.Need-open-header-requires
-open-header-requires c κs = search needs
+open-header-requires c κs = tt
 
 enum-known-header : tie.Need-enum-known-header
 enum-known-header c = search needs
@@ -23,7 +23,7 @@ enum-told : tie.Need-enum-told
 enum-told c = search needs
 
 refusal-of-requires : tie.Need-refusal-of-requires
-refusal-of-requires c κs = search needs
+refusal-of-requires c κs = tt
 
 returns : tie.Need-returns
 returns c =
@@ -34,22 +34,22 @@ returns c =
     (plan-refused image (c .refusal-of .result) e (c .before .before .before .before .before .before .before .args .starts .now) (c .before .before .before .before .before .before .before .args .members .now), cores-refused image (c .refusal-of .result) e)
 
 slice-aggregate-survey : tie.Need-slice-aggregate-survey
-slice-aggregate-survey c = search needs
+slice-aggregate-survey c = refl
 
 slice-aggregate-survey-2 : tie.Need-slice-aggregate-survey-2
-slice-aggregate-survey-2 c = search needs
+slice-aggregate-survey-2 c = refl
 
 slice-aggregate-survey-3 : tie.Need-slice-aggregate-survey-3
-slice-aggregate-survey-3 c = search needs
+slice-aggregate-survey-3 c = refl
 
 survey-requires : tie.Need-survey-requires
 survey-requires c κs = (sym (c .before .before .before .before .before .before .open-header .ensures) ∙ c .before .before .before .before .header .given .1, refl, refl, refl)
 
 open-requires : tie.Need-open-requires
-open-requires c κs = search needs
+open-requires c κs = tt
 
 refusal-of-requires-2 : tie.Need-refusal-of-requires-2
-refusal-of-requires-2 c κs = search needs
+refusal-of-requires-2 c κs = tt
 
 returns-2 : tie.Need-returns-2
 returns-2 c =

@@ -16,7 +16,7 @@ use Rattle.planner.proofs.role.Statement.{statement}
 use Rattle.planner.proofs.role.Tie as tie
 
 open-header-requires : tie.Need-open-header-requires
-open-header-requires c κs = search needs
+open-header-requires c κs = tt
 
 enum-known-header : tie.Need-enum-known-header
 enum-known-header c = search needs
@@ -25,7 +25,7 @@ enum-told : tie.Need-enum-told
 enum-told c = search needs
 
 refusal-of-requires : tie.Need-refusal-of-requires
-refusal-of-requires c κs = search needs
+refusal-of-requires c κs = tt
 
 returns : tie.Need-returns
 returns c =
@@ -36,22 +36,22 @@ returns c =
     known-refused image (c .refusal-of .result) e (c .before .before .before .before .before .args .v)
 
 slice-aggregate-survey : tie.Need-slice-aggregate-survey
-slice-aggregate-survey c = search needs
+slice-aggregate-survey c = refl
 
 slice-aggregate-survey-2 : tie.Need-slice-aggregate-survey-2
-slice-aggregate-survey-2 c = search needs
+slice-aggregate-survey-2 c = refl
 
 slice-aggregate-survey-3 : tie.Need-slice-aggregate-survey-3
-slice-aggregate-survey-3 c = search needs
+slice-aggregate-survey-3 c = refl
 
 survey-requires : tie.Need-survey-requires
 survey-requires c κs = (sym (c .before .before .before .before .before .before .open-header .ensures) ∙ c .before .before .before .before .header .given .1, refl, refl, refl)
 
 open-requires : tie.Need-open-requires
-open-requires c κs = search needs
+open-requires c κs = tt
 
 refusal-of-requires-2 : tie.Need-refusal-of-requires-2
-refusal-of-requires-2 c κs = search needs
+refusal-of-requires-2 c κs = tt
 
 returns-2 : tie.Need-returns-2
 returns-2 c =
@@ -62,7 +62,7 @@ returns-2 c =
     known-refused image (c .refusal-of2 .result) e (c .before .before .before .before .before .before .before .before .before .before .before .before .before .before .before .args .v)
 
 cast-if2 : tie.Need-cast-if2
-cast-if2 c = search needs
+cast-if2 c = omega arith
 
 returns-3 : tie.Need-returns-3
 returns-3 c =

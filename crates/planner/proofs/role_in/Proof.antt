@@ -7,7 +7,7 @@ use Rattle.planner.proofs.role_in.Statement.{statement}
 use Rattle.planner.proofs.role_in.Tie as tie
 
 has-requires : tie.Need-has-requires
-has-requires c κs = search needs
+has-requires c κs = tt
 
 first-containing-requires : tie.Need-first-containing-requires
 first-containing-requires c κs = search needs

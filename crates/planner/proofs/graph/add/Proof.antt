@@ -7,28 +7,28 @@ use Rattle.planner.proofs.graph.add.Statement.{statement}
 use Rattle.planner.proofs.graph.add.Tie as tie
 
 mul-mark : tie.Need-mul-mark
-mul-mark c = search needs
+mul-mark c = omega arith
 
 add-mark : tie.Need-add-mark
-add-mark c = search needs
+add-mark c = omega arith
 
 mark-requires : tie.Need-mark-requires
-mark-requires c κs = search needs
+mark-requires c κs = tt
 
 mul-sizes : tie.Need-mul-sizes
-mul-sizes c = search needs
+mul-sizes c = omega arith
 
 slice-read-sizes : tie.Need-slice-read-sizes
-slice-read-sizes c = search needs
+slice-read-sizes c = omega arith
 
 add-sizes : tie.Need-add-sizes
 add-sizes c = let s = c .before .before .before .before .before .before .before in omega (arith, row-most (s .pre .3) (s .args .u) (s .pre .0))
 
 mul-sizes-2 : tie.Need-mul-sizes-2
-mul-sizes-2 c = search needs
+mul-sizes-2 c = omega arith
 
 slice-write-sizes : tie.Need-slice-write-sizes
-slice-write-sizes c = search needs
+slice-write-sizes c = omega arith
 
 same-length : tie.Need-same-length
 same-length c = search needs

@@ -4,7 +4,6 @@ use native.Mathlib.Omega.{arith}
 use mathlib.Core.Path.{_≡_, _∙_, ap}
 use lib.Dec.{leb}
 use lib.ListN.{getD}
-use borrow.Author.Needs.{needs}
 use Rattle.planner.proofs.graph.have_enough.Statement.{statement}
 use Rattle.planner.proofs.graph.have_enough.Tie as tie
 
@@ -12,25 +11,25 @@ common-requires : tie.Need-common-requires
 common-requires c κs = c .before .before .pre .0
 
 cast-c : tie.Need-cast-c
-cast-c c = search needs
+cast-c c = omega arith
 
 mul-meets-epsilon : tie.Need-mul-meets-epsilon
-mul-meets-epsilon c = search needs
+mul-meets-epsilon c = omega arith
 
 shared-slice-read-meets-epsilon : tie.Need-shared-slice-read-meets-epsilon
-shared-slice-read-meets-epsilon c = search needs
+shared-slice-read-meets-epsilon c = omega arith
 
 cast-meets-epsilon : tie.Need-cast-meets-epsilon
-cast-meets-epsilon c = search needs
+cast-meets-epsilon c = omega arith
 
 mul-meets-epsilon-2 : tie.Need-mul-meets-epsilon-2
-mul-meets-epsilon-2 c = search needs
+mul-meets-epsilon-2 c = omega arith
 
 shared-slice-read-meets-epsilon-2 : tie.Need-shared-slice-read-meets-epsilon-2
-shared-slice-read-meets-epsilon-2 c = search needs
+shared-slice-read-meets-epsilon-2 c = omega arith
 
 cast-meets-epsilon-2 : tie.Need-cast-meets-epsilon-2
-cast-meets-epsilon-2 c = search needs
+cast-meets-epsilon-2 c = omega arith
 
 meets-epsilon-requires : tie.Need-meets-epsilon-requires
 meets-epsilon-requires c κs = let s = c .before .before .before .before .before in (c .before .before .common .ensures .1, s .pre .1 .1, s .pre .1 .2, s .pre .1 .3, s .pre .1 .4)

@@ -12,28 +12,28 @@ facts : (c : tie.Start) → Read (c .args .image .now) (c .args .h)
 facts c = header-is (c .args .image .now) (c .args .h) (checked-of (c .pre .0 .0)) (c .pre .0 .1)
 
 cast-m : tie.Need-cast-m
-cast-m c = search needs
+cast-m c = omega arith
 
 cast-a : tie.Need-cast-a
-cast-a c = search needs
+cast-a c = omega arith
 
 mul-b : tie.Need-mul-b
-mul-b c = search needs
+mul-b c = omega arith
 
 add-b : tie.Need-add-b
-add-b c = search needs
+add-b c = omega arith
 
 sub-edges : tie.Need-sub-edges
-sub-edges c = search needs
+sub-edges c = omega arith
 
 part-edges-start : tie.Need-part-edges-start
-part-edges-start c = search needs
+part-edges-start c = omega arith
 
 part-edges-end : tie.Need-part-edges-end
 part-edges-end c = let r = facts (c .before .before .before .before .before .before .before .before) in omega (arith, r .length-of, r .fits .edges-to)
 
 slice-aggregate-list-by-length : tie.Need-slice-aggregate-list-by-length
-slice-aggregate-list-by-length c = search needs
+slice-aggregate-list-by-length c = refl
 
 list-by-length-requires : tie.Need-list-by-length-requires
 list-by-length-requires c κs =
@@ -45,7 +45,7 @@ slice-aggregate-drop-edges : tie.Need-slice-aggregate-drop-edges
 slice-aggregate-drop-edges c = search needs
 
 sub-drop-edges : tie.Need-sub-drop-edges
-sub-drop-edges c = search needs
+sub-drop-edges c = omega arith
 
 drop-edges-requires : tie.Need-drop-edges-requires
 drop-edges-requires c κs =

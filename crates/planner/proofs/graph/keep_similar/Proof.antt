@@ -13,28 +13,28 @@ facts : (c : tie.Start) → Read (c .args .image .now) (c .args .h)
 facts c = header-is (c .args .image .now) (c .args .h) (checked-of (c .pre .0)) (c .pre .1)
 
 cast-a : tie.Need-cast-a
-cast-a c = search needs
+cast-a c = omega arith
 
 cast-b : tie.Need-cast-b
-cast-b c = search needs
+cast-b c = omega arith
 
 mul-b : tie.Need-mul-b
-mul-b c = search needs
+mul-b c = omega arith
 
 add-b : tie.Need-add-b
-add-b c = search needs
+add-b c = omega arith
 
 sub-edges : tie.Need-sub-edges
-sub-edges c = search needs
+sub-edges c = omega arith
 
 part-edges-start : tie.Need-part-edges-start
-part-edges-start c = search needs
+part-edges-start c = omega arith
 
 part-edges-end : tie.Need-part-edges-end
 part-edges-end c = let r = facts (c .before .before .before .before .before .before .before) in omega (arith, r .length-of, r .fits .edges-to)
 
 slice-aggregate-list-unlike : tie.Need-slice-aggregate-list-unlike
-slice-aggregate-list-unlike c = search needs
+slice-aggregate-list-unlike c = refl
 
 list-unlike-requires : tie.Need-list-unlike-requires
 list-unlike-requires c κs =
@@ -50,7 +50,7 @@ list-unlike-requires c κs =
     )
 
 slice-aggregate-copy-sizes : tie.Need-slice-aggregate-copy-sizes
-slice-aggregate-copy-sizes c = search needs
+slice-aggregate-copy-sizes c = refl
 
 copy-sizes-requires : tie.Need-copy-sizes-requires
 copy-sizes-requires c κs = let s = c .before .before .before .before .before .before .before .before .before .before .before .before .before in (s .pre .3 .counted .size, refl)
@@ -74,13 +74,13 @@ slice-aggregate-mark-cores : tie.Need-slice-aggregate-mark-cores
 slice-aggregate-mark-cores c = search needs
 
 cast-mark-cores : tie.Need-cast-mark-cores
-cast-mark-cores c = search needs
+cast-mark-cores c = omega arith
 
 core-size-requires : tie.Need-core-size-requires
-core-size-requires c κs = search needs
+core-size-requires c κs = tt
 
 cast-mark-cores-2 : tie.Need-cast-mark-cores-2
-cast-mark-cores-2 c = search needs
+cast-mark-cores-2 c = omega arith
 
 mark-cores-requires : tie.Need-mark-cores-requires
 mark-cores-requires c κs =

@@ -20,34 +20,34 @@ facts : (c : tie.Start) → Read (c .args .image .now) (c .args .h)
 facts c = header-is (c .args .image .now) (c .args .h) (passed c .0) (passed c .1)
 
 cast-n : tie.Need-cast-n
-cast-n c = search needs
+cast-n c = omega arith
 
 cast-m : tie.Need-cast-m
-cast-m c = search needs
+cast-m c = omega arith
 
 cast-from : tie.Need-cast-from
-cast-from c = search needs
+cast-from c = omega arith
 
 mul-to : tie.Need-mul-to
-mul-to c = search needs
+mul-to c = omega arith
 
 add-to : tie.Need-add-to
-add-to c = search needs
+add-to c = omega arith
 
 cast-a : tie.Need-cast-a
-cast-a c = search needs
+cast-a c = omega arith
 
 mul-b : tie.Need-mul-b
-mul-b c = search needs
+mul-b c = omega arith
 
 add-b : tie.Need-add-b
-add-b c = search needs
+add-b c = omega arith
 
 sub-read-positions : tie.Need-sub-read-positions
-sub-read-positions c = search needs
+sub-read-positions c = omega arith
 
 part-read-positions-start : tie.Need-part-read-positions-start
-part-read-positions-start c = search needs
+part-read-positions-start c = omega arith
 
 part-read-positions-end : tie.Need-part-read-positions-end
 part-read-positions-end c = let r = facts (c .before .before .before .before .before .before .before .before .before) in omega (arith, r .length-of, r .fits .handsets-to)
@@ -71,10 +71,10 @@ add-selves-requires : tie.Need-add-selves-requires
 add-selves-requires c κs = let s = c .before .before .before .before .before .before .before .before .before .before .before .before .before .before .before .before .before .before .before .before in (s .pre .3, s .pre .4, facts s .fits .n-limit)
 
 sub-add-edges : tie.Need-sub-add-edges
-sub-add-edges c = search needs
+sub-add-edges c = omega arith
 
 part-add-edges-start : tie.Need-part-add-edges-start
-part-add-edges-start c = search needs
+part-add-edges-start c = omega arith
 
 part-add-edges-end : tie.Need-part-add-edges-end
 part-add-edges-end c = let r = facts (c .before .before .before .before .before .before .before .before .before .before .before .before .before .before .before .before .before .before .before .before .before .before .before .before .before) in omega (arith, r .length-of, r .fits .edges-to)

@@ -3,39 +3,38 @@ use Prim.Native.Nat.{ℕ, _+_, _*_, _≤_}
 use native.Mathlib.Nat.{mul-le-mul}
 use native.Mathlib.Omega.{arith}
 use mathlib.Core.Path.{ap₂}
-use borrow.Author.Needs.{needs}
 use Rattle.planner.proofs.graph.squared_distance.Statement.{statement}
 use Rattle.planner.proofs.graph.squared_distance.Tie as tie
 
 mul-gap-of : tie.Need-mul-gap-of
-mul-gap-of c = search needs
+mul-gap-of c = omega arith
 
 shared-slice-read-gap-of : tie.Need-shared-slice-read-gap-of
-shared-slice-read-gap-of c = search needs
+shared-slice-read-gap-of c = omega arith
 
 mul-gap-of-2 : tie.Need-mul-gap-of-2
-mul-gap-of-2 c = search needs
+mul-gap-of-2 c = omega arith
 
 shared-slice-read-gap-of-2 : tie.Need-shared-slice-read-gap-of-2
-shared-slice-read-gap-of-2 c = search needs
+shared-slice-read-gap-of-2 c = omega arith
 
 gap-of-requires : tie.Need-gap-of-requires
-gap-of-requires c κs = search needs
+gap-of-requires c κs = tt
 
 mul-gap-of-3 : tie.Need-mul-gap-of-3
-mul-gap-of-3 c = search needs
+mul-gap-of-3 c = omega arith
 
 shared-slice-read-gap-of-3 : tie.Need-shared-slice-read-gap-of-3
-shared-slice-read-gap-of-3 c = search needs
+shared-slice-read-gap-of-3 c = omega arith
 
 mul-gap-of-4 : tie.Need-mul-gap-of-4
-mul-gap-of-4 c = search needs
+mul-gap-of-4 c = omega arith
 
 shared-slice-read-gap-of-4 : tie.Need-shared-slice-read-gap-of-4
-shared-slice-read-gap-of-4 c = search needs
+shared-slice-read-gap-of-4 c = omega arith
 
 gap-of-requires-2 : tie.Need-gap-of-requires-2
-gap-of-requires-2 c κs = search needs
+gap-of-requires-2 c κs = tt
 
 square-x : (c : tie.After-gap-of2) → c .before .before .before .gap-of .result * c .before .before .before .gap-of .result ≤ 4000000000000
 square-x c = let h : c .before .before .before .gap-of .result ≤ 2000000 = omega (arith, c .before .before .before .gap-of .ensures, c .before .before .before .before .before .before .before .before .pre .4) in mul-le-mul h h

@@ -11,10 +11,10 @@ use Rattle.planner.proofs.graph.survey.Statement.{statement}
 use Rattle.planner.proofs.graph.survey.Tie as tie
 
 slice-aggregate-read-network : tie.Need-slice-aggregate-read-network
-slice-aggregate-read-network c = search needs
+slice-aggregate-read-network c = refl
 
 slice-aggregate-read-network-2 : tie.Need-slice-aggregate-read-network-2
-slice-aggregate-read-network-2 c = search needs
+slice-aggregate-read-network-2 c = refl
 
 read-network-requires : tie.Need-read-network-requires
 read-network-requires c κs = let s = c .before .before .before .before .before .before .before .before in (s .pre .0, refl, refl, s .pre .1, s .pre .2)
@@ -37,7 +37,7 @@ slice-aggregate-keep-near-2 : tie.Need-slice-aggregate-keep-near-2
 slice-aggregate-keep-near-2 c = search needs
 
 slice-aggregate-keep-near-3 : tie.Need-slice-aggregate-keep-near-3
-slice-aggregate-keep-near-3 c = search needs
+slice-aggregate-keep-near-3 c = refl
 
 keep-near-requires : tie.Need-keep-near-requires
 keep-near-requires c κs =

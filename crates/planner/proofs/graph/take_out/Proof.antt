@@ -10,28 +10,28 @@ use Rattle.planner.proofs.graph.take_out.Statement.{statement}
 use Rattle.planner.proofs.graph.take_out.Tie as tie
 
 mul-has : tie.Need-mul-has
-mul-has c = search needs
+mul-has c = omega arith
 
 add-has : tie.Need-add-has
-add-has c = search needs
+add-has c = omega arith
 
 has-requires : tie.Need-has-requires
-has-requires c κs = search needs
+has-requires c κs = tt
 
 mul-unmark : tie.Need-mul-unmark
-mul-unmark c = search needs
+mul-unmark c = omega arith
 
 add-unmark : tie.Need-add-unmark
-add-unmark c = search needs
+add-unmark c = omega arith
 
 unmark-requires : tie.Need-unmark-requires
-unmark-requires c κs = search needs
+unmark-requires c κs = tt
 
 mul-sizes : tie.Need-mul-sizes
-mul-sizes c = search needs
+mul-sizes c = omega arith
 
 slice-read-sizes : tie.Need-slice-read-sizes
-slice-read-sizes c = search needs
+slice-read-sizes c = omega arith
 
 sub-sizes : tie.Need-sub-sizes
 sub-sizes c =
@@ -40,10 +40,10 @@ sub-sizes c =
     omega (arith, row-some (a .table .now) (a .sizes .now) (a .u) (a .v) (s .pre .0) (s .pre .1) (s .pre .2) (s .pre .3) (one-is _ (sym (c .before .before .before .before .before .before .has .ensures) ∙ c .before .if1 .taken)))
 
 mul-sizes-2 : tie.Need-mul-sizes-2
-mul-sizes-2 c = search needs
+mul-sizes-2 c = omega arith
 
 slice-write-sizes : tie.Need-slice-write-sizes
-slice-write-sizes c = search needs
+slice-write-sizes c = omega arith
 
 same-length : tie.Need-same-length
 same-length c = search needs
