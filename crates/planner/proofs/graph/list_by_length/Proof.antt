@@ -76,8 +76,8 @@ loop-again c =
     let d : c .before .squared-distance .result ≡ apart (a .xs .now) (a .ys .now) (endA (a .edges .now) (l .k)) (endB (a .edges .now) (l .k)) =
     c .before .squared-distance .ensures ∙ ap₂ (apart (a .xs .now) (a .ys .now)) (c .before .before .before .end-a .ensures) (c .before .before .end-b .ensures) in
     let lists = ⊎-elim
-    (λ w. split-yes (l .inv .0) (l .inv .4) (l .inv .5) (c .if1 .c) (omega (arith, s .pre .0 .0, l .inv .0, l .inv .2, h)) (le→leb _ (a .limit) (omega (arith, w .0 .taken, d))) (w .1))
-    (λ w. split-no (l .inv .0) (l .inv .4) (l .inv .5) (c .if1 .c) (omega (arith, s .pre .0 .0, l .inv .0, l .inv .3, h)) (not-T (leb _ (a .limit)) (λ t. omega (arith, leb→le _ (a .limit) t, w .0 .left, d))) (w .1))
+    (λ w. split-yes (l .inv .0) (l .inv .4) (l .inv .5) (c .if1 .c) (omega (arith, s .pre .0 .0, l .inv .0, l .inv .2, h)) (subst (λ (x : ℕ). T (leb x (a .limit))) d (le→leb (c .before .squared-distance .result) (a .limit) (omega (arith, w .0 .taken)))) (w .1))
+    (λ w. split-no (l .inv .0) (l .inv .4) (l .inv .5) (c .if1 .c) (omega (arith, s .pre .0 .0, l .inv .0, l .inv .3, h)) (subst (λ (x : ℕ). T (not (leb x (a .limit)))) d (not-T (leb (c .before .squared-distance .result) (a .limit)) (λ t. omega (arith, leb→le (c .before .squared-distance .result) (a .limit) t, w .0 .left)))) (w .1))
     (c .if1 .came) in (
       ⊎-elim (λ w. omega (arith, w .1, l .inv .0)) (λ w. omega (arith, w .1, l .inv .0)) (c .if1 .came),
       omega arith,
