@@ -25,7 +25,7 @@ use Rattle.sets.proofs.Bits.{bitAt-set-same, bitAt-set-other, bitAt-clear-same,
 use Rattle.image.specs.Image.{endA, endB, joins}
 use Rattle.image.specs.Questions.{badEnd, isLoop, repeatsEarlier}
 use Rattle.community.proofs.Site.{joins-comm}
-use Rattle.planner.specs.Held.{SetOf, Table, Counted, linked, faulty, Added, Dropped, both}
+use Rattle.planner.specs.Held.{SetOf, Table, Counted, linked, faulty, Added, Dropped}
 
 -- ---- the ends of an edge, either way round
 pub one-bit : (a : Bool) → eqb (bit a) 1 ≡ a

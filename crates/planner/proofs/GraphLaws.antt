@@ -21,7 +21,7 @@ use lib.Seq.{length-take-le}
 use Rattle.sets.specs.Below.{any, bit, count, sum}
 use Rattle.sets.specs.Bits.{cell}
 use Rattle.sets.proofs.Tests.{and-make, and-left, and-right, or-left, or-right, or-cases, decide, T-true, T-false, T-ext, any-make, any-take, any-none, none-any, not-any, eqb-comm}
-use Rattle.sets.proofs.Counting.{bit-false, count-cong, count-sum, count-wide, count-at, count-le, sum-cong}
+use Rattle.sets.proofs.Counting.{bit-false, count-cong, count-sum, count-wide, count-at, sum-cong}
 use Rattle.fields.specs.Fields.{coreSize}
 use Rattle.image.specs.Image.{handsetCount, edgeCount, imageLength, limitSquared, epsilonNum, epsilonDen, muField, mu, handsetRecords, edgeRecords, gap, xAt, yAt, distanceAt, distanceSquared, endA, endB, joins, adjacent, within, neighbour}
 use Rattle.image.specs.Questions.{Accepted, headerOf, outOfLimits, badEnd, isLoop, repeatsEarlier}
@@ -387,10 +387,6 @@ module _ (g : Network) (small : g .n ≤ 512) where
   near-past : (u v : ℕ) → g .n ≤ v → T (not (nearIn g u v))
   unfolding nearIn
   near-past u v h = both-no u v (g .neighbour u v) h
-
-  pub size-le : (u : ℕ) → neighbourhoodSize g u ≤ 512
-  unfolding neighbourhoodSize
-  size-le u = omega (arith, count-le (g .n) (g .neighbour u))
 
   pub near-common : {ws : List ℕ} (u v : ℕ) → Table ws (nearIn g) → u < g .n → v < g .n
       → sum 512 (λ w. min (cell ws u w) (cell ws v w)) ≡ commonNeighbours g u v

@@ -5,7 +5,7 @@
 --     split-yes, split-no                 those of a loop that lists both what passes and what does not
 --     picks-below                         the listed numbers keep the bound of those gone through
 --     picks-cong, picks-through           another test that says the same; a list picked from a list
-use Prim.Native.Nat.{ℕ, zero, suc, _+_, _-_, _≤_, _<_}
+use Prim.Native.Nat.{ℕ, _+_, _-_, _≤_, _<_}
 use native.Mathlib.Omega.{arith}
 use native.Mathlib.Numerals.{add-one}
 use native.Mathlib.Decide.{decLt}

@@ -6,7 +6,7 @@
 ghost use mathlib.Core.Path.{_≡_};
 ghost use mathlib.Core.Bool.{_&&_, not};
 ghost use Prim.Native.Nat.{ℕ, _+_, _*_, _-_, _≤_, _<_, min};
-ghost use lib.Dec.{T, leb, ltb, eqb};
+ghost use lib.Dec.{leb, ltb, eqb};
 ghost use lib.ListN.{length, getD, replicate};
 ghost use Rattle.sets.specs.Below.{sum};
 ghost use Rattle.sets.specs.Bits.{cell, withBit, withoutBit};

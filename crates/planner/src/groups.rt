@@ -1,7 +1,7 @@
 // The communities of a network, from its similarity table and its set of cores: each is what is reachable from its smallest core.
 //
 // Sets are eight words; a table is 512 rows of eight words. Everything goes a word at a time, and each core's row is or'ed once.
-ghost use Prim.Native.Nat.{ℕ, _+_, _*_, _≤_, _<_};
+ghost use Prim.Native.Nat.{_+_, _*_, _≤_, _<_};
 ghost use mathlib.Core.Path.{_≡_};
 ghost use lib.ListN.{length};
 ghost use Rattle.sets.specs.Bits.{bitAt};

@@ -9,15 +9,10 @@ mod tables;
 
 ghost use mathlib.Core.Path.{_≡_};
 ghost use Prim.Native.Nat.{_<_, _≤_};
-ghost use lib.ListN.{length, replicate};
-ghost use Rattle.image.specs.Questions.{Accepted, headerOf, openOf};
-ghost use Rattle.community.specs.Network.{role, neighbourhoodSize};
-ghost use Rattle.community.specs.Site.{network};
-ghost use Rattle.planner.specs.Plan.{PlanCall, CoreWords, knownOf, standing};
-ghost use Rattle.planner.specs.Held.{Found, roleFor};
+ghost use Rattle.planner.specs.Plan.{PlanCall, CoreWords, knownOf};
+ghost use Rattle.planner.specs.Held.{roleFor};
 use community::Role;
 use community::Standing;
-use image::Header;
 use image::Opened;
 use image::Refusal;
 

@@ -1,12 +1,10 @@
 -- `planner::plan_and_cores` meets its contract: a header or a site that is refused ends the call, and of an accepted one the rows found are its communities.
-use Prim.Native.Nat.{_<_}
 use mathlib.Core.Path.{_≡_, refl, sym, ap, _∙_, subst}
-use mathlib.Core.Bool.{Bool, not}
+use mathlib.Core.Bool.{Bool}
 use lib.Dec.{T}
 use Rattle.image.specs.Questions.{openOf, refusalOf, Accepted}
-use Rattle.image.specs.Image.{handsetCount}
 use Rattle.image.specs.declared.Opened.the-variants as O
-use Rattle.image.proofs.Acceptance.{header-no, header-yes}
+use Rattle.image.proofs.Acceptance.{header-no}
 use Rattle.planner.proofs.Calls.{plan-refused, cores-refused, refused-of, found-of, plan-found, cores-found}
 use Rattle.planner.proofs.GraphLaws.{is-yes}
 use borrow.Author.Needs.{needs}

@@ -7,7 +7,6 @@ use mathlib.Core.List.{List}
 use lib.ListN.{length, getD}
 use Rattle.sets.specs.Bits.{withoutBit}
 use Rattle.sets.proofs.Bits.{length-withoutBit}
-use Rattle.image.specs.Image.{endA, endB}
 use Rattle.planner.specs.Held.{Dropped, Counted}
 use Rattle.planner.proofs.Edges.{dropped-none, dropped-more}
 use Rattle.planner.proofs.graph.drop_edges.Statement.{statement}

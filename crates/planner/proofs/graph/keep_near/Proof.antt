@@ -1,6 +1,5 @@
 -- `planner::graph::keep_near` meets its contract. The positions are those of the image, so the edges listed as too long are just those whose ends are not
 -- within gamma; without them the table of all edges is that of the neighbour relation.
-use Prim.Native.Nat.{ℕ}
 use native.Mathlib.Omega.{arith}
 use mathlib.Core.Path.{refl}
 use Rattle.planner.proofs.GraphLaws.{Read, header-is, checked-of, edgePart-length, length-ready, list-small, near-kept}

@@ -1,6 +1,5 @@
 -- `planner::graph::keep_similar` meets its contract. The table and the sizes are those of the neighbour relation, so the edges listed are just those whose
 -- ends are not similar; without them the table is that of the similarity relation, and its sizes tell the cores.
-use Prim.Native.Nat.{ℕ}
 use native.Mathlib.Omega.{arith}
 use mathlib.Core.Path.{refl}
 use Rattle.planner.proofs.Rows.{row-most, counted-copy}

@@ -1,12 +1,9 @@
 -- `planner::graph::read_network` meets its contract. The header has passed, so both tables lie in the image; a position or an edge at fault is a no to
 -- one of questions 7 to 10, and else all of them get a yes.
 use native.Mathlib.Omega.{arith}
-use mathlib.Core.Path.{_≡_, sym, ap, _∙_, subst}
-use mathlib.Core.Bool.{Bool, true, false, not}
-use mathlib.Core.List.{List}
+use mathlib.Core.Path.{_≡_}
 use Rattle.image.specs.Questions.{headerOf}
 use Rattle.image.proofs.Acceptance.{Checked, header-yes}
-use Rattle.planner.specs.Held.{Positions, Added}
 use Rattle.planner.proofs.GraphLaws.{Read, header-is, edgePart-length, positions-told, edges-told, not-read, network-read}
 use borrow.Author.Needs.{needs}
 use Rattle.planner.proofs.graph.read_network.Statement.{statement}

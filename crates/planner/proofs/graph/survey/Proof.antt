@@ -1,9 +1,6 @@
 -- `planner::graph::survey` meets its contract: an image that is read without a fault is accepted, and what is kept of its edges is its network.
-use native.Mathlib.Omega.{arith}
-use mathlib.Core.Path.{_≡_, refl, sym, ap, _∙_}
+use mathlib.Core.Path.{refl}
 use lib.Dec.{T}
-use mathlib.Core.Bool.{Bool, not}
-use Rattle.image.specs.Questions.{headerOf, Accepted}
 use Rattle.image.proofs.Acceptance.{header-yes}
 use Rattle.planner.proofs.GraphLaws.{is-yes, keep-ready, survey-no, survey-yes}
 use borrow.Author.Needs.{needs}
