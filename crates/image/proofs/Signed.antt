@@ -17,7 +17,7 @@ use Rattle.image.specs.Image.{gap, xAt, yAt, distanceAt, distanceSquared
 use Rattle.image.specs.Signed as S
 use Rattle.image.specs.Signed.{signed32, signedX, signedY, signedDistance}
 
-abs-sub : (a b : ℕ) → natAbs (subℕ a b) ≡ gap a b
+pub abs-sub : (a b : ℕ) → natAbs (subℕ a b) ≡ gap a b
 abs-sub a b =
     ⊎-elim
     (λ t. ap (λ (c : Bool). natAbs (cond c (negsuc (b - suc a)) (pos (a - b)))) (T-true (ltb a b) t) ∙ omega (arith, ltb→lt a b t))
@@ -46,7 +46,7 @@ signed-up a h =
     (λ t. rw (T-false (ltb a 2147483648) t) (omega (arith, nltb→le a 2147483648 t), omega (arith, nltb→le a 2147483648 t)))
     (decide (ltb a 2147483648))
 
-square : (z : ℤ) → z *ℤ z ≡ pos (natAbs z * natAbs z)
+pub square : (z : ℤ) → z *ℤ z ≡ pos (natAbs z * natAbs z)
 square (pos n) = refl
 square (negsuc n) = refl
 

@@ -61,7 +61,7 @@ refused-of s never = go (openOf s) refl
     go (O.Refused r) e = refl
 
 -- ---- an accepted image
-pub found-of : (s : List ℕ) {alike sizes cores rows : List ℕ} {k : ℕ} → Accepted s → Survey (network s) sizes alike cores → GroupsFound alike cores rows k
+pub found-of : (s : List ℕ) {alike cores rows : List ℕ} {k : ℕ} → Accepted s → Survey (network s) alike cores → GroupsFound alike cores rows k
     → Found (network s) cores rows k
 unfolding headerOf
 found-of s ok y f = record {

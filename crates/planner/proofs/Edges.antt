@@ -6,26 +6,27 @@
 --     linked-none, linked-more     the table of no edge, and of one edge more; linked-fault: its cell is set before only where the edge is a loop or a repeat
 --     added-no, added-yes          what adding the edges tells, where an edge is at fault and where none is
 --     dropped-none, dropped-more   a table without no edge, and without one edge more
---     selves-none, selves-more     each handset with itself; passed-none, -yes, -no: a set of those that pass a test
-use Prim.Native.Nat.{ℕ, zero, suc, _+_, _*_, _-_, _<_}
+--     selves-none, selves-more     each handset with itself; passed-none, passed-on: a set of those that pass a test
+use Prim.Native.Nat.{ℕ, zero, suc, _+_, _*_, _-_, _≤_, _<_}
 use native.Mathlib.Omega.{arith}
 use native.Mathlib.Numerals.{add-one}
 use native.Mathlib.Decide.{ℕ-discrete}
 use mathlib.Core.Path.{_≡_, refl, sym, ap, ap₂, _∙_, subst}
 use mathlib.Core.Logic.{_⊎_, inl, inr, ⊎-elim}
-use mathlib.Core.Bool.{Bool, true, false, _&&_, _||_, not, and-true, or-false}
+use mathlib.Core.Bool.{Bool, true, false, _&&_, _||_, not, cond, and-true, or-false}
 use mathlib.Core.List.{List}
 use lib.Dec.{T, ltb, eqb, ltb→lt, lt→ltb, eqb→eq, eqb-refl, T-not, not-T}
 use lib.ListN.{length, getD, length-replicate}
 use Rattle.sets.specs.Below.{any, bit}
 use Rattle.sets.specs.Bits.{bitAt, cell, withBit, withoutBit}
-use Rattle.sets.proofs.Tests.{and-make, and-left, and-right, or-left, or-right, or-cases, T-true, T-false, T-ext, any-make, any-cong, eqb-of, eqb-not}
+use Rattle.sets.proofs.Tests.{and-make, and-left, and-right, or-left, or-right, or-cases, decide, T-true, T-false, T-ext, any-make, any-cong, eqb-of, eqb-not}
 use Rattle.sets.proofs.Counting.{bit-true, bit-false}
 use Rattle.sets.proofs.Bits.{bitAt-set-same, bitAt-set-other, bitAt-clear-same, bitAt-clear-other, length-withBit, length-withoutBit, bitAt-lt, bitAt-zeros, zeros}
 use Rattle.image.specs.Image.{endA, endB, joins}
 use Rattle.image.specs.Questions.{badEnd, isLoop, repeatsEarlier}
 use Rattle.community.proofs.Site.{joins-comm}
-use Rattle.planner.specs.Held.{SetOf, Table, Counted, linked, faulty, Added, Dropped}
+use Rattle.planner.specs.Held.{Empty, SetOf, Table, Counted, linked, faulty, Added, Dropped}
+use Rattle.planner.proofs.Rows.{empty-bit}
 
 -- ---- the ends of an edge, either way round
 pub one-bit : (a : Bool) → eqb (bit a) 1 ≡ a
@@ -33,7 +34,7 @@ one-bit true = refl
 one-bit false = refl
 
 pub table-cong : {ws : List ℕ} (f g : ℕ → ℕ → Bool) → ((u v : ℕ) → u < 512 → v < 512 → f u v ≡ g u v) → Table ws f → Table ws g
-table-cong f g e t = record { size = t .size; bits = λ u v h l. t .bits u v h l ∙ ap bit (e u v h l) }
+table-cong f g e t = record { bits = λ u v h l. t .bits u v h l ∙ ap bit (e u v h l) }
 
 pub joins-cases : (part : List ℕ) (u v k : ℕ) → T (joins part u v k)
     → ((endA part k ≡ u) × (endB part k ≡ v)) ⊎ ((endA part k ≡ v) × (endB part k ≡ u))
@@ -79,8 +80,8 @@ module _ (part : List ℕ) (k u v : ℕ) (ha : endA part k < 512) (hb : endB par
       (joins-cases part u v k t)))
 
   -- marked
-  pub cell-both : (ws : List ℕ) (x : Bool) → length ws ≡ 4096 → cell ws u v ≡ bit x → cell (withBit (withBit ws first) second) u v ≡ bit (joins part u v k || x)
-  cell-both ws x len e = pick (ℕ-discrete (u * 512 + v) second) (ℕ-discrete (u * 512 + v) first)
+  pub cell-both : (ws : List ℕ) (x : Bool) → endA part k * 8 + 8 ≤ length ws → endB part k * 8 + 8 ≤ length ws → cell ws u v ≡ bit x → cell (withBit (withBit ws first) second) u v ≡ bit (joins part u v k || x)
+  cell-both ws x ra rb e = pick (ℕ-discrete (u * 512 + v) second) (ℕ-discrete (u * 512 + v) first)
     where
       on : T (joins part u v k) → 1 ≡ bit (joins part u v k || x)
       on t = sym (bit-true (joins part u v k || x) (or-left (joins part u v k) x t))
@@ -102,9 +103,9 @@ module _ (part : List ℕ) (k u v : ℕ) (ha : endA part k < 512) (hb : endB par
           ∙ ap (λ (y : Bool). bit (y || x)) (sym (elsewhere d p))
 
   -- cleared
-  pub cell-neither : (ws : List ℕ) (x : Bool) → length ws ≡ 4096 → cell ws u v ≡ bit x
+  pub cell-neither : (ws : List ℕ) (x : Bool) → endA part k * 8 + 8 ≤ length ws → endB part k * 8 + 8 ≤ length ws → cell ws u v ≡ bit x
       → cell (withoutBit (withoutBit ws first) second) u v ≡ bit (x && not (joins part u v k))
-  cell-neither ws x len e = pick (ℕ-discrete (u * 512 + v) second) (ℕ-discrete (u * 512 + v) first)
+  cell-neither ws x ra rb e = pick (ℕ-discrete (u * 512 + v) second) (ℕ-discrete (u * 512 + v) first)
     where
       off : T (joins part u v k) → 0 ≡ bit (x && not (joins part u v k))
       off t =
@@ -138,13 +139,13 @@ or-swap true false c = refl
 or-swap false b c = refl
 
 module _ (n : ℕ) (edges : List ℕ) (k : ℕ) where
-  pub linked-more : {ws : List ℕ} → endA edges k < 512 → endB edges k < 512 → Table ws (linked n edges k)
+  pub linked-more : {ws : List ℕ} → endA edges k < 512 → endB edges k < 512 → endA edges k * 8 + 8 ≤ length ws → endB edges k * 8 + 8 ≤ length ws
+      → Table ws (linked n edges k)
       → Table (withBit (withBit ws (endA edges k * 512 + endB edges k)) (endB edges k * 512 + endA edges k)) (linked n edges (k + 1))
   unfolding linked any
-  linked-more {ws} ha hb t = record {
-    size = length-withBit (withBit ws (endA edges k * 512 + endB edges k)) (endB edges k * 512 + endA edges k) ∙ length-withBit ws (endA edges k * 512 + endB edges k) ∙ t .size;
+  linked-more {ws} ha hb ra rb t = record {
     bits = λ u v hu hv.
-        cell-both edges k u v ha hb hu hv ws (linked n edges k u v) (t .size) (t .bits u v hu hv)
+        cell-both edges k u v ha hb hu hv ws (linked n edges k u v) ra rb (t .bits u v hu hv)
         ∙ ap bit (or-swap (joins edges u v k) (ltb u n && eqb u v) (any k (joins edges u v)) ∙ sym (ap (λ (j : ℕ). linked n edges j u v) (add-one k)));
   }
 
@@ -209,22 +210,23 @@ pub added-yes : (edges : List ℕ) (n m : ℕ) {ws sizes : List ℕ} → T (not 
 added-yes edges n m t w c = record { answer = sym (T-true (not (any m (faulty edges n))) t); table = λ x. w; counted = λ x. c }
 
 -- ---- a table without the first c edges of a list
-pub dropped-none : (edges list : List ℕ) (ws : List ℕ) → length ws ≡ 4096 → Dropped edges list 0 ws ws
+pub dropped-none : (edges list : List ℕ) (ws : List ℕ) → Dropped edges list 0 ws ws
 unfolding any
-dropped-none edges list ws len = record { size = len; bits = λ u v h l. one (bitAt ws (u * 512 + v)) (bitAt-lt ws (u * 512 + v)) }
+dropped-none edges list ws = record { size = refl; bits = λ u v h l. one (bitAt ws (u * 512 + v)) (bitAt-lt ws (u * 512 + v)) }
   where
     one : (x : ℕ) → x < 2 → x ≡ bit (eqb x 1 && true)
     one zero h = refl
     one (suc zero) h = refl
     one (suc (suc x)) h = absurd (omega arith)
 
-pub dropped-more : (edges list : List ℕ) (c k : ℕ) (before ws : List ℕ) → k ≡ getD list c 0 → endA edges k < 512 → endB edges k < 512 → Dropped edges list c before ws
+pub dropped-more : (edges list : List ℕ) (c k : ℕ) (before ws : List ℕ) → k ≡ getD list c 0
+    → endA edges k < 512 → endB edges k < 512 → endA edges k * 8 + 8 ≤ length ws → endB edges k * 8 + 8 ≤ length ws → Dropped edges list c before ws
     → Dropped edges list (c + 1) before (withoutBit (withoutBit ws (endA edges k * 512 + endB edges k)) (endB edges k * 512 + endA edges k))
 unfolding any
-dropped-more edges list c k before ws e ha hb t = record {
+dropped-more edges list c k before ws e ha hb ra rb t = record {
   size = length-withoutBit (withoutBit ws (endA edges k * 512 + endB edges k)) (endB edges k * 512 + endA edges k) ∙ length-withoutBit ws (endA edges k * 512 + endB edges k) ∙ t .size;
   bits = λ u v hu hv.
-      cell-neither edges k u v ha hb hu hv ws (eqb (cell before u v) 1 && not (any c (λ i. joins edges u v (getD list i 0)))) (t .size) (t .bits u v hu hv)
+      cell-neither edges k u v ha hb hu hv ws (eqb (cell before u v) 1 && not (any c (λ i. joins edges u v (getD list i 0)))) ra rb (t .bits u v hu hv)
       ∙ ap bit (
       regroup (eqb (cell before u v) 1) (any c (λ i. joins edges u v (getD list i 0))) (joins edges u v k)
       ∙ ap (λ (j : ℕ). eqb (cell before u v) 1 && not (joins edges u v j || any c (λ i. joins edges u v (getD list i 0)))) e
@@ -250,14 +252,11 @@ none-below : (u : ℕ) (b : Bool) → (ltb u 0 && b) ≡ false
 none-below u b = T-false (ltb u 0 && b) (not-T (ltb u 0 && b) (λ t. absurd (omega (arith, ltb→lt u 0 (and-left (ltb u 0) b t)))))
 
 -- ---- each handset with itself
-pub selves-none : Table (zeros 4096) (λ u v. ltb u 0 && eqb u v)
-selves-none = record {
-  size = length-replicate {A = ℕ} 4096 0;
-  bits = λ u v h l. bitAt-zeros 4096 (u * 512 + v) ∙ ap bit (sym (none-below u (eqb u v)));
-}
+pub selves-none : {ws : List ℕ} → Empty ws → Table ws (λ u v. ltb u 0 && eqb u v)
+selves-none e = record { bits = λ u v h l. empty-bit e (u * 512 + v) ∙ ap bit (sym (none-below u (eqb u v))) }
 
-pub selves-more : (ws : List ℕ) (k : ℕ) → k < 512 → Table ws (λ u v. ltb u k && eqb u v) → Table (withBit ws ((k * 512 + k))) (λ u v. ltb u (k + 1) && eqb u v)
-selves-more ws k hk t = record { size = length-withBit ws ((k * 512 + k)) ∙ t .size; bits = λ u v h l. go u v h l (ℕ-discrete (u * 512 + v) ((k * 512 + k))) }
+pub selves-more : (ws : List ℕ) (k : ℕ) → k < 512 → k * 8 + 8 ≤ length ws → Table ws (λ u v. ltb u k && eqb u v) → Table (withBit ws (k * 512 + k)) (λ u v. ltb u (k + 1) && eqb u v)
+selves-more ws k hk room t = record { bits = λ u v h l. go u v h l (ℕ-discrete (u * 512 + v) (k * 512 + k)) }
   where
     kept : (u v : ℕ) → v < 512 → (u * 512 + v ≡ (k * 512 + k) → ⊥) → Dec (u ≡ k) → (ltb u k && eqb u v) ≡ (ltb u (k + 1) && eqb u v)
     kept u v l d (no e) = ap (λ (x : Bool). x && eqb u v) (sym (next-other k u e))
@@ -267,13 +266,13 @@ selves-more ws k hk t = record { size = length-withBit ws ((k * 512 + k)) ∙ t 
         (λ x. absurd (T-not (eqb u v) n (and-right (ltb u k) (eqb u v) x)))
         (λ x. absurd (T-not (eqb u v) n (and-right (ltb u (k + 1)) (eqb u v) x)))
 
-    go : (u v : ℕ) → u < 512 → v < 512 → Dec (u * 512 + v ≡ (k * 512 + k)) → cell (withBit ws ((k * 512 + k))) u v ≡ bit (ltb u (k + 1) && eqb u v)
+    go : (u v : ℕ) → u < 512 → v < 512 → Dec (u * 512 + v ≡ (k * 512 + k)) → cell (withBit ws (k * 512 + k)) u v ≡ bit (ltb u (k + 1) && eqb u v)
     go u v h l (yes e) =
         let p : u ≡ k = omega arith in
         let q : u ≡ v = omega arith in
-        ap (bitAt (withBit ws ((k * 512 + k)))) e ∙ bitAt-set-same ws ((k * 512 + k)) (omega (arith, t .size))
+        ap (bitAt (withBit ws (k * 512 + k))) e ∙ bitAt-set-same ws (k * 512 + k) (omega arith)
         ∙ sym (bit-true (ltb u (k + 1) && eqb u v) (and-make (ltb u (k + 1)) (eqb u v) (next-self k u p) (eqb-of u v q)))
-    go u v h l (no d) = bitAt-set-other ws ((k * 512 + k)) (u * 512 + v) d ∙ t .bits u v h l ∙ ap bit (kept u v l d (ℕ-discrete u k))
+    go u v h l (no d) = bitAt-set-other ws (k * 512 + k) (u * 512 + v) d ∙ t .bits u v h l ∙ ap bit (kept u v l d (ℕ-discrete u k))
 
 pub selves-new : (ws : List ℕ) (k : ℕ) → k < 512 → Table ws (λ u v. ltb u k && eqb u v) → cell ws k k ≡ 0
 selves-new ws k h t =
@@ -283,7 +282,7 @@ selves-new ws k h t =
 pub passed-none : (f : ℕ → Bool) → SetOf (zeros 8) (λ u. ltb u 0 && f u)
 passed-none f = record { size = length-replicate {A = ℕ} 8 0; bits = λ u h. bitAt-zeros 8 u ∙ ap bit (sym (none-below u (f u))) }
 
-pub passed-yes : (ws : List ℕ) (f : ℕ → Bool) (k : ℕ) → k < 512 → T (f k) → SetOf ws (λ u. ltb u k && f u) → SetOf (withBit ws k) (λ u. ltb u (k + 1) && f u)
+passed-yes : (ws : List ℕ) (f : ℕ → Bool) (k : ℕ) → k < 512 → T (f k) → SetOf ws (λ u. ltb u k && f u) → SetOf (withBit ws k) (λ u. ltb u (k + 1) && f u)
 passed-yes ws f k hk y t = record { size = length-withBit ws k ∙ t .size; bits = λ u h. go u h (ℕ-discrete u k) }
   where
     go : (u : ℕ) → u < 512 → Dec (u ≡ k) → bitAt (withBit ws k) u ≡ bit (ltb u (k + 1) && f u)
@@ -292,7 +291,7 @@ passed-yes ws f k hk y t = record { size = length-withBit ws k ∙ t .size; bits
         ∙ sym (bit-true (ltb u (k + 1) && f u) (and-make (ltb u (k + 1)) (f u) (next-self k u e) (rw e y)))
     go u h (no d) = bitAt-set-other ws k u d ∙ t .bits u h ∙ ap (λ (x : Bool). bit (x && f u)) (sym (next-other k u d))
 
-pub passed-no : (ws : List ℕ) (f : ℕ → Bool) (k : ℕ) → T (not (f k)) → SetOf ws (λ u. ltb u k && f u) → SetOf ws (λ u. ltb u (k + 1) && f u)
+passed-no : (ws : List ℕ) (f : ℕ → Bool) (k : ℕ) → T (not (f k)) → SetOf ws (λ u. ltb u k && f u) → SetOf ws (λ u. ltb u (k + 1) && f u)
 passed-no ws f k n t = record { size = t .size; bits = λ u h. t .bits u h ∙ go u (ℕ-discrete u k) }
   where
     go : (u : ℕ) → Dec (u ≡ k) → bit (ltb u k && f u) ≡ bit (ltb u (k + 1) && f u)
@@ -301,3 +300,10 @@ passed-no ws f k n t = record { size = t .size; bits = λ u h. t .bits u h ∙ g
         ap bit (T-ext (ltb u k && f u) (ltb u (k + 1) && f u)
         (λ x. absurd (omega (arith, ltb→lt u k (and-left (ltb u k) (f u) x))))
         (λ x. absurd (T-not (f k) n (rw (← e) (and-right (ltb u (k + 1)) (f u) x)))))
+
+pub passed-on : (ws : List ℕ) (f : ℕ → Bool) (k : ℕ) → k < 512 → SetOf ws (λ u. ltb u k && f u) → SetOf (cond (f k) (withBit ws k) ws) (λ u. ltb u (k + 1) && f u)
+passed-on ws f k h t =
+    ⊎-elim
+    (λ y. rw (T-true (f k) y) (passed-yes ws f k h y t))
+    (λ z. rw (T-false (f k) z) (passed-no ws f k z t))
+    (decide (f k))

@@ -7,7 +7,9 @@
 --     accept, position-fault, edge-fault     the image is accepted exactly when no position and no edge is at fault
 --     near-size, near-common       the counts of the neighbour table are those of the network; enough-is: and the test by them is the definition's
 --     cores-set                    the cores by the sizes of the similarity table
---     near-kept, survey-made       the two steps that drop edges; survey-no, survey-yes: what the survey tells
+--     list-room, part-room         an edge of a list stands in the part, and its ends have rows
+--     near-kept, survey-made       the two steps that drop edges; near-sizes: the sizes after the first
+--     cores-end, similar-end       no core and no similar handset from n on
 use Prim.Native.Nat.{ℕ, _+_, _*_, _-_, _≤_, _<_, min}
 use native.Mathlib.Omega.{arith}
 use native.Mathlib.Nat.{add-sub-cancel-left}
@@ -19,7 +21,7 @@ use lib.Dec.{T, leb, ltb, eqb, ltb→lt, lt→ltb, eqb→eq, eqb-refl, T-not, no
 use lib.ListN.{length, getD, take, drop, length-drop}
 use lib.Seq.{length-take-le}
 use Rattle.sets.specs.Below.{any, bit, count, sum}
-use Rattle.sets.specs.Bits.{cell}
+use Rattle.sets.specs.Bits.{bitAt, cell}
 use Rattle.sets.proofs.Tests.{and-make, and-left, and-right, or-left, or-right, or-cases, decide, T-true, T-false, T-ext, any-make, any-take, any-none, none-any, not-any, eqb-comm}
 use Rattle.sets.proofs.Counting.{bit-false, count-cong, count-sum, count-wide, count-at, sum-cong}
 use Rattle.fields.specs.Fields.{coreSize}
@@ -31,9 +33,9 @@ use Rattle.community.specs.Network.{Network, neighbourhoodSize, commonNeighbour
 use Rattle.community.specs.Site.{network}
 use Rattle.community.proofs.Similarity.{similar-sym, similar-self}
 use Rattle.community.proofs.Site.{adjacent-comm, neighbour-comm, neighbour-self, accepted-sound}
-use Rattle.planner.specs.Held.{SetOf, Table, Counted, linked, faulty, Added, Positions, NetworkRead, Picks, Dropped, NearKept, Survey, SurveyCall, apart, enough, both, nearIn, similarIn, coreIn}
+use Rattle.planner.specs.Held.{SetOf, Table, Counted, linked, faulty, Added, Positions, NetworkRead, Picks, Dropped, NearKept, Survey, Room, Stands, Placed, apart, enough, both, nearIn, similarIn, coreIn}
 use Rattle.planner.proofs.Edges.{joins-cases, joins-one, one-bit, table-cong}
-use Rattle.planner.proofs.Picking.{picks-below, picks-cong, picks-through}
+use Rattle.planner.proofs.Picking.{picks-below, picks-cong, picks-through, picks-front, picks-back}
 
 -- the second half of similarity: enough common neighbours for the two sizes
 abbrev pub meets : Network → ℕ → ℕ → Bool
@@ -87,9 +89,8 @@ module _ (s : List ℕ) (P R : ℕ → ℕ → Bool) (p : Along s P) (r : Along 
 
   -- the table left
   pub dropped-is : {ws after list : List ℕ} {c : ℕ} (b : ℕ → ℕ → Bool) → Table ws (λ u v. b u v && P u v) → Dropped (edgeRecords s) list c ws after
-      → Picks list c (λ k. k) (edgeCount s) gone → Table after (λ u v. b u v && R u v)
+      → Picks (λ j. getD list j 0) c (λ k. k) (edgeCount s) gone → Table after (λ u v. b u v && R u v)
   dropped-is {ws} {after} {list} {c} b t d picks = record {
-    size = d .size;
     bits = λ u v hu hv.
         d .bits u v hu hv
         ∙ ap bit (
@@ -173,7 +174,7 @@ module _ (s : List ℕ) (ok : Accepted s) where
 
   -- dropping the edges that are too long leaves the neighbour relation
   pub near-table : {ws after list : List ℕ} {c : ℕ} → Table ws (linked (handsetCount s) (edgeRecords s) (edgeCount s)) → Dropped (edgeRecords s) list c ws after
-      → Picks list c (λ k. k) (edgeCount s) (λ k. not (within s (endA (edgeRecords s) k) (endB (edgeRecords s) k))) → Table after (nearIn (network s))
+      → Picks (λ j. getD list j 0) c (λ k. k) (edgeCount s) (λ k. not (within s (endA (edgeRecords s) k) (endB (edgeRecords s) k))) → Table after (nearIn (network s))
   unfolding nearIn neighbour
   near-table t d picks =
       dropped-is s tied (neighbour s) tied-along near-along
@@ -184,7 +185,7 @@ module _ (s : List ℕ) (ok : Accepted s) where
 
   -- dropping the edges whose ends are not similar leaves the similarity relation
   pub similar-table : {ws after list : List ℕ} {c : ℕ} → Table ws (nearIn (network s)) → Dropped (edgeRecords s) list c ws after
-      → Picks list c (λ k. k) (edgeCount s) (λ k. within s (endA (edgeRecords s) k) (endB (edgeRecords s) k) && not (meets (network s) (endA (edgeRecords s) k) (endB (edgeRecords s) k)))
+      → Picks (λ j. getD list j 0) c (λ k. k) (edgeCount s) (λ k. within s (endA (edgeRecords s) k) (endB (edgeRecords s) k) && not (meets (network s) (endA (edgeRecords s) k) (endB (edgeRecords s) k)))
       → Table after (similarIn (network s))
   unfolding nearIn similarIn similar
   similar-table t d picks =
@@ -431,33 +432,42 @@ module _ (s : List ℕ) (h : Header) (ok : Accepted s) (e : h ≡ headerOf s) wh
   part-ends k l =
       subst (λ (part : List ℕ). (endA part k < handsetCount s) × (endB part k < handsetCount s)) (sym (edgePart-is s h e)) (ends-below s ok k (omega (arith, l, read .m-is)))
 
-  -- and below 512
-  pub ends-small : (k : ℕ) → k < h .m → (k < 4096) × (4 * k + 4 ≤ length (edgePart s h)) × (endA (edgePart s h) k < 512) × (endB (edgePart s h) k < 512)
-  ends-small k l =
-      let b = part-ends k l in
-      let r = read in
-      (omega (arith, l, r .fits .m-limit), omega (arith, l, edgePart-length s h r), omega (arith, b .0, r .n-is, r .fits .n-limit), omega (arith, b .1, r .n-is, r .fits .n-limit))
+  -- an edge stands in the part, and its ends have rows in tables with room for the handsets
+  module _ (ws sizes : List ℕ) (rows : 8 * h .n ≤ length ws) (places : h .n ≤ length sizes) where
+    room : (u : ℕ) → u < handsetCount s → Room ws sizes u
+    room u l = (omega (arith, l, read .n-is, read .fits .n-limit), omega (arith, l, read .n-is), omega (arith, l, read .n-is))
 
-  -- the edges of a list that is picked from all
-  pub list-small : {list : List ℕ} {c : ℕ} {test : ℕ → Bool} → Picks list c (λ k. k) (h .m) test
-      → (i : ℕ) → i < c → (getD list i 0 < 4096) × (4 * getD list i 0 + 4 ≤ length (edgePart s h)) × (endA (edgePart s h) (getD list i 0) < 512) × (endB (edgePart s h) (getD list i 0) < 512)
-  list-small {list} p i l = ends-small (getD list i 0) (picks-below (h .m) (λ k q. q) p i l)
+    pub list-room : (list : List ℕ) {c : ℕ} {test : ℕ → Bool} → Picks (λ j. getD list j 0) c (λ k. k) (h .m) test
+        → (i : ℕ) → i < c → Stands (edgePart s h) (getD list i 0) × Room ws sizes (endA (edgePart s h) (getD list i 0)) × Room ws sizes (endB (edgePart s h) (getD list i 0))
+    list-room list p i l =
+        let k : ℕ = getD list i 0 in
+        let q : k < h .m = picks-below (h .m) (λ j q. q) p i l in
+        let b = part-ends k q in
+        ((omega (arith, q, read .fits .m-limit), omega (arith, q, edgePart-length s h read)), room (endA (edgePart s h) k) (b .0), room (endB (edgePart s h) k) (b .1))
 
-  module _ (xs ys : List ℕ) (at : (v : ℕ) → v < h .n → (getD xs v 0 ≡ xAt (handsetRecords s) v) × (getD ys v 0 ≡ yAt (handsetRecords s) v)) where
-    -- two handsets are at most 2,000,000 apart, either way
-    pub length-ready : (k : ℕ) → k < h .m
-        → (endA (edgePart s h) k < 512) × (endB (edgePart s h) k < 512)
-        × (gap (getD xs (endA (edgePart s h) k) 0) (getD xs (endB (edgePart s h) k) 0) ≤ 2000000) × (gap (getD ys (endA (edgePart s h) k) 0) (getD ys (endB (edgePart s h) k) 0) ≤ 2000000)
-    length-ready k l =
-        let b = part-ends k l in
-        let small = ends-small k l in
-        let p = at (endA (edgePart s h) k) (omega (arith, b .0, read .n-is)) in
-        let q = at (endB (edgePart s h) k) (omega (arith, b .1, read .n-is)) in (
-          small .2,
-          small .3,
-          omega (arith, p .0, q .0, x-limits s ok (endA (edgePart s h) k) (b .0), x-limits s ok (endB (edgePart s h) k) (b .1)),
-          omega (arith, p .1, q .1, y-limits s ok (endA (edgePart s h) k) (b .0), y-limits s ok (endB (edgePart s h) k) (b .1)),
-        )
+  -- the part of a list from r to the count of edges, as long as it is
+  abbrev pub behind : ℕ → List ℕ → List ℕ
+  behind r list = take (h .m - r) (drop r list)
+
+  pub behind-length : (r : ℕ) (list : List ℕ) → r ≤ h .m → h .m ≤ length list → length (behind r list) ≡ h .m - r
+  behind-length r list l q = length-take-le (h .m - r) (drop r list) (omega (arith, length-drop r list))
+
+  pub behind-picks : (list : List ℕ) {r : ℕ} {test : ℕ → Bool} → r ≤ h .m → h .m ≤ length list → Picks (λ j. getD list (h .m - 1 - j) 0) (h .m - r) (λ k. k) (h .m) test
+      → Picks (λ j. getD (behind r list) j 0) (length (behind r list)) (λ k. k) (h .m) test
+  behind-picks list {r} {test} l q p =
+      subst (λ (c : ℕ). Picks (λ j. getD (behind r list) j 0) c (λ k. k) (h .m) test) (sym (behind-length r list l q)) (picks-back list l p)
+
+  module _ (xs ys : List ℕ) (lx : h .n ≤ length xs) (ly : h .n ≤ length ys)
+      (at : (v : ℕ) → v < h .n → (getD xs v 0 ≡ xAt (handsetRecords s) v) × (getD ys v 0 ≡ yAt (handsetRecords s) v)) where
+    placed : (u : ℕ) → u < handsetCount s → Placed xs ys u
+    placed u l =
+        let p = at u (omega (arith, l, read .n-is)) in
+        let x = x-limits s ok u l in
+        let y = y-limits s ok u l in
+        (omega (arith, l, read .n-is), omega (arith, l, read .n-is), omega (arith, p .0, x), omega (arith, p .0, x), omega (arith, p .1, y), omega (arith, p .1, y))
+
+    pub length-ready : (k : ℕ) → k < h .m → Placed xs ys (endA (edgePart s h) k) × Placed xs ys (endB (edgePart s h) k)
+    length-ready k l = let b = part-ends k l in (placed (endA (edgePart s h) k) (b .0), placed (endB (edgePart s h) k) (b .1))
 
     -- the test of an edge's length is the definition's
     apart-is : (u v : ℕ) → u < handsetCount s → v < handsetCount s → leb (apart xs ys u v) (h .limit) ≡ within s u v
@@ -474,21 +484,22 @@ module _ (s : List ℕ) (h : Header) (ok : Accepted s) (e : h ≡ headerOf s) wh
         apart-is (endA (edgePart s h) k) (endB (edgePart s h) k) (b .0) (b .1)
         ∙ ap (λ (part : List ℕ). within s (endA part k) (endB part k)) (edgePart-is s h e)
 
-    pub near-kept : {near far ws after sizes : List ℕ} {r : ℕ} → Table ws (linked (h .n) (edgeRecords s) (h .m)) → r ≤ h .m
-        → Picks near r (λ k. k) (h .m) (λ k. leb (apart xs ys (endA (edgePart s h) k) (endB (edgePart s h) k)) (h .limit))
-        → Picks far (h .m - r) (λ k. k) (h .m) (λ k. not (leb (apart xs ys (endA (edgePart s h) k) (endB (edgePart s h) k)) (h .limit)))
-        → Dropped (edgePart s h) far (h .m - r) ws after → Counted after sizes → NearKept s r near after sizes
-    near-kept {near} {far} {ws} {after} {sizes} {r} t most p q d c =
+    pub near-kept : {list ws after sizes : List ℕ} {r : ℕ} → Table ws (linked (h .n) (edgeRecords s) (h .m)) → r ≤ h .m
+        → Picks (λ j. getD list j 0) r (λ k. k) (h .m) (λ k. leb (apart xs ys (endA (edgePart s h) k) (endB (edgePart s h) k)) (h .limit))
+        → Picks (λ j. getD (behind r list) j 0) (length (behind r list)) (λ k. k) (h .m) (λ k. not (leb (apart xs ys (endA (edgePart s h) k) (endB (edgePart s h) k)) (h .limit)))
+        → Dropped (edgePart s h) (behind r list) (length (behind r list)) ws after → Counted after sizes → NearKept s r list after sizes
+    near-kept {list} {ws} {after} {sizes} {r} t most p q d c =
+        let far : List ℕ = behind r list in
         let p′ = picks-cong (λ k. leb (apart xs ys (endA (edgePart s h) k) (endB (edgePart s h) k)) (h .limit)) (λ k. within s (endA (edgeRecords s) k) (endB (edgeRecords s) k)) length-test p in
         let q′ = picks-cong (λ k. not (leb (apart xs ys (endA (edgePart s h) k) (endB (edgePart s h) k)) (h .limit))) (λ k. not (within s (endA (edgeRecords s) k) (endB (edgeRecords s) k))) (λ k l. ap not (length-test k l)) q in
         let t′ = subst (λ (n : ℕ). Table ws (linked n (edgeRecords s) (h .m))) (read .n-is) t in
         record {
           most = omega (arith, most, read .m-is);
-          listed = subst (λ (m : ℕ). Picks near r (λ k. k) m (λ k. within s (endA (edgeRecords s) k) (endB (edgeRecords s) k))) (read .m-is) p′;
+          listed = subst (λ (m : ℕ). Picks (λ j. getD list j 0) r (λ k. k) m (λ k. within s (endA (edgeRecords s) k) (endB (edgeRecords s) k))) (read .m-is) p′;
           table =
               near-table s ok (subst (λ (m : ℕ). Table ws (linked (handsetCount s) (edgeRecords s) m)) (read .m-is) t′)
-              (subst (λ (part : List ℕ). Dropped part far (h .m - r) ws after) (edgePart-is s h e) d)
-              (subst (λ (m : ℕ). Picks far (h .m - r) (λ k. k) m (λ k. not (within s (endA (edgeRecords s) k) (endB (edgeRecords s) k)))) (read .m-is) q′);
+              (subst (λ (part : List ℕ). Dropped part far (length far) ws after) (edgePart-is s h e) d)
+              (subst (λ (m : ℕ). Picks (λ j. getD far j 0) (length far) (λ k. k) m (λ k. not (within s (endA (edgeRecords s) k) (endB (edgeRecords s) k)))) (read .m-is) q′);
           counted = c;
         }
 
@@ -497,8 +508,11 @@ module _ (s : List ℕ) (h : Header) (ok : Accepted s) (e : h ≡ headerOf s) wh
     small : network s .n ≤ 512
     small = omega (arith, read .n-is, read .fits .n-limit)
 
-    pub listed-small : (i : ℕ) → i < c → (getD near i 0 < 4096) × (4 * getD near i 0 + 4 ≤ length (edgePart s h)) × (endA (edgePart s h) (getD near i 0) < 512) × (endB (edgePart s h) (getD near i 0) < 512)
-    listed-small = list-small (subst (λ (m : ℕ). Picks near c (λ k. k) m (λ k. within s (endA (edgeRecords s) k) (endB (edgeRecords s) k))) (sym (read .m-is)) (kept .listed))
+    pub near-sizes : (u : ℕ) → u < network s .n → getD sizes u 0 ≡ neighbourhoodSize (network s) u
+    near-sizes u l = kept .counted .rows u (omega (arith, l, small)) ∙ near-size (network s) small u (kept .table) l
+
+    pub listed-all : Picks (λ j. getD near j 0) c (λ k. k) (h .m) (λ k. within s (endA (edgeRecords s) k) (endB (edgeRecords s) k))
+    listed-all = subst (λ (m : ℕ). Picks (λ j. getD near j 0) c (λ k. k) m (λ k. within s (endA (edgeRecords s) k) (endB (edgeRecords s) k))) (sym (read .m-is)) (kept .listed)
 
     pub rows-end : (u w : ℕ) → u < 512 → h .n ≤ w → w < 512 → cell ws u w ≡ 0
     rows-end u w hu l hw =
@@ -514,27 +528,51 @@ module _ (s : List ℕ) (h : Header) (ok : Accepted s) (e : h ≡ headerOf s) wh
         ap (λ (part : List ℕ). not (enough ws sizes (h .p) (h .q) (endA part k) (endB part k))) (edgePart-is s h e)
         ∙ ap not (enough-is (network s) small (endA (edgeRecords s) k) (endB (edgeRecords s) k) (h .p) (h .q) (kept .table) (kept .counted) (b .0) (b .1) (read .p-is) (read .q-is))
 
-    module _ {unlike : List ℕ} {r : ℕ}
-        (picked : Picks unlike r (λ i. getD near i 0) c (λ k. not (enough ws sizes (h .p) (h .q) (endA (edgePart s h) k) (endB (edgePart s h) k)))) where
-      picked-all : Picks unlike r (λ k. k) (edgeCount s) (λ k. within s (endA (edgeRecords s) k) (endB (edgeRecords s) k) && not (meets (network s) (endA (edgeRecords s) k) (endB (edgeRecords s) k)))
+    module _ (list : List ℕ) {r : ℕ} (most : r ≤ length list)
+        (picked : Picks (λ j. getD list j 0) r (λ i. getD near i 0) c (λ k. not (enough ws sizes (h .p) (h .q) (endA (edgePart s h) k) (endB (edgePart s h) k)))) where
+      -- the list of the edges to drop, as the code takes it
+      abbrev pub unlike : List ℕ
+      unlike = take (r - 0) (drop 0 list)
+
+      pub unlike-length : length unlike ≡ r
+      unlike-length = length-take-le (r - 0) (drop 0 list) (omega (arith, length-drop 0 list)) ∙ (let p : r - 0 ≡ r = omega arith in p)
+
+      picked-all : Picks (λ j. getD unlike j 0) (length unlike) (λ k. k) (edgeCount s) (λ k. within s (endA (edgeRecords s) k) (endB (edgeRecords s) k) && not (meets (network s) (endA (edgeRecords s) k) (endB (edgeRecords s) k)))
       picked-all =
-          picks-through
+          subst (λ (j : ℕ). Picks (λ i. getD unlike i 0) j (λ k. k) (edgeCount s) (λ k. within s (endA (edgeRecords s) k) (endB (edgeRecords s) k) && not (meets (network s) (endA (edgeRecords s) k) (endB (edgeRecords s) k))))
+          (sym unlike-length)
+          (picks-front list
+          (picks-through
           (picks-cong (λ k. not (enough ws sizes (h .p) (h .q) (endA (edgePart s h) k) (endB (edgePart s h) k))) (λ k. not (meets (network s) (endA (edgeRecords s) k) (endB (edgeRecords s) k))) unlike-test picked)
-          (kept .listed)
+          (kept .listed)))
 
-      pub unlike-small : (i : ℕ) → i < r → (getD unlike i 0 < 4096) × (4 * getD unlike i 0 + 4 ≤ length (edgePart s h)) × (endA (edgePart s h) (getD unlike i 0) < 512) × (endB (edgePart s h) (getD unlike i 0) < 512)
-      unlike-small =
-          list-small (subst (λ (m : ℕ). Picks unlike r (λ k. k) m (λ k. within s (endA (edgeRecords s) k) (endB (edgeRecords s) k) && not (meets (network s) (endA (edgeRecords s) k) (endB (edgeRecords s) k)))) (sym (read .m-is)) picked-all)
+      pub unlike-all : Picks (λ j. getD unlike j 0) (length unlike) (λ k. k) (h .m) (λ k. within s (endA (edgeRecords s) k) (endB (edgeRecords s) k) && not (meets (network s) (endA (edgeRecords s) k) (endB (edgeRecords s) k)))
+      unlike-all =
+          subst (λ (m : ℕ). Picks (λ j. getD unlike j 0) (length unlike) (λ k. k) m (λ k. within s (endA (edgeRecords s) k) (endB (edgeRecords s) k) && not (meets (network s) (endA (edgeRecords s) k) (endB (edgeRecords s) k)))) (sym (read .m-is)) picked-all
 
-      pub survey-made : {after alike cores : List ℕ} {least : ℕ} → Dropped (edgePart s h) unlike r ws after → Counted after alike → least ≡ coreSize (h .mu)
-          → SetOf cores (λ u. ltb u (h .n) && leb least (getD alike u 0)) → Survey (network s) sizes after cores
-      survey-made {after} {alike} {cores} {least} d counted mu-read set =
-          let t = similar-table s ok (kept .table) (subst (λ (part : List ℕ). Dropped part unlike r ws after) (edgePart-is s h e) d) picked-all in
+      pub survey-made : {after sizes′ cores : List ℕ} {least : ℕ} → Dropped (edgePart s h) unlike (length unlike) ws after → Counted after sizes′ → least ≡ coreSize (h .mu)
+          → SetOf cores (λ u. ltb u (h .n) && leb least (getD sizes′ u 0)) → Survey (network s) after cores
+      survey-made {after} {sizes′} {cores} {least} d counted mu-read set =
+          let t = similar-table s ok (kept .table) (subst (λ (part : List ℕ). Dropped part unlike (length unlike) ws after) (edgePart-is s h e) d) picked-all in
           record {
-            near-sizes = λ u l. kept .counted .rows u (omega (arith, l, small)) ∙ near-size (network s) small u (kept .table) l;
             similar-table = t;
             core-set = cores-set (network s) small (h .n) least (read .n-is) (core-size-is s least (h .mu) mu-read (read .mu-is)) t counted set;
           }
+
+  -- ---- no core and no similar handset from n on
+  module _ {alike cores : List ℕ} (y : Survey (network s) alike cores) where
+    pub cores-end : (v : ℕ) → h .n ≤ v → v < 512 → bitAt cores v ≡ 0
+    unfolding coreIn
+    cores-end v l q =
+        y .core-set .bits v q
+        ∙ bit-false (ltb v (handsetCount s) && isCore (network s) v) (not-T (ltb v (handsetCount s) && isCore (network s) v) (λ t.
+        omega (arith, l, read .n-is, ltb→lt v (handsetCount s) (and-left (ltb v (handsetCount s)) (isCore (network s) v) t))))
+
+    pub similar-end : (u v : ℕ) → u < 512 → h .n ≤ v → v < 512 → cell alike u v ≡ 0
+    unfolding similarIn
+    similar-end u v a l b =
+        y .similar-table .bits u v a b
+        ∙ bit-false (both (network s) u v && similar (network s) u v) (both-no (network s) (omega (arith, read .n-is, read .fits .n-limit)) u v (similar (network s) u v) (omega (arith, l, read .n-is)))
 
 -- ---- all of it
 -- what was read, as keep_near takes it
@@ -545,13 +583,3 @@ keep-ready s h e {yes} {xs} {ys} {ws} {sizes} y n =
     subst
     (λ (x : Header). ((v : ℕ) → v < x .n → (getD xs v 0 ≡ xAt (handsetRecords s) v) × (getD ys v 0 ≡ yAt (handsetRecords s) v)) × Table ws (linked (x .n) (edgeRecords s) (x .m))) (sym e)
     (λ v l. (n .x-is y v l, n .y-is y v l), n .table y)
-
-pub survey-no : (s : List ℕ) {yes : Bool} {xs ys ws sizes : List ℕ} → not yes ≡ true → NetworkRead s yes xs ys ws sizes → (alike near cores : List ℕ) → SurveyCall s false alike near cores
-survey-no s e n alike near cores = record {
-  accepted = λ t. absurd t;
-  refused = λ t. n .refused (subst (λ (b : Bool). T b) (sym e) tt);
-  survey = λ t. absurd t;
-}
-
-pub survey-yes : (s : List ℕ) {alike sizes cores : List ℕ} → Accepted s → Survey (network s) sizes alike cores → SurveyCall s true alike sizes cores
-survey-yes s ok y = record { accepted = λ t. ok; refused = λ t. absurd t; survey = λ t. y }

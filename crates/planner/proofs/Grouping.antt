@@ -16,9 +16,9 @@ use lib.ListN.{length, getD, length-append, List·getD-append}
 use lib.Seq.{getD-at}
 use Rattle.sets.specs.Below.{bit, select, sum}
 use Rattle.sets.specs.Bits.{bitAt, cell}
-use Rattle.sets.proofs.Bits.{bitAt-lt, zeros, bitAt-zeros}
-use Rattle.sets.proofs.Tests.{and-make, and-left, and-right, below}
-use Rattle.sets.proofs.Counting.{bit-true, sum-le, sum-const}
+use Rattle.sets.proofs.Bits.{bitAt-lt, zeros, bitAt-zeros, sum-split}
+use Rattle.sets.proofs.Tests.{and-make, and-left, and-right}
+use Rattle.sets.proofs.Counting.{bit-true, sum-cong, sum-le, sum-zero, sum-const}
 use Rattle.sets.proofs.Selecting.{select-yes, select-no}
 use Rattle.community.specs.Network.{Network, similar, isCore, Reachable, one, more, reachable, isLeader, leaders}
 use Rattle.community.proofs.Reachability.{Reachable-trans, from-below, to-below, reachable-sound, reachable-complete}
@@ -27,6 +27,7 @@ use Rattle.community.proofs.Similarity.{core-self, Reachable-back, step-make, s
 use Rattle.community.proofs.Communities.{leader-core, leader-least, leader-of}
 use Rattle.planner.specs.Held.{both, similarIn, coreIn, reachableIn, Grouped}
 use Rattle.planner.specs.Groups.{FirstCommon, Joined, Stored, Collected, Surveyed, GroupsFound}
+use Rattle.planner.proofs.Growth.{sum-less}
 
 -- ---- bits that stand for tests
 
@@ -128,10 +129,9 @@ module _ {g : Network} {alike cores : List ℕ} (given : Surveyed g alike cores)
         let r = now .taken w l (leader-core g w t) e in
         leader-least g w t (r .0) (omega (arith, r .1)) (r .3)
 
-    pub found-end : ((v : ℕ) → v < 512 → bitAt todo v ≡ 0) → length rows ≡ 4096 → Grouped g rows k
+    pub found-end : ((v : ℕ) → v < 512 → bitAt todo v ≡ 0) → Grouped g rows k
     unfolding leaders
-    found-end none size = record {
-      size = size;
+    found-end none = record {
       number = now .number ∙ ap length (sym same);
       row = λ j v h l. now .row j v h l ∙ ap (λ (x : List ℕ). bit (reachableIn g (getD x j 0) v)) (sym same);
     }
@@ -279,34 +279,36 @@ module _ {g : Network} {alike cores : List ℕ} (given : Surveyed g alike cores)
 
 -- ---- the loop that finds them
 
-sum-less : (n : ℕ) (f g : ℕ → ℕ) (i : ℕ) → i < n → ((v : ℕ) → v < n → g v ≤ f v) → g i < f i → sum n g < sum n f
-unfolding sum
-sum-less zero f g i h le l = absurd (omega arith)
-sum-less (suc n) f g i h le l =
-    ⊎-elim
-    (λ e. omega (arith, sum-le n g f (λ v q. le v (omega arith)), ap f e, ap g e))
-    (λ q. omega (arith, sum-less n f g i q (λ v r. le v (omega arith)) l, le n (omega arith)))
-    (below h)
-
 -- the first k rows are written, and those of the cores left are as they were
-pub record Finding (alike cores rows todo : List ℕ) (k u : ℕ) : Type 0 where
+pub record Finding (n : ℕ) (alike cores rows todo : List ℕ) (k u : ℕ) : Type 0 where
   pub behind : k ≤ u
   pub kept : (x v : ℕ) → x < 512 → v < 512 → bitAt todo x ≡ 1 → cell rows x v ≡ cell alike x v
-  pub size : length rows ≡ 4096
+  pub size : length rows ≡ length alike
   pub todo-size : length todo ≡ 8
+  pub end : (v : ℕ) → n ≤ v → v < 512 → bitAt todo v ≡ 0
   pub first : FirstCommon todo todo u
-  pub room : k + sum 512 (bitAt todo) ≤ 512
+  pub room : k + sum 512 (bitAt todo) ≤ n
   pub found : (g : Network) → Surveyed g alike cores → (b : ℕ) × Found g todo rows k b
 
-module _ (alike cores : List ℕ) where
-  pub finding-start : (todo : List ℕ) (u : ℕ) → length alike ≡ 4096 → Joined cores 0 (zeros 8) todo → FirstCommon todo todo u → Finding alike cores alike todo 0 u
-  finding-start todo u size copy first = record {
+-- a set has no more numbers than there are below the first that it has none from on
+few : (n : ℕ) (f : ℕ → ℕ) → n ≤ 512 → ((v : ℕ) → f v < 2) → ((v : ℕ) → n ≤ v → v < 512 → f v ≡ 0) → sum 512 f ≤ n
+few n f h small none =
+    let e : n + (512 - n) ≡ 512 = omega arith in
+    let all : sum 512 f ≡ sum n f + sum (512 - n) (λ k. f (n + k)) = ap (λ (x : ℕ). sum x f) (sym e) ∙ sum-split n (512 - n) f in
+    let rest : sum (512 - n) (λ k. f (n + k)) ≡ 0 = sum-cong (512 - n) (λ k. f (n + k)) (λ k. 0) (λ k l. none (n + k) (omega arith) (omega arith)) ∙ sum-zero (512 - n) in
+    omega (arith, all, rest, sum-le n f (λ v. 1) (λ v l. omega (arith, small v)), sum-const n 1)
+
+module _ (n : ℕ) (alike cores : List ℕ) where
+  pub finding-start : (todo : List ℕ) (u : ℕ) → n ≤ 512 → ((v : ℕ) → n ≤ v → v < 512 → bitAt cores v ≡ 0) → Joined cores 0 (zeros 8) todo → FirstCommon todo todo u
+      → Finding n alike cores alike todo 0 u
+  finding-start todo u most none copy first = record {
     behind = omega arith;
     kept = λ x v hx hv t. refl;
-    size = size;
+    size = refl;
     todo-size = copy .size;
+    end = λ v l q. same v q ∙ none v l q;
     first = first;
-    room = omega (arith, sum-le 512 (bitAt todo) (λ v. 1) (λ v h. omega (arith, bitAt-lt todo v)), sum-const 512 1);
+    room = omega (arith, few n (bitAt todo) most (bitAt-lt todo) (λ v l q. same v q ∙ none v l q));
     found = λ g given. (0, found-start given todo alike same);
   }
     where
@@ -315,7 +317,7 @@ module _ (alike cores : List ℕ) where
           let e : 0 * 512 + v ≡ v = omega arith in
           omega (arith, copy .bits v h, bitAt-zeros 8 v, ap (bitAt cores) e)
 
-  module _ (rows todo : List ℕ) (k u : ℕ) (now : Finding alike cores rows todo k u) where
+  module _ (rows todo : List ℕ) (k u : ℕ) (now : Finding n alike cores rows todo k u) where
     pub finding-left : u < 512 → bitAt todo u ≡ 1
     finding-left h = omega (arith, now .first .found h)
 
@@ -343,12 +345,13 @@ module _ (alike cores : List ℕ) where
           sum-less 512 (bitAt todo) (bitAt left) u h (λ v l. omega (arith, col .rest v l))
           (omega (arith, col .rest u h, col .start, finding-left h))
 
-      pub finding-on : (after : List ℕ) (u′ : ℕ) → length left ≡ 8 → Stored rows k set after → FirstCommon left left u′ → Finding alike cores after left (k + 1) u′
+      pub finding-on : (after : List ℕ) (u′ : ℕ) → length left ≡ 8 → Stored rows k set after → FirstCommon left left u′ → Finding n alike cores after left (k + 1) u′
       finding-on after u′ size st first = record {
         behind = next (decLt u′ 512);
         kept = λ x v hx hv t. let l = later x hx t in st .others x v hv (λ e. omega (arith, l .1, now .behind, e)) ∙ now .kept x v hx hv (l .0);
         size = st .size ∙ now .size;
         todo-size = size;
+        end = λ v l q. omega (arith, here .rest v q, now .end v l q);
         first = first;
         room = omega (arith, now .room, finding-falls);
         found = λ g given.
@@ -362,11 +365,12 @@ module _ (alike cores : List ℕ) where
           next (yes l) = omega (arith, later u′ l (omega (arith, first .found l, bitAt-lt left u′)) .1, now .behind)
           next (no d) = omega (arith, d, h, now .behind)
 
-    pub finding-end : 512 ≤ u → GroupsFound alike cores rows k
-    finding-end h = record {
+    pub finding-end : 512 ≤ u → n ≤ 512 → 8 * n ≤ length alike → GroupsFound alike cores rows k
+    finding-end h most fits = record {
       most = omega (arith, now .room);
       size = now .size;
+      room = omega (arith, now .room);
       groups = λ g given.
           let f = now .found g given in
-          found-end given todo rows k (f .0) (f .1) (λ v l. omega (arith, now .first .before v (omega arith))) (now .size);
+          found-end given todo rows k (f .0) (f .1) (λ v l. omega (arith, now .first .before v (omega arith)));
     }

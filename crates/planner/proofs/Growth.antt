@@ -1,23 +1,28 @@
--- How the closure of a number grows, a row at a time, and how a row is added to a set or stored in a table, a word at a time.
+-- How the closure of a number grows, a sweep at a time, and how a row is added to a set or stored in a table, a word at a time.
 --
---     Joining, Storing      the loops of join_row and of store_row: the words before j are done
---     Growing               the loop of collect: the set has the rows of the numbers taken out of todo; w is the next to be taken out, or 512
-use Prim.Native.Nat.{ℕ, _+_, _*_, _-_, _/_, _%_, _≤_, _<_, min, max}
+--     Joining, Storing      the loops of join_words and of store_row: the words before j are done
+--     Adding                the loop of join_all: the rows of the bits that are no longer in w are added
+--     Sweeping              the loop of sweep: the words before j are gone through
+--     Growing               the loop of collect: the set has the rows of the numbers taken out of todo; w is one still to be taken out, or 512
+use Prim.Native.Nat.{ℕ, zero, suc, _+_, _*_, _-_, _/_, _%_, _^_, _≤_, _<_, min, max}
 use native.Mathlib.Omega.{arith}
 use native.Mathlib.Nat.{le-refl, mod-lt, zero-lt-suc}
-use native.Mathlib.Decide.{ℕ-discrete}
-use mathlib.Core.Path.{_≡_, refl, sym, ap, _∙_}
+use native.Mathlib.Decide.{ℕ-discrete, decLt}
+use mathlib.Core.Path.{_≡_, refl, sym, ap, ap₂, _∙_, subst}
+use mathlib.Core.Logic.{_⊎_, inl, inr, ⊎-elim}
 use mathlib.Core.Bool.{Bool}
 use mathlib.Core.List.{List}
-use lib.Bits.{bitAnd, bitOr}
+use lib.Bits.{bitAnd, bitOr, bitXor, differ}
 use lib.Dec.{T}
 use lib.ListN.{length, getD, set, length-set}
 use lib.Seq.{getD-set-same, getD-set-other}
 use Rattle.sets.specs.Below.{sum}
-use Rattle.sets.specs.Bits.{bitOf, bitAt, cell, withBit, withoutBit}
-use Rattle.sets.proofs.Bits.{bitAt-lt, bitOf-and, bitOf-or, word-bit, cell-word, zeros, bitAt-zeros, bitAt-set-same, bitAt-set-other, bitAt-clear-same, bitAt-clear-other, sum-drop}
-use Rattle.planner.specs.Groups.{FirstCommon, Joined, Stored, Collected}
-use Rattle.planner.proofs.Lowest.{Lowest, bitOf-none}
+use Rattle.sets.specs.Bits.{bitOf, bitAt, cell, withBit}
+use Rattle.sets.proofs.Tests.{below}
+use Rattle.sets.proofs.Counting.{sum-le}
+use Rattle.sets.proofs.Bits.{bitOf-lt, bitAt-lt, bitOf-and, bitOf-or, bitOf-xor, word-bit, cell-word, zeros, bitAt-zeros, bitAt-set-same, bitAt-set-other}
+use Rattle.planner.specs.Groups.{FirstCommon, Joined, JoinedAll, Swept, Stored, Collected}
+use Rattle.planner.proofs.Lowest.{Lowest, bitOf-none, cleared, cleared-lt, cleared-le, cleared-other}
 
 -- ---- the first word that two sets share a bit of
 
@@ -59,19 +64,19 @@ module _ (a b : List ℕ) (j : ℕ) (none : NoneCommon a b j) where
 
 -- ---- a row is added to a set
 
-pub record Joining (table : List ℕ) (u : ℕ) (s₀ s : List ℕ) (j : ℕ) : Type 0 where
-  pub within : j ≤ 8
+pub record Joining (table : List ℕ) (u : ℕ) (s₀ s : List ℕ) (words j : ℕ) : Type 0 where
+  pub within : j ≤ words
   pub size : length s ≡ 8
   pub done : (k : ℕ) → k < j → getD s k 0 ≡ bitOr (getD s₀ k 0) (getD table (u * 8 + k) 0)
   pub left : (k : ℕ) → j ≤ k → getD s k 0 ≡ getD s₀ k 0
 
-module _ (table : List ℕ) (u : ℕ) (s₀ : List ℕ) where
-  pub joining-start : length s₀ ≡ 8 → Joining table u s₀ s₀ 0
+module _ (table : List ℕ) (u : ℕ) (s₀ : List ℕ) (words : ℕ) where
+  pub joining-start : length s₀ ≡ 8 → Joining table u s₀ s₀ words 0
   joining-start l = record { within = omega arith; size = l; done = λ k h. absurd (omega arith); left = λ k h. refl }
 
-  module _ (s : List ℕ) (j : ℕ) (now : Joining table u s₀ s j) where
-    pub joining-on : j < 8 → Joining table u s₀ (set s j (bitOr (getD s j 0) (getD table (u * 8 + j) 0))) (j + 1)
-    joining-on h = record {
+  module _ (s : List ℕ) (j : ℕ) (now : Joining table u s₀ s words j) where
+    pub joining-on : j < words → words ≤ 8 → Joining table u s₀ (set s j (bitOr (getD s j 0) (getD table (u * 8 + j) 0))) words (j + 1)
+    joining-on h few = record {
       within = omega arith;
       size = length-set s j w ∙ now .size;
       done = λ k q. pick k q (ℕ-discrete k j);
@@ -89,18 +94,20 @@ module _ (table : List ℕ) (u : ℕ) (s₀ : List ℕ) where
             ∙ ap (λ (x : ℕ). bitOr (getD s₀ x 0) (getD table (u * 8 + x) 0)) (sym e)
         pick k q (no n) = getD-set-other s j k w 0 n ∙ now .done k (omega arith)
 
-    pub joining-end : 8 ≤ j → Joined table u s₀ s
+    -- behind those words the row is empty
+    pub joining-end : words ≤ j → ((v : ℕ) → words * 64 ≤ v → v < 512 → cell table u v ≡ 0) → Joined table u s₀ s
     unfolding bitAt
-    joining-end h = record {
-      size = now .size;
-      bits = λ v l.
-          let k : v / 64 < j = omega arith in
-          let e : v / 64 * 64 + v % 64 ≡ v = omega arith in
-          ap (λ (x : ℕ). bitOf x (v % 64)) (now .done (v / 64) k)
-          ∙ bitOf-or (getD s₀ (v / 64) 0) (getD table (u * 8 + v / 64) 0) (v % 64)
-          ∙ ap (max (bitOf (getD s₀ (v / 64) 0) (v % 64)))
-          (sym (cell-word table u (v / 64) (v % 64) (mod-lt v (zero-lt-suc 63))) ∙ ap (cell table u) e);
-    }
+    joining-end h none = record { size = now .size; bits = λ v l. pick v l (decLt (v / 64) j) }
+      where
+        pick : (v : ℕ) → v < 512 → Dec (v / 64 < j) → bitAt s v ≡ max (bitAt s₀ v) (cell table u v)
+        pick v l (yes k) =
+            let e : v / 64 * 64 + v % 64 ≡ v = omega arith in
+            ap (λ (x : ℕ). bitOf x (v % 64)) (now .done (v / 64) k)
+            ∙ bitOf-or (getD s₀ (v / 64) 0) (getD table (u * 8 + v / 64) 0) (v % 64)
+            ∙ ap (max (bitOf (getD s₀ (v / 64) 0) (v % 64)))
+            (sym (cell-word table u (v / 64) (v % 64) (mod-lt v (zero-lt-suc 63))) ∙ ap (cell table u) e)
+        pick v l (no d) =
+            omega (arith, ap (λ (x : ℕ). bitOf x (v % 64)) (now .left (v / 64) (omega arith)), none v (omega (arith, now .within)) l)
 
 -- ---- a set is stored as a row
 
@@ -150,7 +157,223 @@ module _ (rows₀ : List ℕ) (k : ℕ) (s : List ℕ) where
           ∙ sym (cell-at rows₀ i v l);
     }
 
+-- ---- the rows of a word's bits are added
+
+pub record Adding (table : List ℕ) (word base : ℕ) (s₀ : List ℕ) (w : ℕ) (s : List ℕ) : Type 0 where
+  pub fits : w < 2 ^ 64
+  pub size : length s ≡ 8
+  pub part : (k : ℕ) → bitOf w k ≤ bitOf word k
+  pub keeps : (v : ℕ) → v < 512 → bitAt s₀ v ≡ 1 → bitAt s v ≡ 1
+  pub rows : (k v : ℕ) → k < 64 → v < 512 → bitOf word k ≡ 1 → bitOf w k ≡ 0 → cell table (base + k) v ≡ 1 → bitAt s v ≡ 1
+  pub least : (f : ℕ → Bool) → ((v : ℕ) → v < 512 → bitAt s₀ v ≡ 1 → T (f v))
+      → ((k v : ℕ) → k < 64 → v < 512 → bitOf word k ≡ 1 → cell table (base + k) v ≡ 1 → T (f v))
+      → (v : ℕ) → v < 512 → bitAt s v ≡ 1 → T (f v)
+
+module _ (table : List ℕ) (word base : ℕ) (s₀ : List ℕ) where
+  pub adding-start : word < 2 ^ 64 → length s₀ ≡ 8 → Adding table word base s₀ word s₀
+  adding-start h l = record {
+    fits = h;
+    size = l;
+    part = λ k. le-refl (bitOf word k);
+    keeps = λ v l e. e;
+    rows = λ k v a b p q r. absurd (omega arith);
+    least = λ f given step. given;
+  }
+
+  module _ (w : ℕ) (s : List ℕ) (now : Adding table word base s₀ w s) where
+    -- a bit that is left is one of the word
+    pub adding-bit : (k : ℕ) → bitOf w k ≡ 1 → bitOf word k ≡ 1
+    adding-bit k e = omega (arith, now .part k, bitOf-lt word k)
+
+    pub adding-on : (t : ℕ) (s′ : List ℕ) → t < 64 → bitOf w t ≡ 1 → Joined table (base + t) s s′ → Adding table word base s₀ (cleared w t) s′
+    adding-on t s′ h e j = record {
+      fits = cleared-lt w t h (now .fits);
+      size = j .size;
+      part = λ k. omega (arith, cleared-le w t h k, now .part k);
+      keeps = λ v l p. kept v l (now .keeps v l p);
+      rows = λ k v a b p q r. pick k v a b p q r (ℕ-discrete k t);
+      least = λ f given step v l p. only f given step v l p (ℕ-discrete (bitAt s v) 1);
+    }
+      where
+        kept : (v : ℕ) → v < 512 → bitAt s v ≡ 1 → bitAt s′ v ≡ 1
+        kept v l p = omega (arith, j .bits v l, bitAt-lt s′ v)
+
+        pick : (k v : ℕ) → k < 64 → v < 512 → bitOf word k ≡ 1 → bitOf (cleared w t) k ≡ 0 → cell table (base + k) v ≡ 1 → Dec (k ≡ t) → bitAt s′ v ≡ 1
+        pick k v a b p q r (yes d) =
+            let c : cell table (base + t) v ≡ 1 = ap (λ (x : ℕ). cell table (base + x) v) (sym d) ∙ r in
+            omega (arith, j .bits v b, c, bitAt-lt s v)
+        pick k v a b p q r (no d) = kept v b (now .rows k v a b p (sym (cleared-other w t h k d) ∙ q) r)
+
+        only : (f : ℕ → Bool) → ((v : ℕ) → v < 512 → bitAt s₀ v ≡ 1 → T (f v))
+            → ((k v : ℕ) → k < 64 → v < 512 → bitOf word k ≡ 1 → cell table (base + k) v ≡ 1 → T (f v))
+            → (v : ℕ) → v < 512 → bitAt s′ v ≡ 1 → Dec (bitAt s v ≡ 1) → T (f v)
+        only f given step v l p (yes q) = now .least f given step v l q
+        only f given step v l p (no d) =
+            let c : cell table (base + t) v ≡ 1 = omega (arith, j .bits v l, p, d, bitAt-lt s v) in
+            step t v h l (adding-bit t e) c
+
+    pub adding-end : w ≡ 0 → JoinedAll table word base s₀ s
+    adding-end e = record {
+      size = now .size;
+      keeps = now .keeps;
+      rows = λ k v a b p r. now .rows k v a b p (ap (λ (x : ℕ). bitOf x k) e ∙ bitOf-none k) r;
+      least = now .least;
+    }
+
+-- ---- the numbers of both the set and todo are taken out of todo, a word at a time
+
+pub record Sweeping (table todo₀ s₀ todo s : List ℕ) (j : ℕ) : Type 0 where
+  pub todo-size : length todo ≡ 8
+  pub size : length s ≡ 8
+  pub ahead : (x : ℕ) → j * 64 ≤ x → bitAt todo x ≡ bitAt todo₀ x
+  pub sub : (x : ℕ) → bitAt todo x ≤ bitAt todo₀ x
+  pub keeps : (v : ℕ) → v < 512 → bitAt s₀ v ≡ 1 → bitAt s v ≡ 1
+  pub taken : (x : ℕ) → x < 512 → x < j * 64 → bitAt s₀ x ≡ 1 → bitAt todo x ≡ 0
+  pub out : (x : ℕ) → x < 512 → bitAt todo₀ x ≡ 1 → bitAt todo x ≡ 0 → bitAt s x ≡ 1
+  pub done : (x v : ℕ) → x < 512 → v < 512 → bitAt todo₀ x ≡ 1 → bitAt todo x ≡ 0 → cell table x v ≡ 1 → bitAt s v ≡ 1
+  pub least : (f : ℕ → Bool) → ((v : ℕ) → v < 512 → bitAt s₀ v ≡ 1 → T (f v))
+      → ((x v : ℕ) → x < 512 → v < 512 → T (f x) → bitAt todo₀ x ≡ 1 → cell table x v ≡ 1 → T (f v))
+      → (v : ℕ) → v < 512 → bitAt s v ≡ 1 → T (f v)
+
+pub sweeping-start : (table todo s : List ℕ) → length todo ≡ 8 → length s ≡ 8 → Sweeping table todo s todo s 0
+sweeping-start table todo s a b = record {
+  todo-size = a;
+  size = b;
+  ahead = λ x h. refl;
+  sub = λ x. le-refl (bitAt todo x);
+  keeps = λ v l e. e;
+  taken = λ x l h. absurd (omega arith);
+  out = λ x l p q. absurd (omega arith);
+  done = λ x v l m p q. absurd (omega arith);
+  least = λ f given step. given;
+}
+
+-- a bit that differs from itself, and from 0
+differ-self : (x : ℕ) → x < 2 → differ x x ≡ 0
+differ-self zero h = refl
+differ-self (suc zero) h = refl
+differ-self (suc (suc x)) h = absurd (omega arith)
+
+differ-none : (x : ℕ) → x < 2 → differ x 0 ≡ x
+differ-none zero h = refl
+differ-none (suc x) h = refl
+
+-- the words of both, and todo without them
+module _ (table todo₀ s₀ todo s : List ℕ) (j : ℕ) (now : Sweeping table todo₀ s₀ todo s j) (h : j < 8) where
+  abbrev pub shared : ℕ
+  shared = bitAnd (getD s j 0) (getD todo j 0)
+
+  abbrev pub todoLeft : List ℕ
+  todoLeft = set todo j (bitXor (getD todo j 0) shared)
+
+  -- a bit of both words
+  pub shared-bit : (k : ℕ) → k < 64 → bitOf shared k ≡ 1 → (bitAt s (j * 64 + k) ≡ 1) × (bitAt todo (j * 64 + k) ≡ 1) × (bitAt todo₀ (j * 64 + k) ≡ 1)
+  shared-bit k l e =
+      let m = both-bit s todo j k l ∙ e in
+      let t : bitAt todo (j * 64 + k) ≡ 1 = omega (arith, m, bitAt-lt todo (j * 64 + k)) in
+      (omega (arith, m, bitAt-lt s (j * 64 + k)), t, omega (arith, t, now .sub (j * 64 + k), bitAt-lt todo₀ (j * 64 + k)))
+
+  -- what is left in another word
+  elsewhere : (x : ℕ) → (x / 64 ≡ j → ⊥) → bitAt todoLeft x ≡ bitAt todo x
+  unfolding bitAt
+  elsewhere x d = ap (λ (w : ℕ). bitOf w (x % 64)) (getD-set-other todo j (x / 64) (bitXor (getD todo j 0) shared) 0 d)
+
+  -- and in this one
+  left-bit : (k : ℕ) → k < 64 → bitAt todoLeft (j * 64 + k) ≡ differ (bitAt todo (j * 64 + k)) (min (bitAt s (j * 64 + k)) (bitAt todo (j * 64 + k)))
+  left-bit k l =
+      word-bit todoLeft j k l
+      ∙ ap (λ (w : ℕ). bitOf w k) (getD-set-same todo j (bitXor (getD todo j 0) shared) 0 (omega (arith, now .todo-size)))
+      ∙ bitOf-xor (getD todo j 0) shared k
+      ∙ ap₂ differ (sym (word-bit todo j k l)) (sym (both-bit s todo j k l))
+
+  here : (x : ℕ) → x / 64 ≡ j → bitAt todoLeft x ≡ differ (bitAt todo x) (min (bitAt s x) (bitAt todo x))
+  here x e =
+      let p : j * 64 + x % 64 ≡ x = omega arith in
+      subst (λ (i : ℕ). bitAt todoLeft i ≡ differ (bitAt todo i) (min (bitAt s i) (bitAt todo i))) p (left-bit (x % 64) (mod-lt x (zero-lt-suc 63)))
+
+  -- taken out if in the set, and else left
+  here-in : (x : ℕ) → x / 64 ≡ j → bitAt s x ≡ 1 → bitAt todoLeft x ≡ 0
+  here-in x e p = here x e ∙ ap (λ (b : ℕ). differ (bitAt todo x) b) (let q : min (bitAt s x) (bitAt todo x) ≡ bitAt todo x = omega (arith, bitAt-lt todo x) in q) ∙ differ-self (bitAt todo x) (bitAt-lt todo x)
+
+  here-out : (x : ℕ) → x / 64 ≡ j → bitAt s x ≡ 0 → bitAt todoLeft x ≡ bitAt todo x
+  here-out x e p = here x e ∙ ap (λ (b : ℕ). differ (bitAt todo x) b) (let q : min (bitAt s x) (bitAt todo x) ≡ 0 = omega arith in q) ∙ differ-none (bitAt todo x) (bitAt-lt todo x)
+
+  left-le : (x : ℕ) → bitAt todoLeft x ≤ bitAt todo x
+  left-le x = pick (ℕ-discrete (x / 64) j) (ℕ-discrete (bitAt s x) 1)
+    where
+      pick : Dec (x / 64 ≡ j) → Dec (bitAt s x ≡ 1) → bitAt todoLeft x ≤ bitAt todo x
+      pick (yes e) (yes p) = omega (arith, here-in x e p)
+      pick (yes e) (no p) = omega (arith, here-out x e (omega (arith, bitAt-lt s x)))
+      pick (no d) p = omega (arith, elsewhere x d)
+
+  -- a number taken out was out before, or is one of both words
+  was-out : (x : ℕ) → x < 512 → bitAt todo₀ x ≡ 1 → bitAt todoLeft x ≡ 0 → (bitAt todo x ≡ 0) ⊎ ((x / 64 ≡ j) × (bitAt s x ≡ 1))
+  was-out x l p q = pick (ℕ-discrete (x / 64) j) (ℕ-discrete (bitAt s x) 1)
+    where
+      pick : Dec (x / 64 ≡ j) → Dec (bitAt s x ≡ 1) → (bitAt todo x ≡ 0) ⊎ ((x / 64 ≡ j) × (bitAt s x ≡ 1))
+      pick (yes e) (yes o) = inr (e, o)
+      pick (yes e) (no o) = inl (sym (here-out x e (omega (arith, bitAt-lt s x))) ∙ q)
+      pick (no d) o = inl (sym (elsewhere x d) ∙ q)
+
+  module _ (s′ : List ℕ) (all : JoinedAll table shared (j * 64) s s′) where
+    pub sweeping-on : Sweeping table todo₀ s₀ todoLeft s′ (j + 1)
+    sweeping-on = record {
+      todo-size = length-set todo j (bitXor (getD todo j 0) shared) ∙ now .todo-size;
+      size = all .size;
+      ahead = λ x q. elsewhere x (λ e. omega arith) ∙ now .ahead x (omega arith);
+      sub = λ x. omega (arith, left-le x, now .sub x);
+      keeps = λ v l p. all .keeps v l (now .keeps v l p);
+      taken = λ x l q p. took x l q p (ℕ-discrete (x / 64) j);
+      out = λ x l p q. ⊎-elim (λ z. all .keeps x l (now .out x l p z)) (λ w. all .keeps x l (w .1)) (was-out x l p q);
+      done = λ x v l m p q r. ⊎-elim (λ z. all .keeps v m (now .done x v l m p z r)) (λ w. added x v m (w .0) (w .1) p r) (was-out x l p q);
+      least = λ f given step v l p.
+          all .least f (now .least f given step)
+          (λ k v a b e c.
+          let t = shared-bit k a e in
+          step (j * 64 + k) v (omega (arith, h, a)) b (now .least f given step (j * 64 + k) (omega (arith, h, a)) (t .0)) (t .2) c)
+          v l p;
+    }
+      where
+        took : (x : ℕ) → x < 512 → x < (j + 1) * 64 → bitAt s₀ x ≡ 1 → Dec (x / 64 ≡ j) → bitAt todoLeft x ≡ 0
+        took x l q p (yes e) = here-in x e (now .keeps x l p)
+        took x l q p (no d) = elsewhere x d ∙ now .taken x l (omega arith) p
+
+        added : (x v : ℕ) → v < 512 → x / 64 ≡ j → bitAt s x ≡ 1 → bitAt todo₀ x ≡ 1 → cell table x v ≡ 1 → bitAt s′ v ≡ 1
+        added x v m e o p r =
+            let i : j * 64 + x % 64 ≡ x = omega arith in
+            let k : x % 64 < 64 = mod-lt x (zero-lt-suc 63) in
+            let t : bitAt todo x ≡ 1 = now .ahead x (omega arith) ∙ p in
+            all .rows (x % 64) v k m
+            (sym (both-bit s todo j (x % 64) k) ∙ ap (λ (y : ℕ). min (bitAt s y) (bitAt todo y)) i ∙ omega (arith, o, t))
+            (ap (λ (y : ℕ). cell table y v) i ∙ r)
+
+-- no number from n on is in todo
+pub sweeping-end : (table todo₀ s₀ todo s : List ℕ) (j n : ℕ) → Sweeping table todo₀ s₀ todo s j → n ≤ 64 * j → ((v : ℕ) → n ≤ v → v < 512 → bitAt todo₀ v ≡ 0)
+    → Swept table todo₀ s₀ todo s
+sweeping-end table todo₀ s₀ todo s j n now h none = record {
+  size = now .size;
+  sub = now .sub;
+  keeps = now .keeps;
+  taken = λ x l p. pick x l p (decLt x (j * 64));
+  out = now .out;
+  done = now .done;
+  least = now .least;
+}
+  where
+    pick : (x : ℕ) → x < 512 → bitAt s₀ x ≡ 1 → Dec (x < j * 64) → bitAt todo x ≡ 0
+    pick x l p (yes q) = now .taken x l q p
+    pick x l p (no d) = omega (arith, now .sub x, none x (omega arith) l)
+
 -- ---- a set grows by the rows of its numbers in todo
+
+pub sum-less : (n : ℕ) (f g : ℕ → ℕ) (i : ℕ) → i < n → ((v : ℕ) → v < n → g v ≤ f v) → g i < f i → sum n g < sum n f
+unfolding sum
+sum-less zero f g i h le l = absurd (omega arith)
+sum-less (suc n) f g i h le l =
+    ⊎-elim
+    (λ e. omega (arith, sum-le n g f (λ v q. le v (omega arith)), ap f e, ap g e))
+    (λ q. omega (arith, sum-less n f g i q (λ v r. le v (omega arith)) l, le n (omega arith)))
+    (below h)
 
 pub record Growing (alike todo₀ : List ℕ) (u : ℕ) (s todo : List ℕ) (w : ℕ) : Type 0 where
   pub seed : u < 512
@@ -185,68 +408,35 @@ growing-start alike todo u h e = record {
     pick f t v p (yes q) = rw q t
     pick f t v p (no n) = absurd (omega (arith, bitAt-set-other (zeros 8) u v n, bitAt-zeros 8 v))
 
--- a turn: the row of w is added, and w is taken out of todo
+-- a turn: a sweep, which takes out w at least
 module _ (alike todo₀ : List ℕ) (u : ℕ) (s todo s′ todo′ : List ℕ) (w w′ : ℕ) (now : Growing alike todo₀ u s todo w) (h : w < 512)
-    (size : length todo ≡ 8) (row : Joined alike w s s′) (taken : todo′ ≡ withoutBit todo w) (first : FirstCommon s′ todo′ w′) where
-  gone : bitAt todo′ w ≡ 0
-  gone = ap (λ (t : List ℕ). bitAt t w) taken ∙ bitAt-clear-same todo w (omega arith)
-
-  kept : (x : ℕ) → (x ≡ w → ⊥) → bitAt todo′ x ≡ bitAt todo x
-  kept x n = ap (λ (t : List ℕ). bitAt t x) taken ∙ bitAt-clear-other todo w x n
-
-  keeps : (v : ℕ) → v < 512 → bitAt s v ≡ 1 → bitAt s′ v ≡ 1
-  keeps v l e = omega (arith, row .bits v l, bitAt-lt s′ v)
-
-  in-start : bitAt todo₀ w ≡ 1
-  in-start = omega (arith, now .next h .0, now .sub w, bitAt-lt todo₀ w)
-
-  sub′ : (x : ℕ) → bitAt todo′ x ≤ bitAt todo₀ x
-  sub′ x = pick (ℕ-discrete x w)
-    where
-      pick : Dec (x ≡ w) → bitAt todo′ x ≤ bitAt todo₀ x
-      pick (yes e) = omega (arith, gone, ap (bitAt todo′) e)
-      pick (no n) = omega (arith, kept x n, now .sub x)
-
-  out′ : (x : ℕ) → x < 512 → bitAt todo₀ x ≡ 1 → bitAt todo′ x ≡ 0 → bitAt s′ x ≡ 1
-  out′ x l p q = keeps x l (pick (ℕ-discrete x w))
-    where
-      pick : Dec (x ≡ w) → bitAt s x ≡ 1
-      pick (yes e) = ap (bitAt s) e ∙ now .next h .1
-      pick (no n) = now .out x l p (sym (kept x n) ∙ q)
-
-  done′ : (x v : ℕ) → x < 512 → v < 512 → bitAt todo₀ x ≡ 1 → bitAt todo′ x ≡ 0 → cell alike x v ≡ 1 → bitAt s′ v ≡ 1
-  done′ x v l m p q r = pick (ℕ-discrete x w)
-    where
-      pick : Dec (x ≡ w) → bitAt s′ v ≡ 1
-      pick (yes e) = let b : cell alike w v ≡ 1 = ap (λ (y : ℕ). cell alike y v) (sym e) ∙ r in omega (arith, row .bits v m, bitAt-lt s v)
-      pick (no n) = keeps v m (now .done x v l m p (sym (kept x n) ∙ q) r)
-
-  least′ : (f : ℕ → Bool) → T (f u)
-      → ((x v : ℕ) → x < 512 → v < 512 → T (f x) → bitAt todo₀ x ≡ 1 → cell alike x v ≡ 1 → T (f v))
-      → (v : ℕ) → v < 512 → bitAt s′ v ≡ 1 → T (f v)
-  least′ f t step v l e = pick (ℕ-discrete (bitAt s v) 1)
-    where
-      pick : Dec (bitAt s v ≡ 1) → T (f v)
-      pick (yes q) = now .least f t step v l q
-      pick (no n) =
-          step w v h l (now .least f t step w h (now .next h .1)) in-start
-          (let b : cell alike w v ≡ 1 = omega (arith, row .bits v l, bitAt-lt s v) in b)
-
+    (swept : Swept alike todo s todo′ s′) (first : FirstCommon s′ todo′ w′) where
+  -- a number taken out was out before, or is now
   pub growing-on : Growing alike todo₀ u s′ todo′ w′
   growing-on = record {
     seed = now .seed;
-    start = keeps u (now .seed) (now .start);
+    start = swept .keeps u (now .seed) (now .start);
     most = first .within;
     next = λ q. (omega (arith, first .found q, bitAt-lt todo′ w′), omega (arith, first .found q, bitAt-lt s′ w′));
-    sub = sub′;
-    out = out′;
-    done = done′;
-    least = least′;
+    sub = λ x. omega (arith, swept .sub x, now .sub x);
+    out = λ x l p q. out′ x l p q (ℕ-discrete (bitAt todo x) 0);
+    done = λ x v l m p q r. done′ x v l m p q r (ℕ-discrete (bitAt todo x) 0);
+    least = λ f t step.
+        swept .least f (now .least f t step) (λ x v l m fx e r. step x v l m fx (omega (arith, e, now .sub x, bitAt-lt todo₀ x)) r);
     end = λ e k q. first .before k (omega arith);
   }
+    where
+      out′ : (x : ℕ) → x < 512 → bitAt todo₀ x ≡ 1 → bitAt todo′ x ≡ 0 → Dec (bitAt todo x ≡ 0) → bitAt s′ x ≡ 1
+      out′ x l p q (yes z) = swept .keeps x l (now .out x l p z)
+      out′ x l p q (no d) = swept .out x l (omega (arith, bitAt-lt todo x)) q
+
+      done′ : (x v : ℕ) → x < 512 → v < 512 → bitAt todo₀ x ≡ 1 → bitAt todo′ x ≡ 0 → cell alike x v ≡ 1 → Dec (bitAt todo x ≡ 0) → bitAt s′ v ≡ 1
+      done′ x v l m p q r (yes z) = swept .keeps v m (now .done x v l m p z r)
+      done′ x v l m p q r (no d) = swept .done x v l m (omega (arith, bitAt-lt todo x)) q r
 
   pub growing-falls : sum 512 (bitAt todo′) < sum 512 (bitAt todo)
-  growing-falls = omega (arith, sum-drop (bitAt todo) (bitAt todo′) w 512 h (now .next h .0) gone kept)
+  growing-falls =
+      sum-less 512 (bitAt todo) (bitAt todo′) w h (λ v l. swept .sub v) (omega (arith, now .next h .0, swept .taken w h (now .next h .1)))
 
 -- no number of the set is left in todo
 module _ (alike todo₀ : List ℕ) (u : ℕ) (s todo : List ℕ) (w : ℕ) (now : Growing alike todo₀ u s todo w) (h : 512 ≤ w) (size : length s ≡ 8) where

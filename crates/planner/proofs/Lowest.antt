@@ -3,15 +3,21 @@
 --     Lowest w t     t is the place of the lowest set bit of w
 --     lowest         the number of trailing zeros of a word that is not 0 is that place
 --     bitOf-none     0 has no bit set
+--     cleared w t    w with bit t cleared, as the code makes it; cleared-is: that is `without`
+--     cleared-lt, cleared-le, cleared-same, cleared-other, cleared-falls     it fits, has no other bit than w, not bit t, and one bit less
 use Prim.Native.Nat.{ℕ, zero, suc, _+_, _*_, _/_, _%_, _^_, _≤_, _<_}
 use mathlib.Core.Path.{_≡_, refl, sym, ap, _∙_, subst}
 use native.Mathlib.Omega.{arith}
 use native.Mathlib.Numerals.{add-one}
+use native.Mathlib.Decide.{ℕ-discrete}
 use native.Mathlib.Nat.{mod-lt, zero-lt-suc, div-one, pow-suc, mul-comm, div-div-eq-div-mul, zero-div}
 use lib.Arith.{lt-one}
-use lib.Pow.{shr-lt}
+use lib.Pow.{shr-lt, pow-lt}
+use lib.Bits.{bitAnd, bitXor, xor-lt, and-lt}
 use lib.Count.{trailingZeros, under}
+use Rattle.sets.specs.Below.{sum}
 use Rattle.sets.specs.Bits.{bitOf}
+use Rattle.sets.proofs.Bits.{shl-one, bitOf-clear-same, bitOf-clear-other, sum-drop}
 
 -- t is the place of the lowest set bit of w
 pub record Lowest (w t : ℕ) : Type 0 where
@@ -48,3 +54,30 @@ unfolding trailingZeros
 lowest zero w p h = absurd (omega (arith, lt-one h))
 lowest (suc k) w p h =
     by-digit k w p (λ q. lowest k (w / 2) q (shr-lt k 1 (subst (λ (x : ℕ). w < 2 ^ x) (sym (add-one k)) h))) (w % 2) refl (mod-lt w (zero-lt-suc 1))
+
+-- ---- a bit is cleared
+abbrev pub cleared : ℕ → ℕ → ℕ
+cleared w t = bitXor w (bitAnd w (1 * 2 ^ t % 2 ^ 64))
+
+module _ (w t : ℕ) (h : t < 64) where
+  pub cleared-is : cleared w t ≡ bitXor w (bitAnd w (2 ^ t))
+  cleared-is = ap (λ (x : ℕ). bitXor w (bitAnd w x)) (shl-one t h)
+
+  pub cleared-lt : w < 2 ^ 64 → cleared w t < 2 ^ 64
+  cleared-lt l = rw (shl-one t h) (xor-lt 64 w (bitAnd w (2 ^ t)) l (and-lt 64 w (2 ^ t) l (pow-lt h)))
+
+  pub cleared-same : bitOf (cleared w t) t ≡ 0
+  cleared-same = ap (λ (x : ℕ). bitOf x t) cleared-is ∙ bitOf-clear-same w t
+
+  pub cleared-other : (k : ℕ) → (k ≡ t → ⊥) → bitOf (cleared w t) k ≡ bitOf w k
+  cleared-other k d = ap (λ (x : ℕ). bitOf x k) cleared-is ∙ bitOf-clear-other w t k d
+
+  pub cleared-le : (k : ℕ) → bitOf (cleared w t) k ≤ bitOf w k
+  cleared-le k = pick (ℕ-discrete k t)
+    where
+      pick : Dec (k ≡ t) → bitOf (cleared w t) k ≤ bitOf w k
+      pick (yes e) = omega (arith, ap (bitOf (cleared w t)) e, cleared-same)
+      pick (no d) = omega (arith, cleared-other k d)
+
+  pub cleared-falls : bitOf w t ≡ 1 → sum 64 (bitOf (cleared w t)) < sum 64 (bitOf w)
+  cleared-falls e = omega (arith, sum-drop (bitOf w) (bitOf (cleared w t)) t 64 h e cleared-same cleared-other)

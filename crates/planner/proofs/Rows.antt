@@ -1,11 +1,12 @@
 -- Tables of rows of bits, and the sizes of the rows. A bit more or less in a row is one more or less in its size, and changes no other row.
 --
+--     empty-zeros, empty-bit        a new table is empty, and has no bit
 --     counted-none, counted-add     the sizes of an empty table, and with a bit more
---     counted-out, counted-kept     with a bit less, and where there was none to take out
---     row-some, row-most            a row with a bit has a size, and no size is above 512; counted-copy: a copy of the sizes
+--     row-bit, counted-out          a row's size is at least any of its bits, and without it
+--     row-most                      no size is above 512
 --     one-is, zero-is               a bit as the test for it tells
 --     common-more, common-few       the marks that two rows have in common, counted a word at a time, and no further than there are any
-use Prim.Native.Nat.{ℕ, zero, suc, _+_, _*_, _-_, _^_, _≤_, _<_, min}
+use Prim.Native.Nat.{ℕ, zero, suc, _+_, _*_, _-_, _/_, _%_, _^_, _≤_, _<_, min}
 use native.Mathlib.Omega.{arith}
 use native.Mathlib.Decide.{ℕ-discrete}
 use mathlib.Core.Path.{_≡_, refl, sym, ap, ap₂, _∙_, subst}
@@ -14,39 +15,46 @@ use mathlib.Core.List.{List}
 use lib.Bits.{bitAnd, and-lt}
 use lib.Count.{ones}
 use lib.Dec.{T, eqb, eqb→eq, T-not}
-use lib.ListN.{length, getD, set, length-set, length-replicate}
+use lib.ListN.{length, getD, set}
 use lib.Seq.{getD-set-same, getD-set-other}
 use Rattle.sets.specs.Below.{sum}
-use Rattle.sets.specs.Bits.{bitAt, cell, withBit, withoutBit}
+use Rattle.sets.specs.Bits.{bitOf, bitAt, cell, withBit, withoutBit}
 use Rattle.sets.proofs.Tests.{eqb-of}
 use Rattle.sets.proofs.Counting.{sum-cong, sum-le, sum-zero, sum-const}
-use Rattle.sets.proofs.Bits.{bitOf-and, bitAt-lt, bitAt-set-same, bitAt-set-other, bitAt-clear-same, bitAt-clear-other, cell-word, sum-word, sum-split, sum-drop, bitAt-zeros, zeros}
-use Rattle.planner.specs.Held.{Counted}
+use Rattle.sets.proofs.Bits.{bitOf-and, bitAt-lt, bitAt-set-same, bitAt-set-other, bitAt-clear-same, bitAt-clear-other, cell-word, sum-word, sum-split, sum-drop, zeros}
+use Rattle.planner.specs.Held.{Empty, Counted, Room}
+use Rattle.planner.proofs.Lowest.{bitOf-none}
 
 zeros-at : (n i : ℕ) → getD (zeros n) i 0 ≡ 0
 zeros-at zero i = refl
 zeros-at (suc n) zero = refl
 zeros-at (suc n) (suc i) = zeros-at n i
 
-pub counted-none : Counted (zeros 4096) (zeros 512)
-counted-none = record {
-  size = length-replicate {A = ℕ} 512 0;
-  rows = λ u h. zeros-at 512 u ∙ sym (sum-cong 512 (λ v. cell (zeros 4096) u v) (λ v. 0) (λ v l. bitAt-zeros 4096 (u * 512 + v)) ∙ sum-zero 512);
+pub empty-zeros : (n : ℕ) → Empty (zeros n)
+empty-zeros n = record { zeros = zeros-at n }
+
+pub empty-bit : {ws : List ℕ} → Empty ws → (i : ℕ) → bitAt ws i ≡ 0
+unfolding bitAt
+empty-bit e i = ap (λ (w : ℕ). bitOf w (i % 64)) (e .zeros (i / 64)) ∙ bitOf-none (i % 64)
+
+pub counted-none : {ws sizes : List ℕ} → Empty ws → Empty sizes → Counted ws sizes
+counted-none {ws} {sizes} e z = record {
+  rows = λ u h. z .zeros u ∙ sym (sum-cong 512 (λ v. cell ws u v) (λ v. 0) (λ v l. empty-bit e (u * 512 + v)) ∙ sum-zero 512);
 }
 
 -- one row changes, and its size with it
-module _ (ws next sizes : List ℕ) (u x : ℕ) (h : u < 512) (c : Counted ws sizes)
+module _ (ws next sizes : List ℕ) (u x : ℕ) (h : u < length sizes) (c : Counted ws sizes)
     (others : (a b : ℕ) → (a ≡ u → ⊥) → b < 512 → cell next a b ≡ cell ws a b) (row : x ≡ sum 512 (λ v. cell next u v)) where
   change : Counted next (set sizes u x)
-  change = record { size = length-set sizes u x ∙ c .size; rows = λ a l. go a l (ℕ-discrete a u) }
+  change = record { rows = λ a l. go a l (ℕ-discrete a u) }
     where
       go : (a : ℕ) → a < 512 → Dec (a ≡ u) → getD (set sizes u x) a 0 ≡ sum 512 (λ v. cell next a v)
       go a l (yes e) =
-          ap (λ (k : ℕ). getD (set sizes u x) k 0) e ∙ getD-set-same sizes u x 0 (omega (arith, c .size)) ∙ row ∙ ap (λ (k : ℕ). sum 512 (λ v. cell next k v)) (sym e)
+          ap (λ (k : ℕ). getD (set sizes u x) k 0) e ∙ getD-set-same sizes u x 0 h ∙ row ∙ ap (λ (k : ℕ). sum 512 (λ v. cell next k v)) (sym e)
       go a l (no d) =
           getD-set-other sizes u a x 0 d ∙ c .rows a l ∙ sym (sum-cong 512 (λ v. cell next a v) (λ v. cell ws a v) (λ v q. others a v d q))
 
-module _ (ws sizes : List ℕ) (u v : ℕ) (hu : u < 512) (hv : v < 512) (len : length ws ≡ 4096) (c : Counted ws sizes) where
+module _ (ws sizes : List ℕ) (u v : ℕ) (hu : Room ws sizes u) (hv : v < 512) (c : Counted ws sizes) where
   -- the bit at another place of the row
   apart-in : (w : ℕ) → (w ≡ v → ⊥) → u * 512 + w ≡ u * 512 + v → ⊥
   apart-in w d e = d (omega arith)
@@ -62,40 +70,44 @@ module _ (ws sizes : List ℕ) (u v : ℕ) (hu : u < 512) (hv : v < 512) (len : 
 
   pub counted-add : cell ws u v ≡ 0 → Counted (withBit ws (u * 512 + v)) (set sizes u (getD sizes u 0 + 1))
   counted-add z =
-      change ws (withBit ws (u * 512 + v)) sizes u (getD sizes u 0 + 1) hu c
+      change ws (withBit ws (u * 512 + v)) sizes u (getD sizes u 0 + 1) (hu .2) c
       (λ a b d l. bitAt-set-other ws (u * 512 + v) (a * 512 + b) (apart-row a b d l))
-      (ap (λ (k : ℕ). k + 1) (c .rows u hu) ∙ row-added z)
+      (ap (λ (k : ℕ). k + 1) (c .rows u (hu .0)) ∙ row-added z)
 
   row-taken : cell ws u v ≡ 1 → sum 512 (λ w. cell (withoutBit ws (u * 512 + v)) u w) + 1 ≡ sum 512 (λ w. cell ws u w)
   row-taken o =
       sum-drop (λ w. cell ws u w) (λ w. cell (withoutBit ws (u * 512 + v)) u w) v 512 hv
       o (bitAt-clear-same ws (u * 512 + v) (omega arith)) (λ w d. bitAt-clear-other ws (u * 512 + v) (u * 512 + w) (apart-in w d))
 
-  pub row-some : cell ws u v ≡ 1 → 1 ≤ getD sizes u 0
-  row-some o = omega (arith, row-taken o, c .rows u hu)
-
-  pub counted-out : cell ws u v ≡ 1 → Counted (withoutBit ws (u * 512 + v)) (set sizes u (getD sizes u 0 - 1))
-  counted-out o =
-      change ws (withoutBit ws (u * 512 + v)) sizes u (getD sizes u 0 - 1) hu c
-      (λ a b d l. bitAt-clear-other ws (u * 512 + v) (a * 512 + b) (apart-row a b d l))
-      (omega (arith, row-taken o, c .rows u hu))
-
-  pub counted-kept : cell ws u v ≡ 0 → Counted (withoutBit ws (u * 512 + v)) sizes
-  counted-kept z = record {
-    size = c .size;
-    rows = λ a l. c .rows a l ∙ sym (sum-cong 512 (λ w. cell (withoutBit ws (u * 512 + v)) a w) (λ w. cell ws a w) (λ w q. go a w (ℕ-discrete (a * 512 + w) (u * 512 + v))));
-  }
+  row-left : (w : ℕ) → cell ws u v ≡ 0 → cell (withoutBit ws (u * 512 + v)) u w ≡ cell ws u w
+  row-left w z = go (ℕ-discrete w v)
     where
-      go : (a w : ℕ) → Dec (a * 512 + w ≡ u * 512 + v) → cell (withoutBit ws (u * 512 + v)) a w ≡ cell ws a w
-      go a w (yes e) = ap (bitAt (withoutBit ws (u * 512 + v))) e ∙ bitAt-clear-same ws (u * 512 + v) (omega arith) ∙ sym (ap (bitAt ws) e ∙ z)
-      go a w (no d) = bitAt-clear-other ws (u * 512 + v) (a * 512 + w) d
+      go : Dec (w ≡ v) → cell (withoutBit ws (u * 512 + v)) u w ≡ cell ws u w
+      go (yes e) =
+          ap (λ (k : ℕ). cell (withoutBit ws (u * 512 + v)) u k) e ∙ bitAt-clear-same ws (u * 512 + v) (omega arith) ∙ sym (ap (λ (k : ℕ). cell ws u k) e ∙ z)
+      go (no d) = bitAt-clear-other ws (u * 512 + v) (u * 512 + w) (apart-in w d)
+
+  row-out : getD sizes u 0 ≡ sum 512 (λ w. cell (withoutBit ws (u * 512 + v)) u w) + cell ws u v
+  row-out = c .rows u (hu .0) ∙ go (ℕ-discrete (cell ws u v) 1)
+    where
+      go : Dec (cell ws u v ≡ 1) → sum 512 (λ w. cell ws u w) ≡ sum 512 (λ w. cell (withoutBit ws (u * 512 + v)) u w) + cell ws u v
+      go (yes o) = omega (arith, row-taken o)
+      go (no d) =
+          let z : cell ws u v ≡ 0 = omega (arith, bitAt-lt ws (u * 512 + v)) in
+          omega (arith, z, sum-cong 512 (λ w. cell (withoutBit ws (u * 512 + v)) u w) (λ w. cell ws u w) (λ w q. row-left w z))
+
+  pub row-bit : cell ws u v ≤ getD sizes u 0
+  row-bit = omega (arith, row-out)
+
+  pub counted-out : Counted (withoutBit ws (u * 512 + v)) (set sizes u (getD sizes u 0 - cell ws u v))
+  counted-out =
+      change ws (withoutBit ws (u * 512 + v)) sizes u (getD sizes u 0 - cell ws u v) (hu .2) c
+      (λ a b d l. bitAt-clear-other ws (u * 512 + v) (a * 512 + b) (apart-row a b d l))
+      (omega (arith, row-out))
 
 pub row-most : {ws sizes : List ℕ} → Counted ws sizes → (u : ℕ) → u < 512 → getD sizes u 0 ≤ 512
 row-most {ws} {sizes} c u h =
     omega (arith, c .rows u h, sum-le 512 (λ v. cell ws u v) (λ v. 1) (λ v l. omega (arith, bitAt-lt ws (u * 512 + v))), sum-const 512 1)
-
-pub counted-copy : {ws sizes copy : List ℕ} → Counted ws sizes → length copy ≡ 512 → ((u : ℕ) → u < 512 → getD copy u 0 ≡ getD sizes u 0) → Counted ws copy
-counted-copy c len e = record { size = len; rows = λ u h. e u h ∙ c .rows u h }
 
 -- a bit as the test for it tells
 pub one-is : (x : ℕ) → eqb x 1 ≡ true → x ≡ 1

@@ -1,18 +1,21 @@
 -- What the planner's working tables hold, for the contracts inside the crate.
 --
+--     Empty ws                each word is 0
 --     SetOf ws f              eight words hold the v below 512 that pass f
---     Table ws f              512 rows of eight words hold the relation f between numbers below 512
+--     Table ws f              rows of eight words hold the relation f between numbers below 512; a row past the last is empty
 --     Counted ws sizes        the sizes are those of the rows
+--     Room ws sizes u         u has a row in the table and a place among the sizes
+--     Stands part k           edge k stands in the part
 --     linked n edges k        each of n handsets is related to itself, and the ends of each of the first k edges to each other
 --     faulty edges n k        one of questions 8 to 10 gets a no for edge k
 --     Added ..                what adding the edges tells and leaves; Positions: what reading the positions does
---     apart xs ys u v         the squared distance by two tables of coordinates
---     Picks list r from c t   the first r numbers of the list are those of from 0 .. from (c - 1) that pass t
+--     Placed xs ys u          u has a place in both tables of coordinates, and stands within the limits; apart xs ys u v: the squared distance by them
+--     Picks at r from c t     at 0 .. at (r - 1) are those of from 0 .. from (c - 1) that pass t
 --     Dropped ..              a table without the edges of a list
 --     enough ..               the test for similarity by a table and its sizes
 --     nearIn, similarIn       the neighbour and the similarity relation among the handsets of a network; coreIn: its cores
 --     NetworkRead s ..        what reading an image tells and leaves; NearKept: what dropping its long edges leaves
---     Survey g ..             the tables of a network: the sizes of its neighbourhoods, similarity, cores; SurveyCall: what making them tells
+--     Survey g ..             the tables of a network: similarity, cores
 --     Grouped g ws k          the first k rows are the communities of the network, in their order
 --     Found g ..              all that a call works out of an accepted site
 --     rowMembers ws k         the members of row k, ascending; rowsOf ws k: those of the first k rows
@@ -31,17 +34,24 @@ use Rattle.community.specs.Site.{network}
 use Rattle.community.specs.declared.Role.{Role}
 use Rattle.community.specs.declared.Role.the-variants.{Core}
 
+pub record Empty (ws : List ℕ) : Type 0 where
+  pub zeros : (i : ℕ) → getD ws i 0 ≡ 0
+
 pub record SetOf (ws : List ℕ) (f : ℕ → Bool) : Type 0 where
   pub size : length ws ≡ 8
   pub bits : (v : ℕ) → v < 512 → bitAt ws v ≡ bit (f v)
 
 pub record Table (ws : List ℕ) (f : ℕ → ℕ → Bool) : Type 0 where
-  pub size : length ws ≡ 4096
   pub bits : (u v : ℕ) → u < 512 → v < 512 → cell ws u v ≡ bit (f u v)
 
 pub record Counted (ws sizes : List ℕ) : Type 0 where
-  pub size : length sizes ≡ 512
   pub rows : (u : ℕ) → u < 512 → getD sizes u 0 ≡ sum 512 (λ v. cell ws u v)
+
+abbrev pub Room : List ℕ → List ℕ → ℕ → Type 0
+Room ws sizes u = (u < 512) × (u * 8 + 8 ≤ length ws) × (u < length sizes)
+
+abbrev pub Stands : List ℕ → ℕ → Type 0
+Stands part k = (k < 4096) × (4 * k + 4 ≤ length part)
 
 unfoldable pub linked : ℕ → List ℕ → ℕ → ℕ → ℕ → Bool
 unfolding any joins
@@ -63,15 +73,20 @@ pub record Positions (handsets : List ℕ) (n : ℕ) (yes : Bool) (xs ys : List 
   pub x-is : T yes → (v : ℕ) → v < n → getD xs v 0 ≡ xAt handsets v
   pub y-is : T yes → (v : ℕ) → v < n → getD ys v 0 ≡ yAt handsets v
 
+abbrev pub Placed : List ℕ → List ℕ → ℕ → Type 0
+Placed xs ys u =
+    (u < length xs) × (u < length ys)
+    × (2146483648 ≤ getD xs u 0) × (getD xs u 0 ≤ 2148483648) × (2146483648 ≤ getD ys u 0) × (getD ys u 0 ≤ 2148483648)
+
 abbrev pub apart : List ℕ → List ℕ → ℕ → ℕ → ℕ
 apart xs ys u v =
     gap (getD xs u 0) (getD xs v 0) * gap (getD xs u 0) (getD xs v 0) + gap (getD ys u 0) (getD ys v 0) * gap (getD ys u 0) (getD ys v 0)
 
-pub record Picks (list : List ℕ) (r : ℕ) (from : ℕ → ℕ) (c : ℕ) (test : ℕ → Bool) : Type 0 where
-  pub same : (f : ℕ → Bool) → any r (λ j. f (getD list j 0)) ≡ any c (λ i. test (from i) && f (from i))
+pub record Picks (at : ℕ → ℕ) (r : ℕ) (from : ℕ → ℕ) (c : ℕ) (test : ℕ → Bool) : Type 0 where
+  pub same : (f : ℕ → Bool) → any r (λ j. f (at j)) ≡ any c (λ i. test (from i) && f (from i))
 
 pub record Dropped (edges list : List ℕ) (c : ℕ) (before after : List ℕ) : Type 0 where
-  pub size : length after ≡ 4096
+  pub size : length after ≡ length before
   pub bits : (u v : ℕ) → u < 512 → v < 512 → cell after u v ≡ bit (eqb (cell before u v) 1 && not (any c (λ i. joins edges u v (getD list i 0))))
 
 -- c / √(a b) ≥ p / q for the marks c that rows u and v have in common and their sizes a and b
@@ -108,26 +123,18 @@ pub record NetworkRead (s : List ℕ) (yes : Bool) (xs ys ws sizes : List ℕ) :
   pub table : T yes → Table ws (linked (handsetCount s) (edgeRecords s) (edgeCount s))
   pub counted : T yes → Counted ws sizes
 
--- the neighbour table of an accepted image with its sizes, and the list of the edges that are not too long
-pub record NearKept (s : List ℕ) (c : ℕ) (near ws sizes : List ℕ) : Type 0 where
+-- the neighbour table of an accepted image with its sizes, and the first c numbers of a list: those of the edges that are not too long
+pub record NearKept (s : List ℕ) (c : ℕ) (list ws sizes : List ℕ) : Type 0 where
   pub most : c ≤ edgeCount s
-  pub listed : Picks near c (λ k. k) (edgeCount s) (λ k. within s (endA (edgeRecords s) k) (endB (edgeRecords s) k))
+  pub listed : Picks (λ j. getD list j 0) c (λ k. k) (edgeCount s) (λ k. within s (endA (edgeRecords s) k) (endB (edgeRecords s) k))
   pub table : Table ws (nearIn (network s))
   pub counted : Counted ws sizes
 
-pub record Survey (g : Network) (sizes alike cores : List ℕ) : Type 0 where
-  pub near-sizes : (u : ℕ) → u < g .n → getD sizes u 0 ≡ neighbourhoodSize g u
+pub record Survey (g : Network) (alike cores : List ℕ) : Type 0 where
   pub similar-table : Table alike (similarIn g)
   pub core-set : SetOf cores (coreIn g)
 
--- a yes accepts the image, and then the tables are those of its network
-pub record SurveyCall (s : List ℕ) (yes : Bool) (alike sizes cores : List ℕ) : Type 0 where
-  pub accepted : T yes → Accepted s
-  pub refused : T (not yes) → Accepted s → ⊥
-  pub survey : T yes → Survey (network s) sizes alike cores
-
 pub record Grouped (g : Network) (rows : List ℕ) (k : ℕ) : Type 0 where
-  pub size : length rows ≡ 4096
   pub number : k ≡ length (leaders g)
   pub row : (j v : ℕ) → j < k → v < 512 → cell rows j v ≡ bit (reachableIn g (getD (leaders g) j 0) v)
 

@@ -2,9 +2,10 @@
 // each handset, one bit a handset, and the size of each row stands beside it; only the edges are gone through, never the pairs of handsets.
 //
 // First every edge is added, which checks it too. Then the edges that are too long are dropped, and then those whose ends are not similar: each
-// time they are listed first, by a loop that does not branch on the test, so that the processor has nothing to guess.
+// time they are listed first, by a loop that does not branch on the test, so that the processor has nothing to guess. The tables are lent, with room
+// for the site's handsets and edges, so that the caller clears no more than the site needs.
 ghost use mathlib.Core.Path.{_≡_};
-ghost use mathlib.Core.Bool.{_&&_, not};
+ghost use mathlib.Core.Bool.{_&&_, not, cond};
 ghost use Prim.Native.Nat.{ℕ, _+_, _*_, _-_, _≤_, _<_, min};
 ghost use lib.Dec.{leb, ltb, eqb};
 ghost use lib.ListN.{length, getD, replicate};
@@ -13,13 +14,13 @@ ghost use Rattle.sets.specs.Bits.{cell, withBit, withoutBit};
 ghost use Rattle.image.specs.Image.{handsetRecords, edgeRecords, xAt, yAt, gap, endA, endB};
 ghost use Rattle.image.specs.Questions.{Accepted, openHeader, headerOf};
 ghost use Rattle.community.specs.Site.{network};
-ghost use Rattle.planner.specs.Held.{SetOf, Table, Counted, linked, Added, Positions, apart, NetworkRead, Picks, Dropped, NearKept, enough, Survey, SurveyCall};
+ghost use Rattle.planner.specs.Held.{Empty, SetOf, Table, Counted, Room, Stands, linked, Added, Positions, Placed, apart, NetworkRead, Picks, Dropped, NearKept, enough, Survey};
 use image::Header;
 use image::Opened;
 
 // The first end of edge k. The record is known to be there, so it is read without the reader's test for that.
 fn end_a(edges: &[u8], k: usize) -> usize
-    requires { ⌜ (k < 4096) × (4 * k + 4 ≤ length (now edges)) ⌝ }
+    requires { ⌜ Stands (now edges) k ⌝ }
     ensures { λ r. ⌜ r ≡ endA (now (edges .entry)) k ⌝ }
 {
     (edges[4 * k] as usize) + 256 * (edges[4 * k + 1] as usize)
@@ -27,38 +28,47 @@ fn end_a(edges: &[u8], k: usize) -> usize
 
 // The second end of edge k.
 fn end_b(edges: &[u8], k: usize) -> usize
-    requires { ⌜ (k < 4096) × (4 * k + 4 ≤ length (now edges)) ⌝ }
+    requires { ⌜ Stands (now edges) k ⌝ }
     ensures { λ r. ⌜ r ≡ endB (now (edges .entry)) k ⌝ }
 {
     (edges[4 * k + 2] as usize) + 256 * (edges[4 * k + 3] as usize)
 }
 
+// Whether v is in row u.
+fn has(table: &[u64], u: usize, v: usize) -> bool
+    requires { ⌜ (u < 512) × (v < 512) × (u * 8 + 8 ≤ length (now table)) ⌝ }
+    ensures { λ r. ⌜ r ≡ eqb (cell (now (table .entry)) u v) 1 ⌝ }
+{
+    let i = u * 512 + v;
+    (table[i / 64] >> (i % 64)) % 2 == 1
+}
+
 // Adds v to row u, which does not have it.
 fn add(table: &mut [u64], sizes: &mut [u32], u: usize, v: usize)
-    requires { ⌜ (u < 512) × (v < 512) × (length (now table) ≡ 4096) × (Counted (now table) (now sizes)) × (cell (now table) u v ≡ 0) ⌝ }
+    requires { ⌜ (Room (now table) (now sizes) u) × (v < 512) × (Counted (now table) (now sizes)) × (cell (now table) u v ≡ 0) ⌝ }
     ensures added { λ _. ⌜ now (table .exit) ≡ withBit (now (table .entry)) (u * 512 + v) ⌝ }
     ensures counted { λ _. ⌜ Counted (now (table .exit)) (now (sizes .exit)) ⌝ }
 {
-    sets::mark(table, u * 512 + v);
+    let i = u * 512 + v;
+    table[i / 64] = table[i / 64] | (1u64 << (i % 64));
     sizes[u] = sizes[u] + 1;
 }
 
 // Takes v out of row u, if it is in it.
 fn take_out(table: &mut [u64], sizes: &mut [u32], u: usize, v: usize)
-    requires { ⌜ (u < 512) × (v < 512) × (length (now table) ≡ 4096) × (Counted (now table) (now sizes)) ⌝ }
+    requires { ⌜ (Room (now table) (now sizes) u) × (v < 512) × (Counted (now table) (now sizes)) ⌝ }
     ensures taken { λ _. ⌜ now (table .exit) ≡ withoutBit (now (table .entry)) (u * 512 + v) ⌝ }
     ensures counted { λ _. ⌜ Counted (now (table .exit)) (now (sizes .exit)) ⌝ }
 {
-    let had = sets::has(table, u * 512 + v);
-    sets::unmark(table, u * 512 + v);
-    if had {
-        sizes[u] = sizes[u] - 1;
-    }
+    let i = u * 512 + v;
+    let w = table[i / 64];
+    table[i / 64] = w ^ (w & (1u64 << (i % 64)));
+    sizes[u] = sizes[u] - ((w >> (i % 64)) % 2) as u32;
 }
 
 // Adds each of the first n handsets to its own row of an empty table.
 fn add_selves(table: &mut [u64], sizes: &mut [u32], n: usize)
-    requires { ⌜ (now table ≡ replicate 4096 0) × (now sizes ≡ replicate 512 0) × (n ≤ 512) ⌝ }
+    requires { ⌜ (n ≤ 512) × (8 * n ≤ length (now table)) × (n ≤ length (now sizes)) × (Empty (now table)) × (Empty (now sizes)) ⌝ }
     ensures added { λ _. ⌜ Table (now (table .exit)) (λ u v. ltb u n && eqb u v) ⌝ }
     ensures counted { λ _. ⌜ Counted (now (table .exit)) (now (sizes .exit)) ⌝ }
 {
@@ -72,7 +82,7 @@ fn add_selves(table: &mut [u64], sizes: &mut [u32], n: usize)
 // Adds the ends of each edge to each other's rows. Stops with a no at an edge that has an end that is no handset, that goes from a handset to itself,
 // or that joins what an earlier one joins: the row has that end already.
 fn add_edges(edges: &[u8], n: usize, m: usize, table: &mut [u64], sizes: &mut [u32]) -> bool
-    requires { ⌜ (n ≤ 512) × (m ≤ 4096) × (Table (now table) (λ u v. ltb u n && eqb u v)) × (Counted (now table) (now sizes)) × (4 * m ≤ length (now edges)) ⌝ }
+    requires { ⌜ (n ≤ 512) × (m ≤ 4096) × (4 * m ≤ length (now edges)) × (8 * n ≤ length (now table)) × (n ≤ length (now sizes)) × (Table (now table) (λ u v. ltb u n && eqb u v)) × (Counted (now table) (now sizes)) ⌝ }
     ensures { λ r. ⌜ Added (now (edges .entry)) n m r (now (table .exit)) (now (sizes .exit)) ⌝ }
 {
     let mut k: usize = 0;
@@ -82,7 +92,7 @@ fn add_edges(edges: &[u8], n: usize, m: usize, table: &mut [u64], sizes: &mut [u
         if !((u < n) & (v < n)) {
             return false;
         }
-        if sets::has(table, u * 512 + v) {
+        if has(table, u, v) {
             return false;
         }
         add(table, sizes, u, v);
@@ -94,7 +104,7 @@ fn add_edges(edges: &[u8], n: usize, m: usize, table: &mut [u64], sizes: &mut [u
 
 // Reads the position of each handset into two tables. Stops with a no at one that is out of its limits.
 fn read_positions(handsets: &[u8], n: u16, xs: &mut [u64], ys: &mut [u64]) -> bool
-    requires { ⌜ (n ≤ 512) × (length (now xs) ≡ 512) × (length (now ys) ≡ 512) ⌝ }
+    requires { ⌜ (n ≤ 512) × (n ≤ length (now xs)) × (n ≤ length (now ys)) ⌝ }
     ensures { λ r. ⌜ Positions (now (handsets .entry)) n r (now (xs .exit)) (now (ys .exit)) ⌝ }
 {
     let mut v: u16 = 0;
@@ -109,45 +119,44 @@ fn read_positions(handsets: &[u8], n: u16, xs: &mut [u64], ys: &mut [u64]) -> bo
     true
 }
 
-// How far apart two numbers are.
-fn gap_of(a: u64, b: u64) -> u64
-    ensures { λ r. ⌜ r ≡ gap a b ⌝ }
+// The square of the difference of two coordinates, which is the same either way round.
+fn squared_gap(a: u64, b: u64) -> u64
+    requires { ⌜ (a ≤ 2148483648) × (b ≤ 2148483648) × (gap a b ≤ 2000000) ⌝ }
+    ensures { λ r. ⌜ (r ≡ gap a b * gap a b) × (r ≤ 4000000000000) ⌝ }
 {
-    if a < b { b - a } else { a - b }
+    let d = (a as i64) - (b as i64);
+    (d * d) as u64
 }
 
-// The squared distance of two handsets whose positions keep the limits.
+// The squared distance of two handsets.
 fn squared_distance(xs: &[u64], ys: &[u64], u: usize, v: usize) -> u64
-    requires { ⌜ (u < length (now xs)) × (v < length (now xs)) × (u < length (now ys)) × (v < length (now ys)) × (gap (getD (now xs) u 0) (getD (now xs) v 0) ≤ 2000000) × (gap (getD (now ys) u 0) (getD (now ys) v 0) ≤ 2000000) ⌝ }
+    requires { ⌜ (Placed (now xs) (now ys) u) × (Placed (now xs) (now ys) v) ⌝ }
     ensures { λ r. ⌜ r ≡ apart (now (xs .entry)) (now (ys .entry)) u v ⌝ }
 {
-    let dx = gap_of(xs[u], xs[v]);
-    let dy = gap_of(ys[u], ys[v]);
-    dx * dx + dy * dy
+    squared_gap(xs[u], xs[v]) + squared_gap(ys[u], ys[v])
 }
 
-// Lists the edges by number: those whose squared length is at most the limit in `near`, the others in `far`. Gives the count of the first.
+// Lists the edges by number: those whose squared length is at most the limit from the front on, the others from the place m - 1 back. Gives the count
+// of the first.
 fn list_by_length<'a>(
     edges: &'a [u8],
     m: usize,
     limit: u64,
     xs: &'a [u64],
     ys: &'a [u64],
-    near: &mut [u16],
-    far: &mut [u16],
+    list: &mut [u16],
 ) -> usize
-    requires { ⌜ (m ≤ 4096) × (length (now near) ≡ 4096) × (length (now far) ≡ 4096) × (length (now xs) ≡ 512) × (length (now ys) ≡ 512) × (4 * m ≤ length (now edges)) ⌝ }
-    requires { ⌜ ((k : ℕ) → k < m → (endA (now edges) k < 512) × (endB (now edges) k < 512) × (gap (getD (now xs) (endA (now edges) k) 0) (getD (now xs) (endB (now edges) k) 0) ≤ 2000000) × (gap (getD (now ys) (endA (now edges) k) 0) (getD (now ys) (endB (now edges) k) 0) ≤ 2000000)) ⌝ }
+    requires { ⌜ (m ≤ 4096) × (m ≤ length (now list)) × (4 * m ≤ length (now edges)) × ((k : ℕ) → k < m → (Placed (now xs) (now ys) (endA (now edges) k)) × (Placed (now xs) (now ys) (endB (now edges) k))) ⌝ }
     ensures most { λ r. ⌜ r ≤ m ⌝ }
-    ensures near { λ r. ⌜ Picks (now (near .exit)) r (λ k. k) m (λ k. leb (apart (now (xs .entry)) (now (ys .entry)) (endA (now (edges .entry)) k) (endB (now (edges .entry)) k)) limit) ⌝ }
-    ensures far { λ r. ⌜ Picks (now (far .exit)) (m - r) (λ k. k) m (λ k. not (leb (apart (now (xs .entry)) (now (ys .entry)) (endA (now (edges .entry)) k) (endB (now (edges .entry)) k)) limit)) ⌝ }
+    ensures near { λ r. ⌜ Picks (λ j. getD (now (list .exit)) j 0) r (λ k. k) m (λ k. leb (apart (now (xs .entry)) (now (ys .entry)) (endA (now (edges .entry)) k) (endB (now (edges .entry)) k)) limit) ⌝ }
+    ensures far { λ r. ⌜ Picks (λ j. getD (now (list .exit)) (m - 1 - j) 0) (m - r) (λ k. k) m (λ k. not (leb (apart (now (xs .entry)) (now (ys .entry)) (endA (now (edges .entry)) k) (endB (now (edges .entry)) k)) limit)) ⌝ }
 {
     let mut c: usize = 0;
     let mut k: usize = 0;
     while k < m {
         let d = squared_distance(xs, ys, end_a(edges, k), end_b(edges, k));
-        near[c] = k as u16;
-        far[k - c] = k as u16;
+        list[c] = k as u16;
+        list[c + (m - 1 - k)] = k as u16;
         if d <= limit {
             c += 1;
         }
@@ -156,20 +165,14 @@ fn list_by_length<'a>(
     c
 }
 
-// Drops the first `count` edges of a list: takes the ends of each out of each other's rows.
-fn drop_edges<'a>(
-    edges: &'a [u8],
-    list: &'a [u16],
-    count: usize,
-    table: &mut [u64],
-    sizes: &mut [u32],
-)
-    requires { ⌜ (count ≤ 4096) × (length (now list) ≡ 4096) × (length (now table) ≡ 4096) × (Counted (now table) (now sizes)) × ((i : ℕ) → i < count → (getD (now list) i 0 < 4096) × (4 * getD (now list) i 0 + 4 ≤ length (now edges)) × (endA (now edges) (getD (now list) i 0) < 512) × (endB (now edges) (getD (now list) i 0) < 512)) ⌝ }
-    ensures dropped { λ _. ⌜ Dropped (now (edges .entry)) (now (list .entry)) count (now (table .entry)) (now (table .exit)) ⌝ }
+// Drops the edges of a list: takes the ends of each out of each other's rows.
+fn drop_edges<'a>(edges: &'a [u8], list: &'a [u16], table: &mut [u64], sizes: &mut [u32])
+    requires { ⌜ (length (now list) ≤ 4096) × (Counted (now table) (now sizes)) × ((i : ℕ) → i < length (now list) → (Stands (now edges) (getD (now list) i 0)) × (Room (now table) (now sizes) (endA (now edges) (getD (now list) i 0))) × (Room (now table) (now sizes) (endB (now edges) (getD (now list) i 0)))) ⌝ }
+    ensures dropped { λ _. ⌜ Dropped (now (edges .entry)) (now (list .entry)) (length (now (list .entry))) (now (table .entry)) (now (table .exit)) ⌝ }
     ensures counted { λ _. ⌜ Counted (now (table .exit)) (now (sizes .exit)) ⌝ }
 {
     let mut i: usize = 0;
-    while i < count {
+    while i < list.len() {
         let k = list[i] as usize;
         let u = end_a(edges, k);
         let v = end_b(edges, k);
@@ -181,7 +184,7 @@ fn drop_edges<'a>(
 
 // How many are marked in both rows u and v, in their first few words.
 fn common_words(table: &[u64], u: usize, v: usize, words: usize) -> u32
-    requires { ⌜ (u < 512) × (v < 512) × (length (now table) ≡ 4096) × (words ≤ 8) ⌝ }
+    requires { ⌜ (u < 512) × (v < 512) × (u * 8 + 8 ≤ length (now table)) × (v * 8 + 8 ≤ length (now table)) × (words ≤ 8) ⌝ }
     ensures { λ r. ⌜ (r ≡ sum (words * 64) (λ w. min (cell (now (table .entry)) u w) (cell (now (table .entry)) v w))) × (r ≤ 512) ⌝ }
 {
     let mut n: u32 = 0;
@@ -196,7 +199,7 @@ fn common_words(table: &[u64], u: usize, v: usize, words: usize) -> u32
 // How many are marked in both rows u and v of a table whose rows have no number from n on. As many words are looked at as n needs, and each count
 // of words is a case of its own, so that it is compiled without a loop.
 fn common(table: &[u64], u: usize, v: usize, n: usize) -> u32
-    requires { ⌜ (u < 512) × (v < 512) × (length (now table) ≡ 4096) × (n ≤ 512) × ((w : ℕ) → n ≤ w → w < 512 → cell (now table) u w ≡ 0) ⌝ }
+    requires { ⌜ (u < 512) × (v < 512) × (u * 8 + 8 ≤ length (now table)) × (v * 8 + 8 ≤ length (now table)) × (n ≤ 512) × ((w : ℕ) → n ≤ w → w < 512 → cell (now table) u w ≡ 0) ⌝ }
     ensures { λ r. ⌜ (r ≡ sum 512 (λ w. min (cell (now (table .entry)) u w) (cell (now (table .entry)) v w))) × (r ≤ 512) ⌝ }
 {
     if 256 < n {
@@ -229,29 +232,28 @@ fn have_enough<'a>(
     p: u16,
     q: u16,
 ) -> bool
-    requires { ⌜ (u < 512) × (v < 512) × (length (now table) ≡ 4096) × (n ≤ 512) × ((w : ℕ) → n ≤ w → w < 512 → cell (now table) u w ≡ 0) ⌝ }
-    requires { ⌜ (length (now sizes) ≡ 512) × (getD (now sizes) u 0 ≤ 512) × (getD (now sizes) v 0 ≤ 512) × (p ≤ 1000) × (q ≤ 1000) ⌝ }
+    requires { ⌜ (Room (now table) (now sizes) u) × (Room (now table) (now sizes) v) × (n ≤ 512) × ((w : ℕ) → n ≤ w → w < 512 → cell (now table) u w ≡ 0) ⌝ }
+    requires { ⌜ (getD (now sizes) u 0 ≤ 512) × (getD (now sizes) v 0 ≤ 512) × (p ≤ 1000) × (q ≤ 1000) ⌝ }
     ensures { λ r. ⌜ r ≡ enough (now (table .entry)) (now (sizes .entry)) p q u v ⌝ }
 {
     let c = common(table, u, v, n) as u64;
     meets_epsilon(c, sizes[u] as u64, sizes[v] as u64, p as u64, q as u64)
 }
 
-// Lists those of the first `count` edges of a list whose ends do not have enough in common, and gives their count.
+// Of the first `count` edges of a list, keeps those whose ends do not have enough in common, at the front, and gives their count.
 fn list_unlike<'a>(
     edges: &'a [u8],
-    list: &'a [u16],
-    count: usize,
     table: &'a [u64],
     sizes: &'a [u32],
     h: Header,
-    unlike: &mut [u16],
+    count: usize,
+    list: &mut [u16],
 ) -> usize
-    requires { ⌜ (count ≤ 4096) × (length (now list) ≡ 4096) × (length (now unlike) ≡ 4096) × (length (now table) ≡ 4096) × (h .n ≤ 512) × (h .p ≤ 1000) × (h .q ≤ 1000) ⌝ }
-    requires { ⌜ ((i : ℕ) → i < count → (getD (now list) i 0 < 4096) × (4 * getD (now list) i 0 + 4 ≤ length (now edges)) × (endA (now edges) (getD (now list) i 0) < 512) × (endB (now edges) (getD (now list) i 0) < 512)) ⌝ }
-    requires { ⌜ (length (now sizes) ≡ 512) × ((u : ℕ) → u < 512 → getD (now sizes) u 0 ≤ 512) × ((u w : ℕ) → u < 512 → h .n ≤ w → w < 512 → cell (now table) u w ≡ 0) ⌝ }
+    requires { ⌜ (count ≤ 4096) × (count ≤ length (now list)) × (h .n ≤ 512) × (h .p ≤ 1000) × (h .q ≤ 1000) ⌝ }
+    requires { ⌜ ((i : ℕ) → i < count → (Stands (now edges) (getD (now list) i 0)) × (Room (now table) (now sizes) (endA (now edges) (getD (now list) i 0))) × (Room (now table) (now sizes) (endB (now edges) (getD (now list) i 0)))) ⌝ }
+    requires { ⌜ ((u : ℕ) → u < 512 → getD (now sizes) u 0 ≤ 512) × ((u w : ℕ) → u < 512 → h .n ≤ w → w < 512 → cell (now table) u w ≡ 0) ⌝ }
     ensures most { λ r. ⌜ r ≤ count ⌝ }
-    ensures listed { λ r. ⌜ Picks (now (unlike .exit)) r (λ i. getD (now (list .entry)) i 0) count (λ k. not (enough (now (table .entry)) (now (sizes .entry)) (h .p) (h .q) (endA (now (edges .entry)) k) (endB (now (edges .entry)) k))) ⌝ }
+    ensures listed { λ r. ⌜ Picks (λ j. getD (now (list .exit)) j 0) r (λ i. getD (now (list .entry)) i 0) count (λ k. not (enough (now (table .entry)) (now (sizes .entry)) (h .p) (h .q) (endA (now (edges .entry)) k) (endB (now (edges .entry)) k))) ⌝ }
 {
     let n = h.n as usize;
     let mut c: usize = 0;
@@ -259,13 +261,22 @@ fn list_unlike<'a>(
     while i < count {
         let k = list[i] as usize;
         let alike = have_enough(table, sizes, end_a(edges, k), end_b(edges, k), n, h.p, h.q);
-        unlike[c] = list[i];
+        list[c] = list[i];
         if !alike {
             c += 1;
         }
         i += 1;
     }
     c
+}
+
+// Adds u to a set of eight words or leaves it as it is, without a branch.
+fn mark_if(set: &mut [u64], u: usize, yes: bool)
+    requires { ⌜ (u < 512) × (length (now set) ≡ 8) ⌝ }
+    ensures { λ _. ⌜ now (set .exit) ≡ cond yes (withBit (now (set .entry)) u) (now (set .entry)) ⌝ }
+{
+    let one = if yes { 1u64 } else { 0u64 };
+    set[u / 64] = set[u / 64] | (one << (u % 64));
 }
 
 // Fills the empty set `cores` with the handsets below n whose size is at least mu.
@@ -275,28 +286,14 @@ fn mark_cores(sizes: &[u32], n: usize, mu: u32, cores: &mut [u64])
 {
     let mut u = 0;
     while u < n {
-        if mu <= sizes[u] {
-            sets::mark(cores, u);
-        }
-        u += 1;
-    }
-}
-
-// Copies the sizes of 512 rows.
-fn copy_sizes(from: &[u32], to: &mut [u32])
-    requires { ⌜ (length (now from) ≡ 512) × (length (now to) ≡ 512) ⌝ }
-    ensures { λ _. ⌜ ((u : ℕ) → u < 512 → getD (now (to .exit)) u 0 ≡ getD (now (from .entry)) u 0) ⌝ }
-{
-    let mut u = 0;
-    while u < 512 {
-        to[u] = from[u];
+        mark_if(cores, u, mu <= sizes[u]);
         u += 1;
     }
 }
 
 // Reads and checks the positions and the edges of an image whose header has passed, and adds each handset and each edge to an empty table. A no
 // says that one of questions 7 to 10 gets a no.
-fn read_network(
+pub(crate) fn read_network(
     image: &[u8],
     h: Header,
     xs: &mut [u64],
@@ -304,7 +301,8 @@ fn read_network(
     table: &mut [u64],
     sizes: &mut [u32],
 ) -> bool
-    requires { ⌜ (openHeader (now image) ≡ Opened.Site h) × (length (now xs) ≡ 512) × (length (now ys) ≡ 512) × (now table ≡ replicate 4096 0) × (now sizes ≡ replicate 512 0) ⌝ }
+    requires { ⌜ (openHeader (now image) ≡ Opened.Site h) × (h .n ≤ length (now xs)) × (h .n ≤ length (now ys)) ⌝ }
+    requires { ⌜ (8 * h .n ≤ length (now table)) × (h .n ≤ length (now sizes)) × (Empty (now table)) × (Empty (now sizes)) ⌝ }
     ensures { λ r. ⌜ NetworkRead (now (image .entry)) r (now (xs .exit)) (now (ys .exit)) (now (table .exit)) (now (sizes .exit)) ⌝ }
 {
     let n = h.n as usize;
@@ -322,73 +320,46 @@ fn read_network(
 
 // Drops the edges that are too long from the table of all edges of an accepted site, which leaves its neighbour relation. Lists the others, and gives
 // their count.
-fn keep_near<'a>(
+pub(crate) fn keep_near<'a>(
     image: &'a [u8],
     h: Header,
     xs: &'a [u64],
     ys: &'a [u64],
-    near: &mut [u16],
+    list: &mut [u16],
     table: &mut [u64],
     sizes: &mut [u32],
 ) -> usize
-    requires { ⌜ (Accepted (now image)) × (h ≡ headerOf (now image)) × (length (now near) ≡ 4096) × (length (now xs) ≡ 512) × (length (now ys) ≡ 512) ⌝ }
+    requires { ⌜ (Accepted (now image)) × (h ≡ headerOf (now image)) × (h .m ≤ length (now list)) × (h .n ≤ length (now xs)) × (h .n ≤ length (now ys)) ⌝ }
     requires { ⌜ ((v : ℕ) → v < h .n → (getD (now xs) v 0 ≡ xAt (handsetRecords (now image)) v) × (getD (now ys) v 0 ≡ yAt (handsetRecords (now image)) v)) ⌝ }
-    requires { ⌜ (Table (now table) (linked (h .n) (edgeRecords (now image)) (h .m))) × (Counted (now table) (now sizes)) ⌝ }
-    ensures { λ r. ⌜ NearKept (now (image .entry)) r (now (near .exit)) (now (table .exit)) (now (sizes .exit)) ⌝ }
+    requires { ⌜ (8 * h .n ≤ length (now table)) × (h .n ≤ length (now sizes)) × (Table (now table) (linked (h .n) (edgeRecords (now image)) (h .m))) × (Counted (now table) (now sizes)) ⌝ }
+    ensures { λ r. ⌜ NearKept (now (image .entry)) r (now (list .exit)) (now (table .exit)) (now (sizes .exit)) ⌝ }
 {
     let m = h.m as usize;
     let a = h.edges as usize;
     let b = a + 4 * m;
     let edges = &image[a..b];
-    let mut far = [0u16; 4096];
-    let count = list_by_length(edges, m, h.limit, xs, ys, near, &mut far);
-    drop_edges(edges, &far, m - count, table, sizes);
+    let count = list_by_length(edges, m, h.limit, xs, ys, list);
+    drop_edges(edges, &list[count..m], table, sizes);
     count
 }
 
 // Drops the edges whose ends are not similar from the neighbour table of an accepted site, which leaves its similarity relation, and marks the cores.
-fn keep_similar<'a>(
-    image: &'a [u8],
+pub(crate) fn keep_similar(
+    image: &[u8],
     h: Header,
-    near: &'a [u16],
     count: usize,
-    sizes: &'a [u32],
+    list: &mut [u16],
     table: &mut [u64],
+    sizes: &mut [u32],
     cores: &mut [u64],
 )
-    requires { ⌜ (Accepted (now image)) × (h ≡ headerOf (now image)) × (length (now near) ≡ 4096) × (NearKept (now image) count (now near) (now table) (now sizes)) × (now cores ≡ replicate 8 0) ⌝ }
-    ensures { λ _. ⌜ Survey (network (now (image .entry))) (now (sizes .entry)) (now (table .exit)) (now (cores .exit)) ⌝ }
+    requires { ⌜ (Accepted (now image)) × (h ≡ headerOf (now image)) × (h .m ≤ length (now list)) × (8 * h .n ≤ length (now table)) × (h .n ≤ length (now sizes)) × (NearKept (now image) count (now list) (now table) (now sizes)) × (now cores ≡ replicate 8 0) ⌝ }
+    ensures { λ _. ⌜ Survey (network (now (image .entry))) (now (table .exit)) (now (cores .exit)) ⌝ }
 {
     let a = h.edges as usize;
     let b = a + 4 * (h.m as usize);
     let edges = &image[a..b];
-    let mut unlike = [0u16; 4096];
-    let unlikes = list_unlike(edges, near, count, table, sizes, h, &mut unlike);
-    let mut alike = [0u32; 512];
-    copy_sizes(sizes, &mut alike);
-    drop_edges(edges, &unlike, unlikes, table, &mut alike);
-    mark_cores(&alike, h.n as usize, fields::core_size(h.mu) as u32, cores);
-}
-
-// Works out the network of an image whose header has passed, in three empty tables: the similar handsets of each handset, the size of each
-// neighbourhood, and the cores. A no says that the image is refused.
-pub(crate) fn survey(
-    image: &[u8],
-    h: Header,
-    table: &mut [u64],
-    sizes: &mut [u32],
-    cores: &mut [u64],
-) -> bool
-    requires { ⌜ (openHeader (now image) ≡ Opened.Site h) × (now table ≡ replicate 4096 0) × (now sizes ≡ replicate 512 0) × (now cores ≡ replicate 8 0) ⌝ }
-    ensures { λ r. ⌜ SurveyCall (now (image .entry)) r (now (table .exit)) (now (sizes .exit)) (now (cores .exit)) ⌝ }
-{
-    let mut xs = [0u64; 512];
-    let mut ys = [0u64; 512];
-    if !read_network(image, h, &mut xs, &mut ys, table, sizes) {
-        return false;
-    }
-    let mut near = [0u16; 4096];
-    let count = keep_near(image, h, &xs, &ys, &mut near, table, sizes);
-    keep_similar(image, h, &near, count, sizes, table, cores);
-    true
+    let unlike = list_unlike(edges, table, sizes, h, count, list);
+    drop_edges(edges, &list[0..unlike], table, sizes);
+    mark_cores(sizes, h.n as usize, fields::core_size(h.mu) as u32, cores);
 }

@@ -1,11 +1,12 @@
 // The communities of a network, from its similarity table and its set of cores: each is what is reachable from its smallest core.
 //
-// Sets are eight words; a table is 512 rows of eight words. Everything goes a word at a time, and each core's row is or'ed once.
-ghost use Prim.Native.Nat.{_+_, _*_, _≤_, _<_};
+// Sets are eight words; a table has a row of eight words for each handset. Everything goes a word at a time, over no more words than the site's
+// n handsets need, and each core's row is or'ed once.
+ghost use Prim.Native.Nat.{ℕ, _+_, _*_, _≤_, _<_};
 ghost use mathlib.Core.Path.{_≡_};
 ghost use lib.ListN.{length};
-ghost use Rattle.sets.specs.Bits.{bitAt};
-ghost use Rattle.planner.specs.Groups.{FirstCommon, Joined, Stored, Collected, GroupsFound};
+ghost use Rattle.sets.specs.Bits.{bitOf, bitAt, cell};
+ghost use Rattle.planner.specs.Groups.{FirstCommon, Joined, JoinedAll, Swept, Stored, Collected, GroupsFound};
 
 // The first number in both sets, or 512 where there is none.
 pub(crate) fn first_common(a: &[u64], b: &[u64]) -> usize
@@ -23,15 +24,63 @@ pub(crate) fn first_common(a: &[u64], b: &[u64]) -> usize
     512
 }
 
-// Adds row u of the table to the set.
-fn join_row(table: &[u64], u: usize, set: &mut [u64])
-    requires { ⌜ (u * 8 + 8 ≤ length (now table)) × (length (now set) ≡ 8) ⌝ }
+// Adds the first few words of row u of the table, behind which the row is empty, to the set.
+fn join_words(table: &[u64], u: usize, set: &mut [u64], words: usize)
+    requires { ⌜ (u < 512) × (u * 8 + 8 ≤ length (now table)) × (length (now set) ≡ 8) × (words ≤ 8) × ((v : ℕ) → words * 64 ≤ v → v < 512 → cell (now table) u v ≡ 0) ⌝ }
     ensures { λ _. ⌜ Joined (now (table .entry)) u (now (set .entry)) (now (set .exit)) ⌝ }
 {
     let first = u * 8;
     let mut j: usize = 0;
-    while j < 8 {
+    while j < words {
         set[j] = set[j] | table[first + j];
+        j += 1;
+    }
+}
+
+// Adds row u of the table, which has no number from n on, to the set. Each count of words is a case of its own, so that it is compiled without a loop.
+fn join_row(table: &[u64], u: usize, set: &mut [u64], n: usize)
+    requires { ⌜ (u < 512) × (u * 8 + 8 ≤ length (now table)) × (length (now set) ≡ 8) × (n ≤ 512) × ((v : ℕ) → n ≤ v → v < 512 → cell (now table) u v ≡ 0) ⌝ }
+    ensures { λ _. ⌜ Joined (now (table .entry)) u (now (set .entry)) (now (set .exit)) ⌝ }
+{
+    if 256 < n {
+        join_words(table, u, set, 8);
+        return;
+    }
+    if 128 < n {
+        join_words(table, u, set, 4);
+        return;
+    }
+    if 64 < n {
+        join_words(table, u, set, 2);
+        return;
+    }
+    join_words(table, u, set, 1);
+}
+
+// Adds row base + k of the table to the set, for each set bit k of the word.
+fn join_all(table: &[u64], word: u64, base: usize, set: &mut [u64], n: usize)
+    requires { ⌜ (base + 64 ≤ 512) × (length (now set) ≡ 8) × (n ≤ 512) × ((k : ℕ) → k < 64 → bitOf word k ≡ 1 → ((base + k) * 8 + 8 ≤ length (now table)) × ((v : ℕ) → n ≤ v → v < 512 → cell (now table) (base + k) v ≡ 0)) ⌝ }
+    ensures { λ _. ⌜ JoinedAll (now (table .entry)) word base (now (set .entry)) (now (set .exit)) ⌝ }
+{
+    let mut w = word;
+    while w != 0 {
+        let k = u64::trailing_zeros(w);
+        join_row(table, base + k as usize, set, n);
+        w = w ^ (w & (1u64 << k));
+    }
+}
+
+// Takes each number of the set out of todo and adds its row to the set, a word at a time. A number that comes into a word that has been gone through
+// is left for the next time.
+fn sweep(table: &[u64], todo: &mut [u64], set: &mut [u64], n: usize)
+    requires { ⌜ (length (now todo) ≡ 8) × (length (now set) ≡ 8) × (n ≤ 512) × (8 * n ≤ length (now table)) × ((v : ℕ) → n ≤ v → v < 512 → bitAt (now todo) v ≡ 0) × ((x v : ℕ) → x < 512 → n ≤ v → v < 512 → bitAt (now todo) x ≡ 1 → cell (now table) x v ≡ 0) ⌝ }
+    ensures { λ _. ⌜ Swept (now (table .entry)) (now (todo .entry)) (now (set .entry)) (now (todo .exit)) (now (set .exit)) ⌝ }
+{
+    let mut j: usize = 0;
+    while 64 * j < n {
+        let both = set[j] & todo[j];
+        todo[j] = todo[j] ^ both;
+        join_all(table, both, j * 64, set, n);
         j += 1;
     }
 }
@@ -51,16 +100,15 @@ fn store_row(rows: &mut [u64], k: usize, set: &[u64])
 
 // The closure of u, a number of todo: the row of u, of each number of todo in that row, and so on. Takes out of todo whatever it comes by,
 // so that no row is added twice.
-fn collect(alike: &[u64], todo: &mut [u64], u: usize) -> [u64; 8]
-    requires { ⌜ (u < 512) × (length (now alike) ≡ 4096) × (length (now todo) ≡ 8) × (bitAt (now todo) u ≡ 1) ⌝ }
+fn collect(alike: &[u64], todo: &mut [u64], u: usize, n: usize) -> [u64; 8]
+    requires { ⌜ (u < 512) × (length (now todo) ≡ 8) × (bitAt (now todo) u ≡ 1) × (n ≤ 512) × (8 * n ≤ length (now alike)) × ((v : ℕ) → n ≤ v → v < 512 → bitAt (now todo) v ≡ 0) × ((x v : ℕ) → x < 512 → n ≤ v → v < 512 → bitAt (now todo) x ≡ 1 → cell (now alike) x v ≡ 0) ⌝ }
     ensures { λ r. ⌜ Collected (now (alike .entry)) (now (todo .entry)) u (now (todo .exit)) r ⌝ }
 {
     let mut set = [0u64; 8];
     sets::mark(&mut set, u);
     let mut w = u;
     while w < 512 {
-        join_row(alike, w, &mut set);
-        sets::unmark(todo, w);
+        sweep(alike, todo, &mut set, n);
         w = first_common(&set, todo);
     }
     set
@@ -68,16 +116,16 @@ fn collect(alike: &[u64], todo: &mut [u64], u: usize) -> [u64; 8]
 
 // Makes the first rows of the similarity table the communities, by their smallest cores, and gives their number. Row k is written when the community
 // of the k-th smallest core is known: by then no core up to that one is left, so no row is lost that is still to be added.
-pub(crate) fn find_groups(table: &mut [u64], cores: &[u64]) -> usize
-    requires { ⌜ (length (now table) ≡ 4096) × (length (now cores) ≡ 8) ⌝ }
+pub(crate) fn find_groups(table: &mut [u64], cores: &[u64], n: usize) -> usize
+    requires { ⌜ (length (now cores) ≡ 8) × (n ≤ 512) × (8 * n ≤ length (now table)) × ((v : ℕ) → n ≤ v → v < 512 → bitAt (now cores) v ≡ 0) × ((u v : ℕ) → u < 512 → n ≤ v → v < 512 → cell (now table) u v ≡ 0) ⌝ }
     ensures { λ r. ⌜ GroupsFound (now (table .entry)) (now (cores .entry)) (now (table .exit)) r ⌝ }
 {
     let mut todo = [0u64; 8];
-    join_row(cores, 0, &mut todo);
+    join_row(cores, 0, &mut todo, n);
     let mut k: usize = 0;
     let mut u = first_common(&todo, &todo);
     while u < 512 {
-        let set = collect(table, &mut todo, u);
+        let set = collect(table, &mut todo, u, n);
         store_row(table, k, &set);
         k += 1;
         u = first_common(&todo, &todo);

@@ -2,17 +2,21 @@
 //
 // `graph` reads the network, its similarity relation and its cores, `groups` finds the communities as rows of bits, `tables` counts and writes them.
 // The calls work everything out on the stack, and write only when nothing is left to refuse. The edges are checked while they are read; where one is
-// at fault, the reader is asked for the image's refusal.
+// at fault, the reader is asked for the image's refusal. A plan's working tables have one of three sizes, so that a small site is not kept waiting
+// until tables for 512 handsets are cleared.
 mod graph;
 mod groups;
 mod tables;
 
 ghost use mathlib.Core.Path.{_≡_};
-ghost use Prim.Native.Nat.{_<_, _≤_};
+ghost use Prim.Native.Nat.{_*_, _<_, _≤_};
+ghost use lib.ListN.{length};
+ghost use Rattle.image.specs.Questions.{openHeader};
 ghost use Rattle.planner.specs.Plan.{PlanCall, CoreWords, knownOf};
-ghost use Rattle.planner.specs.Held.{roleFor};
+ghost use Rattle.planner.specs.Held.{Empty, roleFor};
 use community::Role;
 use community::Standing;
+use image::Header;
 use image::Opened;
 use image::Refusal;
 
@@ -34,6 +38,82 @@ pub enum Known {
     Refused(Refusal),
 }
 
+// The plan of an image whose header has passed, in both tables, and the set of its cores. The other tables are to work in, and have room for the
+// site's handsets and edges. A refusal writes nothing.
+fn plan_in(
+    image: &[u8],
+    h: Header,
+    xs: &mut [u64],
+    ys: &mut [u64],
+    list: &mut [u16],
+    table: &mut [u64],
+    sizes: &mut [u32],
+    starts: &mut [u32],
+    members: &mut [u16],
+) -> Outcome
+    requires { ⌜ (openHeader (now image) ≡ Opened.Site h) × (h .n ≤ length (now xs)) × (h .n ≤ length (now ys)) × (h .m ≤ length (now list)) ⌝ }
+    requires { ⌜ (8 * h .n ≤ length (now table)) × (h .n ≤ length (now sizes)) × (Empty (now table)) × (Empty (now sizes)) ⌝ }
+    ensures { λ r. ⌜ (PlanCall (now (image .entry)) (now (starts .entry)) (now (members .entry)) (r .answer) (now (starts .exit)) (now (members .exit))) × (CoreWords (now (image .entry)) (r .cores)) ⌝ }
+{
+    let mut cores = [0u64; 8];
+    if !graph::read_network(image, h, xs, ys, table, sizes) {
+        return Outcome {
+            answer: Planned::Refused(image::refusal_of(image::open(image))),
+            cores,
+        };
+    }
+    let near = graph::keep_near(image, h, xs, ys, list, table, sizes);
+    graph::keep_similar(image, h, near, list, table, sizes, &mut cores);
+    let count = groups::find_groups(table, &cores, h.n as usize);
+    let answer = tables::make_plan(table, count, starts, members);
+    Outcome { answer, cores }
+}
+
+// For at most 64 handsets and 512 edges.
+fn plan_small(image: &[u8], h: Header, starts: &mut [u32], members: &mut [u16]) -> Outcome
+    requires { ⌜ (openHeader (now image) ≡ Opened.Site h) × (h .n ≤ 64) × (h .m ≤ 512) ⌝ }
+    ensures { λ r. ⌜ (PlanCall (now (image .entry)) (now (starts .entry)) (now (members .entry)) (r .answer) (now (starts .exit)) (now (members .exit))) × (CoreWords (now (image .entry)) (r .cores)) ⌝ }
+{
+    let mut xs = [0u64; 64];
+    let mut ys = [0u64; 64];
+    let mut list = [0u16; 512];
+    let mut table = [0u64; 512];
+    let mut sizes = [0u32; 64];
+    plan_in(
+        image, h, &mut xs, &mut ys, &mut list, &mut table, &mut sizes, starts, members,
+    )
+}
+
+// For at most 256 handsets and 2,048 edges.
+fn plan_middle(image: &[u8], h: Header, starts: &mut [u32], members: &mut [u16]) -> Outcome
+    requires { ⌜ (openHeader (now image) ≡ Opened.Site h) × (h .n ≤ 256) × (h .m ≤ 2048) ⌝ }
+    ensures { λ r. ⌜ (PlanCall (now (image .entry)) (now (starts .entry)) (now (members .entry)) (r .answer) (now (starts .exit)) (now (members .exit))) × (CoreWords (now (image .entry)) (r .cores)) ⌝ }
+{
+    let mut xs = [0u64; 256];
+    let mut ys = [0u64; 256];
+    let mut list = [0u16; 2048];
+    let mut table = [0u64; 2048];
+    let mut sizes = [0u32; 256];
+    plan_in(
+        image, h, &mut xs, &mut ys, &mut list, &mut table, &mut sizes, starts, members,
+    )
+}
+
+// For any size.
+fn plan_full(image: &[u8], h: Header, starts: &mut [u32], members: &mut [u16]) -> Outcome
+    requires { ⌜ (openHeader (now image) ≡ Opened.Site h) ⌝ }
+    ensures { λ r. ⌜ (PlanCall (now (image .entry)) (now (starts .entry)) (now (members .entry)) (r .answer) (now (starts .exit)) (now (members .exit))) × (CoreWords (now (image .entry)) (r .cores)) ⌝ }
+{
+    let mut xs = [0u64; 512];
+    let mut ys = [0u64; 512];
+    let mut list = [0u16; 4096];
+    let mut table = [0u64; 4096];
+    let mut sizes = [0u32; 512];
+    plan_in(
+        image, h, &mut xs, &mut ys, &mut list, &mut table, &mut sizes, starts, members,
+    )
+}
+
 // The plan of an image in both tables, and the set of its cores. A refusal writes nothing.
 pub fn plan_and_cores(image: &[u8], starts: &mut [u32], members: &mut [u16]) -> Outcome
     ensures { λ r. ⌜ (PlanCall (now (image .entry)) (now (starts .entry)) (now (members .entry)) (r .answer) (now (starts .exit)) (now (members .exit))) × (CoreWords (now (image .entry)) (r .cores)) ⌝ }
@@ -45,18 +125,13 @@ pub fn plan_and_cores(image: &[u8], starts: &mut [u32], members: &mut [u16]) -> 
             cores: [0u64; 8],
         };
     };
-    let mut table = [0u64; 4096];
-    let mut sizes = [0u32; 512];
-    let mut cores = [0u64; 8];
-    if !graph::survey(image, h, &mut table, &mut sizes, &mut cores) {
-        return Outcome {
-            answer: Planned::Refused(image::refusal_of(image::open(image))),
-            cores: [0u64; 8],
-        };
+    if (h.n <= 64) & (h.m <= 512) {
+        return plan_small(image, h, starts, members);
     }
-    let count = groups::find_groups(&mut table, &cores);
-    let answer = tables::make_plan(&table, count, starts, members);
-    Outcome { answer, cores }
+    if (h.n <= 256) & (h.m <= 2048) {
+        return plan_middle(image, h, starts, members);
+    }
+    plan_full(image, h, starts, members)
 }
 
 // The plan of an image in both tables. A refusal writes nothing.
@@ -91,10 +166,13 @@ pub fn role(image: &[u8], v: usize) -> Known
     let Opened::Site(h) = header else {
         return Known::Refused(image::refusal_of(header));
     };
+    let mut xs = [0u64; 512];
+    let mut ys = [0u64; 512];
+    let mut list = [0u16; 4096];
     let mut table = [0u64; 4096];
     let mut sizes = [0u32; 512];
     let mut cores = [0u64; 8];
-    if !graph::survey(image, h, &mut table, &mut sizes, &mut cores) {
+    if !graph::read_network(image, h, &mut xs, &mut ys, &mut table, &mut sizes) {
         return Known::Refused(image::refusal_of(image::open(image)));
     }
     if h.n as usize <= v {
@@ -103,10 +181,12 @@ pub fn role(image: &[u8], v: usize) -> Known
             place: 0,
         });
     }
-    let count = groups::find_groups(&mut table, &cores);
+    let near = graph::keep_near(
+        image, h, &xs, &ys, &mut list, &mut table, &mut sizes,
+    );
+    let neighbours = sizes[v];
+    graph::keep_similar(image, h, near, &mut list, &mut table, &mut sizes, &mut cores);
+    let count = groups::find_groups(&mut table, &cores, h.n as usize);
     let role = role_in(&cores, &table, count, v);
-    Known::Handset(Standing {
-        neighbours: sizes[v],
-        role,
-    })
+    Known::Handset(Standing { neighbours, role })
 }

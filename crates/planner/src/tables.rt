@@ -1,10 +1,10 @@
-// The tables of a plan, from the rows of its communities: a table of 512 rows of eight words, whose first `count` rows are sets of handsets.
+// The tables of a plan, from the rows of its communities: a table of rows of eight words, whose first `count` rows are sets of handsets.
 // Counting comes first, so that a refusal writes nothing; a row's members are found word by word, by the lowest set bit.
 use crate::Planned;
 use image::Refusal;
 ghost use mathlib.Core.Path.{_≡_};
 ghost use mathlib.Core.List.{map};
-ghost use Prim.Native.Nat.{ℕ, _+_, _≤_, _<_};
+ghost use Prim.Native.Nat.{ℕ, _+_, _*_, _≤_, _<_};
 ghost use lib.Dec.{eqb};
 ghost use lib.ListN.{length};
 ghost use lib.Seq.{sets};
@@ -17,7 +17,7 @@ ghost use Rattle.planner.specs.Plan.{byRoom, over, planned};
 
 // How many members row k has: the ones of its eight words.
 fn row_size(rows: &[u64], k: usize) -> u32
-    requires { ⌜ (length (now rows) ≡ 4096) × (k < 512) ⌝ }
+    requires { ⌜ (k * 8 + 8 ≤ length (now rows)) × (k < 512) ⌝ }
     ensures { λ r. ⌜ r ≡ length (rowMembers (now (rows .entry)) k) ⌝ }
 {
     let mut n: u32 = 0;
@@ -31,7 +31,7 @@ fn row_size(rows: &[u64], k: usize) -> u32
 
 // How many memberships the first `count` rows have.
 fn count_members(rows: &[u64], count: usize) -> usize
-    requires { ⌜ (length (now rows) ≡ 4096) × (count ≤ 512) ⌝ }
+    requires { ⌜ (8 * count ≤ length (now rows)) × (count ≤ 512) ⌝ }
     ensures { λ r. ⌜ r ≡ length (memberTable (rowsOf (now (rows .entry)) count)) ⌝ }
 {
     let mut n: usize = 0;
@@ -63,7 +63,7 @@ fn write_word(word: u64, base: usize, members: &mut [u16], at: usize) -> usize
 
 // Writes the members of row k, ascending, from the place `at` on, and gives the place after them. An empty row writes nothing.
 fn write_row(rows: &[u64], k: usize, members: &mut [u16], at: usize) -> usize
-    requires { ⌜ (length (now rows) ≡ 4096) × (k < 512) × (at + length (rowMembers (now rows) k) ≤ length (now members)) ⌝ }
+    requires { ⌜ (k * 8 + 8 ≤ length (now rows)) × (k < 512) × (at + length (rowMembers (now rows) k) ≤ length (now members)) ⌝ }
     ensures next { λ r. ⌜ r ≡ at + length (rowMembers (now (rows .entry)) k) ⌝ }
     ensures written { λ r. ⌜ now (members .exit) ≡ sets (now (members .entry)) at (rowMembers (now (rows .entry)) k) ⌝ }
 {
@@ -78,7 +78,7 @@ fn write_row(rows: &[u64], k: usize, members: &mut [u16], at: usize) -> usize
 
 // Writes both tables of the first `count` rows, from their first places on, and leaves the places after them alone. With no rows the start table gets a 0.
 fn write_tables(rows: &[u64], count: usize, starts: &mut [u32], members: &mut [u16])
-    requires { ⌜ (length (now rows) ≡ 4096) × (count ≤ 512) × (count < length (now starts)) × (length (memberTable (rowsOf (now rows) count)) ≤ length (now members)) ⌝ }
+    requires { ⌜ (8 * count ≤ length (now rows)) × (count ≤ 512) × (count < length (now starts)) × (length (memberTable (rowsOf (now rows) count)) ≤ length (now members)) ⌝ }
     ensures started { λ _. ⌜ now (starts .exit) ≡ over (startTable (rowsOf (now (rows .entry)) count)) (now (starts .entry)) ⌝ }
     ensures written { λ _. ⌜ now (members .exit) ≡ over (memberTable (rowsOf (now (rows .entry)) count)) (now (members .entry)) ⌝ }
 {
@@ -130,7 +130,7 @@ pub(crate) fn make_plan(
     starts: &mut [u32],
     members: &mut [u16],
 ) -> Planned
-    requires { ⌜ (length (now rows) ≡ 4096) × (count ≤ 512) ⌝ }
+    requires { ⌜ (8 * count ≤ length (now rows)) × (count ≤ 512) ⌝ }
     ensures answer { λ r. ⌜ r ≡ planned (rowsOf (now (rows .entry)) count) (length (now (starts .entry))) (length (now (members .entry))) ⌝ }
     ensures started { λ _. ⌜ now (starts .exit) ≡ byRoom (rowsOf (now (rows .entry)) count) (length (now (starts .entry))) (length (now (members .entry))) (now (starts .entry)) (now (starts .entry)) (over (startTable (rowsOf (now (rows .entry)) count)) (now (starts .entry))) ⌝ }
     ensures written { λ _. ⌜ now (members .exit) ≡ byRoom (rowsOf (now (rows .entry)) count) (length (now (starts .entry))) (length (now (members .entry))) (now (members .entry)) (now (members .entry)) (over (memberTable (rowsOf (now (rows .entry)) count)) (now (members .entry))) ⌝ }

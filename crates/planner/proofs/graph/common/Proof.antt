@@ -14,7 +14,7 @@ returns c =
     let s = c .before .before .before in
     let a = s .args in
     let r = c .common-words .ensures in
-    (r .0 ∙ common-few (a .table .now) (a .u) (a .v) (a .n) 8 (omega arith) (omega arith) (s .pre .4), r .1)
+    (r .0 ∙ common-few (a .table .now) (a .u) (a .v) (a .n) 8 (omega arith) (omega arith) (s .pre .5), r .1)
 
 common-words-requires-2 : tie.Need-common-words-requires-2
 common-words-requires-2 c κs = search needs
@@ -24,7 +24,7 @@ returns-2 c =
     let s = c .before .before .before .before in
     let a = s .args in
     let r = c .common-words2 .ensures in
-    (r .0 ∙ common-few (a .table .now) (a .u) (a .v) (a .n) 4 (omega arith) (omega arith) (s .pre .4), r .1)
+    (r .0 ∙ common-few (a .table .now) (a .u) (a .v) (a .n) 4 (omega arith) (omega arith) (s .pre .5), r .1)
 
 common-words-requires-3 : tie.Need-common-words-requires-3
 common-words-requires-3 c κs = search needs
@@ -34,7 +34,7 @@ returns-3 c =
     let s = c .before .before .before .before .before in
     let a = s .args in
     let r = c .common-words3 .ensures in
-    (r .0 ∙ common-few (a .table .now) (a .u) (a .v) (a .n) 2 (omega arith) (omega arith) (s .pre .4), r .1)
+    (r .0 ∙ common-few (a .table .now) (a .u) (a .v) (a .n) 2 (omega arith) (omega arith) (s .pre .5), r .1)
 
 common-words-requires-4 : tie.Need-common-words-requires-4
 common-words-requires-4 c κs = search needs
@@ -44,7 +44,7 @@ returns-4 c =
     let s = c .before .before .before .before .before in
     let a = s .args in
     let r = c .common-words4 .ensures in
-    (r .0 ∙ common-few (a .table .now) (a .u) (a .v) (a .n) 1 (omega arith) (omega arith) (s .pre .4), r .1)
+    (r .0 ∙ common-few (a .table .now) (a .u) (a .v) (a .n) 1 (omega arith) (omega arith) (s .pre .5), r .1)
 
 pub common-spec : {M : Type 1} → statement M
 common-spec =

@@ -1,95 +1,106 @@
--- `planner::graph::drop_edges` meets its contract. After i edges of the list both cells of each are cleared, and the sizes are counted. The measure is
+-- `planner::graph::drop_edges` meets its contract. After i edges the table is that without the first i edges of the list, with its sizes. The measure is
 -- what is left of the list.
-use Prim.Native.Nat.{ℕ, _*_, _+_, _-_, _≤_, _<_}
-use native.Mathlib.Omega.{arith}
+use Prim.Native.Nat.{ℕ, _+_, _*_, _-_, _≤_, _<_}
 use mathlib.Core.Path.{_≡_, refl, sym, ap, ap₂, _∙_, subst}
 use mathlib.Core.List.{List}
 use lib.ListN.{length, getD}
 use Rattle.sets.specs.Bits.{withoutBit}
 use Rattle.sets.proofs.Bits.{length-withoutBit}
-use Rattle.planner.specs.Held.{Dropped, Counted}
+use Rattle.image.specs.Image.{endA, endB}
+use Rattle.planner.specs.Held.{Counted, Dropped, Room}
 use Rattle.planner.proofs.Edges.{dropped-none, dropped-more}
+use native.Mathlib.Omega.{arith}
 use Rattle.planner.proofs.graph.drop_edges.Statement.{statement}
 use Rattle.planner.proofs.graph.drop_edges.Tie as tie
 
 abbrev Inv-loop : tie.InvT-loop
-Inv-loop edges list count table₀ sizes₀ i₀ table sizes i = (i ≤ count) × Dropped edges list i table₀ table × Counted table sizes
+Inv-loop edges list table₀ sizes₀ i₀ table sizes i = (i ≤ length list) × (length sizes ≡ length sizes₀) × Dropped edges list i table₀ table × Counted table sizes
 
 abbrev μ-loop : tie.MeasureT-loop
-μ-loop edges list count table₀ sizes₀ i₀ table sizes i = count - i
+μ-loop edges list table₀ sizes₀ i₀ table sizes i = length list - i
 
 loop-holds : tie.Need-loop-holds Inv-loop μ-loop
-loop-holds c = let s = c .before .before .before .before in (omega arith, dropped-none (s .args .edges .now) (s .args .list .now) (s .args .table .now) (s .pre .2), s .pre .3)
+loop-holds c = let s = c .before .before .before .before in (omega arith, refl, dropped-none (s .args .edges .now) (s .args .list .now) (s .args .table .now), s .pre .1)
 
 mul-k : tie.Need-mul-k Inv-loop μ-loop
 mul-k c = omega (arith, c .before .before .before .before .before .before .pre .0, c .loop-test .taken)
 
 shared-slice-read-k : tie.Need-shared-slice-read-k Inv-loop μ-loop
-shared-slice-read-k c = omega (arith, c .before .before .before .before .before .before .before .pre .0, c .before .before .before .before .before .before .before .pre .1, c .before .loop-test .taken)
+shared-slice-read-k c = c .before .loop-test .taken
 
 cast-k : tie.Need-cast-k Inv-loop μ-loop
-cast-k c = omega (arith, c .before .before .before .before .before .before .before .pre .4 (c .before .before .loop .i) (c .before .loop-test .taken) .0)
+cast-k c = omega (arith, c .before .before .before .before .before .before .before .pre .2 (c .before .before .loop .i) (c .before .loop-test .taken) .0 .0)
 
 end-a-requires : tie.Need-end-a-requires Inv-loop μ-loop
-end-a-requires c κs = let b = c .before .before .before .before .before .before .before .pre .4 (c .before .before .loop .i) (c .before .loop-test .taken) in (b .0, b .1)
+end-a-requires c κs = c .before .before .before .before .before .before .before .pre .2 (c .before .before .loop .i) (c .before .loop-test .taken) .0
 
 end-b-requires : tie.Need-end-b-requires Inv-loop μ-loop
-end-b-requires c κs = let b = c .before .before .before .before .before .before .before .before .pre .4 (c .before .before .before .loop .i) (c .before .before .loop-test .taken) in (b .0, b .1)
+end-b-requires c κs = c .before .before .before .before .before .before .before .before .pre .2 (c .before .before .before .loop .i) (c .before .before .loop-test .taken) .0
 
--- the ends read are below 512
-ends : (c : tie.After-end-b Inv-loop μ-loop) → (c .before .end-a .result < 512) × (c .end-b .result < 512)
+-- the ends read have rows
+ends : (c : tie.After-end-b Inv-loop μ-loop)
+    → Room (c .before .before .before .before .loop .table) (c .before .before .before .before .loop .sizes) (c .before .end-a .result) × Room (c .before .before .before .before .loop .table) (c .before .before .before .before .loop .sizes) (c .end-b .result)
 ends c =
-    let b = c .before .before .before .before .before .before .before .before .before .pre .4 (c .before .before .before .before .loop .i) (c .before .before .before .loop-test .taken) in
-    (omega (arith, c .before .end-a .ensures, b .2), omega (arith, c .end-b .ensures, b .3))
+    let b = c .before .before .before .before .before .before .before .before .before .pre .2 (c .before .before .before .before .loop .i) (c .before .before .before .loop-test .taken) in
+    let l = c .before .before .before .before .loop in
+    let p = c .before .end-a .ensures in
+    let q = c .end-b .ensures in
+    let t = l .inv .2 .size in
+    (
+      (omega (arith, b .1 .0, p), omega (arith, b .1 .1, p, t), omega (arith, b .1 .2, p, l .inv .1)),
+      (omega (arith, b .2 .0, q), omega (arith, b .2 .1, q, t), omega (arith, b .2 .2, q, l .inv .1)),
+    )
 
 take-out-requires : tie.Need-take-out-requires Inv-loop μ-loop
 take-out-requires c κs =
     let e = ends (c .before .before) in
-    let l = c .before .before .before .before .before .before .loop in
-    (e .0, e .1, l .inv .1 .size, l .inv .2)
+    (e .0, e .1 .0, c .before .before .before .before .before .before .loop .inv .3)
 
 take-out-requires-2 : tie.Need-take-out-requires-2 Inv-loop μ-loop
 take-out-requires-2 c κs =
     let e = ends (c .before .before .before .before .before .before .before .before .before) in
-    let l = c .before .before .before .before .before .before .before .before .before .before .before .before .before .loop in
     let made = c .before .before .before .before .before .before .take-out .ensures in
-    (e .1, e .0, ap length (made .0) ∙ length-withoutBit (l .table) _ ∙ l .inv .1 .size, made .1)
+    let t = c .before .before .before .before .before .before .take-out .kept .0 in
+    let z = c .before .before .before .before .before .before .take-out .kept .1 .0 in
+    ((e .1 .0, omega (arith, e .1 .1, t), omega (arith, e .1 .2, z)), e .0 .0, made .1)
 
 add-i : tie.Need-add-i Inv-loop μ-loop
 add-i c = omega (arith, c .before .before .before .before .before .before .before .before .before .before .before .before .before .before .before .before .before .loop-test .taken, c .before .before .before .before .before .before .before .before .before .before .before .before .before .before .before .before .before .before .before .before .before .before .before .pre .0)
 
 loop-less : tie.Need-loop-less Inv-loop μ-loop
-loop-less c = omega arith
+loop-less c = omega (arith, c .before .before .before .before .before .before .before .before .before .before .before .before .before .before .before .before .before .loop-test .taken)
 
 loop-again : tie.Need-loop-again Inv-loop μ-loop
 loop-again c =
-    let e = ends (c .before .before .before .before .before .before .before .before .before .before .before .before .before .before) in
     let l = c .before .before .before .before .before .before .before .before .before .before .before .before .before .before .before .before .before .before .loop in
     let a = c .before .before .before .before .before .before .before .before .before .before .before .before .before .before .before .before .before .before .before .before .before .before .before .args in
-    let k = getD (a .list .now) (l .i) 0 in
+    let e = ends (c .before .before .before .before .before .before .before .before .before .before .before .before .before .before) in
+    let u = c .before .before .before .before .before .before .before .before .before .before .before .before .before .before .before .end-a .result in
+    let v = c .before .before .before .before .before .before .before .before .before .before .before .before .before .before .end-b .result in
     let p = c .before .before .before .before .before .before .before .before .before .before .before .before .before .before .before .end-a .ensures in
     let q = c .before .before .before .before .before .before .before .before .before .before .before .before .before .before .end-b .ensures in (
-      omega arith,
+      omega (arith, c .before .before .before .before .before .before .before .before .before .before .before .before .before .before .before .before .before .loop-test .taken),
+      c .before .before .before .before .take-out2 .kept .1 .0 ∙ c .before .before .before .before .before .before .before .before .before .before .before .take-out .kept .1 .0 ∙ l .inv .1,
       subst (λ (ws : List ℕ). Dropped (a .edges .now) (a .list .now) (l .i + 1) (a .table .now) ws)
-          (sym (c .before .before .before .before .take-out2 .ensures .0
-          ∙ ap (λ (ws : List ℕ). withoutBit ws (c .before .before .before .before .before .before .before .before .before .before .before .before .before .before .end-b .result * 512 + c .before .before .before .before .before .before .before .before .before .before .before .before .before .before .before .end-a .result)) (c .before .before .before .before .before .before .before .before .before .before .before .take-out .ensures .0)
+          (sym (c .before .before .before .before .take-out2 .ensures .0 ∙ ap (λ (ws : List ℕ). withoutBit ws (v * 512 + u)) (c .before .before .before .before .before .before .before .before .before .before .before .take-out .ensures .0)
           ∙ ap₂ (λ (x y : ℕ). withoutBit (withoutBit (l .table) (x * 512 + y)) (y * 512 + x)) p q))
-          (dropped-more (a .edges .now) (a .list .now) (l .i) k (a .table .now) (l .table) refl (omega (arith, e .0, p)) (omega (arith, e .1, q)) (l .inv .1)),
+          (dropped-more (a .edges .now) (a .list .now) (l .i) (getD (a .list .now) (l .i) 0) (a .table .now) (l .table) refl
+          (omega (arith, e .0 .0, p)) (omega (arith, e .1 .0, q)) (omega (arith, e .0 .1, p)) (omega (arith, e .1 .1, q)) (l .inv .2)),
       c .before .before .before .before .take-out2 .ensures .1,
     )
 
 same-length : tie.Need-same-length Inv-loop μ-loop
-same-length c = c .before .loop .inv .1 .size ∙ sym (c .before .before .before .before .before .before .pre .2)
+same-length c = c .before .loop .inv .2 .size
 
 same-length-2 : tie.Need-same-length-2 Inv-loop μ-loop
-same-length-2 c = c .before .loop .inv .2 .size ∙ sym (c .before .before .before .before .before .before .pre .3 .size)
+same-length-2 c = c .before .loop .inv .1
 
 returns : tie.Need-returns Inv-loop μ-loop
 returns c =
     let l = c .before .loop in
     let a = c .before .before .before .before .before .before .args in
-    let e : l .i ≡ a .count = omega arith in
-    (subst (λ (j : ℕ). Dropped (a .edges .now) (a .list .now) j (a .table .now) (l .table)) e (l .inv .1), l .inv .2)
+    let e : l .i ≡ length (a .list .now) = omega (arith, l .inv .0, c .loop-test .left) in
+    (subst (λ (j : ℕ). Dropped (a .edges .now) (a .list .now) j (a .table .now) (l .table)) e (l .inv .2), l .inv .3)
 
 pub drop-edges-spec : {M : Type 1} → statement M
 drop-edges-spec =

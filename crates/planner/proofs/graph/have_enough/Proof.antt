@@ -8,7 +8,7 @@ use Rattle.planner.proofs.graph.have_enough.Statement.{statement}
 use Rattle.planner.proofs.graph.have_enough.Tie as tie
 
 common-requires : tie.Need-common-requires
-common-requires c κs = c .before .before .pre .0
+common-requires c κs = let s = c .before .before in (s .pre .0 .0 .0, s .pre .0 .1 .0, s .pre .0 .0 .1, s .pre .0 .1 .1, s .pre .0 .2, s .pre .0 .3)
 
 cast-c : tie.Need-cast-c
 cast-c c = omega arith
@@ -17,7 +17,7 @@ mul-meets-epsilon : tie.Need-mul-meets-epsilon
 mul-meets-epsilon c = omega arith
 
 shared-slice-read-meets-epsilon : tie.Need-shared-slice-read-meets-epsilon
-shared-slice-read-meets-epsilon c = omega arith
+shared-slice-read-meets-epsilon c = c .before .before .before .before .pre .0 .0 .2
 
 cast-meets-epsilon : tie.Need-cast-meets-epsilon
 cast-meets-epsilon c = omega arith
@@ -26,13 +26,13 @@ mul-meets-epsilon-2 : tie.Need-mul-meets-epsilon-2
 mul-meets-epsilon-2 c = omega arith
 
 shared-slice-read-meets-epsilon-2 : tie.Need-shared-slice-read-meets-epsilon-2
-shared-slice-read-meets-epsilon-2 c = omega arith
+shared-slice-read-meets-epsilon-2 c = c .before .before .before .before .before .pre .0 .1 .2
 
 cast-meets-epsilon-2 : tie.Need-cast-meets-epsilon-2
 cast-meets-epsilon-2 c = omega arith
 
 meets-epsilon-requires : tie.Need-meets-epsilon-requires
-meets-epsilon-requires c κs = let s = c .before .before .before .before .before in (c .before .before .common .ensures .1, s .pre .1 .1, s .pre .1 .2, s .pre .1 .3, s .pre .1 .4)
+meets-epsilon-requires c κs = let s = c .before .before .before .before .before in (c .before .before .common .ensures .1, s .pre .1 .0, s .pre .1 .1, s .pre .1 .2, s .pre .1 .3)
 
 returns : tie.Need-returns
 returns c =

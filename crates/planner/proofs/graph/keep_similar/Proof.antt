@@ -1,10 +1,12 @@
--- `planner::graph::keep_similar` meets its contract. The table and the sizes are those of the neighbour relation, so the edges listed are just those whose
--- ends are not similar; without them the table is that of the similarity relation, and its sizes tell the cores.
+-- `planner::graph::keep_similar` meets its contract. The edges listed are just those of the neighbour table whose ends are not similar; without them the
+-- table is that of the similarity relation, and its sizes tell the cores.
+use Prim.Native.Nat.{ℕ, _≤_}
+use mathlib.Core.Path.{_≡_, refl, _∙_}
+use mathlib.Core.List.{List}
+use lib.ListN.{length}
+use Rattle.planner.proofs.Rows.{row-most}
+use Rattle.planner.proofs.GraphLaws.{Read, header-is, checked-of, edgePart-length, list-room, listed-all, rows-end, unlike, unlike-length, unlike-all, survey-made}
 use native.Mathlib.Omega.{arith}
-use mathlib.Core.Path.{refl}
-use Rattle.planner.proofs.Rows.{row-most, counted-copy}
-use Rattle.planner.proofs.GraphLaws.{Read, header-is, checked-of, listed-small, rows-end, unlike-small, survey-made}
-use borrow.Author.Needs.{needs}
 use Rattle.planner.proofs.graph.keep_similar.Statement.{statement}
 use Rattle.planner.proofs.graph.keep_similar.Tie as tie
 
@@ -32,45 +34,49 @@ part-edges-start c = omega arith
 part-edges-end : tie.Need-part-edges-end
 part-edges-end c = let r = facts (c .before .before .before .before .before .before .before) in omega (arith, r .length-of, r .fits .edges-to)
 
-slice-aggregate-list-unlike : tie.Need-slice-aggregate-list-unlike
-slice-aggregate-list-unlike c = refl
-
 list-unlike-requires : tie.Need-list-unlike-requires
 list-unlike-requires c κs =
-    let s = c .before .before .before .before .before .before .before .before .before .before in
+    let s = c .before .before .before .before .before .before .before .before .before .before .before in
     let a = s .args in
     let r = facts s in
-    let k = s .pre .3 in (
-      (omega (arith, k .most, r .m-is, r .fits .m-limit), s .pre .2, refl, k .table .size, r .fits .n-limit, omega (arith, r .fits .p-q, r .fits .q-limit), r .fits .q-limit),
-      (
-        listed-small (a .image .now) (a .h) (s .pre .0) (s .pre .1) k,
-        (k .counted .size, row-most (k .counted), rows-end (a .image .now) (a .h) (s .pre .0) (s .pre .1) k),
-      ),
+    let k = s .pre .5 in (
+      (omega (arith, k .most, r .m-is, r .fits .m-limit), omega (arith, k .most, r .m-is, s .pre .2), r .fits .n-limit, omega (arith, r .fits .p-q, r .fits .q-limit), r .fits .q-limit),
+      (list-room (a .image .now) (a .h) (s .pre .0) (s .pre .1) (a .table .now) (a .sizes .now) (s .pre .3) (s .pre .4) (a .list .now) (listed-all (a .image .now) (a .h) (s .pre .0) (s .pre .1) k),
+      (λ u l. row-most (k .counted) u l, rows-end (a .image .now) (a .h) (s .pre .0) (s .pre .1) k)),
     )
 
-slice-aggregate-copy-sizes : tie.Need-slice-aggregate-copy-sizes
-slice-aggregate-copy-sizes c = refl
+-- the list after the call, which is as long as it was
+abbrev listed : tie.After-list-unlike → List ℕ
+listed c = c .list-unlike .last .1 .1 .1 .1 .1 .0
 
-copy-sizes-requires : tie.Need-copy-sizes-requires
-copy-sizes-requires c κs = let s = c .before .before .before .before .before .before .before .before .before .before .before .before .before in (s .pre .3 .counted .size, refl)
+long : (c : tie.After-list-unlike) → c .list-unlike .result ≤ length (listed c)
+long c =
+    let s = c .before .before .before .before .before .before .before .before .before .before .before .before in
+    omega (arith, c .list-unlike .ensures .0, s .pre .5 .most, facts s .m-is, s .pre .2, c .list-unlike .kept .1 .1 .1 .1 .1 .0)
 
-slice-aggregate-drop-edges : tie.Need-slice-aggregate-drop-edges
-slice-aggregate-drop-edges c = search needs
+sub-drop-edges : tie.Need-sub-drop-edges
+sub-drop-edges c = omega arith
 
-slice-aggregate-drop-edges-2 : tie.Need-slice-aggregate-drop-edges-2
-slice-aggregate-drop-edges-2 c = search needs
+part-drop-edges-start : tie.Need-part-drop-edges-start
+part-drop-edges-start c = omega arith
+
+part-drop-edges-end : tie.Need-part-drop-edges-end
+part-drop-edges-end c = long (c .before .before .before)
 
 drop-edges-requires : tie.Need-drop-edges-requires
 drop-edges-requires c κs =
     let s = c .before .before .before .before .before .before .before .before .before .before .before .before .before .before .before .before .before .before in
     let a = s .args in
+    let l = c .before .before .before .before .before .before .list-unlike .ensures in
     let r = facts s in
-    let k = s .pre .3 in
-    let l = c .before .before .before .before .before .before .before .list-unlike in
-    (omega (arith, l .ensures .0, k .most, r .m-is, r .fits .m-limit), l .kept .1 .1 .1 .1 .1 .1 .0, k .table .size, counted-copy (k .counted) (c .before .before .before .before .copy-sizes .kept .1 .0) (c .before .before .before .before .copy-sizes .ensures), unlike-small (a .image .now) (a .h) (s .pre .0) (s .pre .1) k (l .ensures .1))
-
-slice-aggregate-mark-cores : tie.Need-slice-aggregate-mark-cores
-slice-aggregate-mark-cores c = search needs
+    let list = listed (c .before .before .before .before .before .before) in
+    let fits = long (c .before .before .before .before .before .before) in
+    let k = s .pre .5 in (
+      omega (arith, unlike-length (a .image .now) (a .h) (s .pre .0) (s .pre .1) k list fits (l .1), l .0, k .most, r .m-is, r .fits .m-limit),
+      k .counted,
+      list-room (a .image .now) (a .h) (s .pre .0) (s .pre .1) (a .table .now) (a .sizes .now) (s .pre .3) (s .pre .4) (unlike (a .image .now) (a .h) (s .pre .0) (s .pre .1) k list fits (l .1))
+          (unlike-all (a .image .now) (a .h) (s .pre .0) (s .pre .1) k list fits (l .1)),
+    )
 
 cast-mark-cores : tie.Need-cast-mark-cores
 cast-mark-cores c = omega arith
@@ -83,23 +89,29 @@ cast-mark-cores-2 c = omega arith
 
 mark-cores-requires : tie.Need-mark-cores-requires
 mark-cores-requires c κs =
-    let s = c .before .before .before .before .before .before .before .before .before .before .before .before .before .before .before .before .before .before .before .before .before .before .before .before .before .before in
-    let r = facts s in
-    let d = c .before .before .before .before .before .before .before .drop-edges .ensures .1 in
-    (omega (arith, d .size, r .fits .n-limit), r .fits .n-limit, s .pre .4)
+    let s = c .before .before .before .before .before .before .before .before .before .before .before .before .before .before .before .before .before .before .before .before .before .before .before .before .before .before .before in
+    (omega (arith, s .pre .4, c .before .before .before .before .before .before .before .before .drop-edges .kept .1 .1 .1 .0), facts s .fits .n-limit, s .pre .6)
 
 same-length : tie.Need-same-length
-same-length c = search needs
+same-length c = c .before .before .before .before .before .before .before .before .before .before .before .before .before .before .before .before .before .before .list-unlike .kept .1 .1 .1 .1 .1 .0
 
 same-length-2 : tie.Need-same-length-2
-same-length-2 c = search needs
+same-length-2 c = c .before .before .before .before .before .before .before .before .before .before .before .drop-edges .kept .1 .1 .0
+
+same-length-3 : tie.Need-same-length-3
+same-length-3 c = c .before .before .before .before .before .before .before .before .before .before .before .drop-edges .kept .1 .1 .1 .0
+
+same-length-4 : tie.Need-same-length-4
+same-length-4 c = c .before .before .mark-cores .kept .1 .1 .1 .0
 
 returns : tie.Need-returns
 returns c =
-    let s = c .before .before .before .before .before .before .before .before .before .before .before .before .before .before .before .before .before .before .before .before .before .before .before .before .before .before .before .before .before in
+    let s = c .before .before .before .before .before .before .before .before .before .before .before .before .before .before .before .before .before .before .before .before .before .before .before .before .before .before .before .before .before .before in
     let a = s .args in
-    let d = c .before .before .before .before .before .before .before .before .before .before .drop-edges .ensures in
-    survey-made (a .image .now) (a .h) (s .pre .0) (s .pre .1) (s .pre .3) (c .before .before .before .before .before .before .before .before .before .before .before .before .before .before .before .before .before .before .list-unlike .ensures .1) (d .0) (d .1) (c .before .before .before .before .core-size .ensures) (c .before .before .mark-cores .ensures)
+    let l = c .before .before .before .before .before .before .before .before .before .before .before .before .before .before .before .before .before .before .list-unlike .ensures in
+    let d = c .before .before .before .before .before .before .before .before .before .before .before .drop-edges .ensures in
+    survey-made (a .image .now) (a .h) (s .pre .0) (s .pre .1) (s .pre .5) (listed (c .before .before .before .before .before .before .before .before .before .before .before .before .before .before .before .before .before .before)) (long (c .before .before .before .before .before .before .before .before .before .before .before .before .before .before .before .before .before .before)) (l .1) (d .0) (d .1)
+    (c .before .before .before .before .core-size .ensures) (c .before .before .mark-cores .ensures)
 
 pub keep-similar-spec : {M : Type 1} → statement M
 keep-similar-spec =
@@ -112,18 +124,17 @@ keep-similar-spec =
     sub-edges
     part-edges-start
     part-edges-end
-    slice-aggregate-list-unlike
     list-unlike-requires
-    slice-aggregate-copy-sizes
-    copy-sizes-requires
-    slice-aggregate-drop-edges
-    slice-aggregate-drop-edges-2
+    sub-drop-edges
+    part-drop-edges-start
+    part-drop-edges-end
     drop-edges-requires
-    slice-aggregate-mark-cores
     cast-mark-cores
     core-size-requires
     cast-mark-cores-2
     mark-cores-requires
     same-length
     same-length-2
+    same-length-3
+    same-length-4
     returns)

@@ -11,7 +11,7 @@ use Rattle.planner.proofs.graph.read_network.Tie as tie
 
 -- questions 1 to 6 got a yes
 passed : (c : tie.Start) → Checked (c .args .image .now) × (c .args .h ≡ headerOf (c .args .image .now))
-passed c = header-yes (c .args .image .now) (c .args .h) (c .pre .0)
+passed c = header-yes (c .args .image .now) (c .args .h) (c .pre .0 .0)
 
 facts : (c : tie.Start) → Read (c .args .image .now) (c .args .h)
 facts c = header-is (c .args .image .now) (c .args .h) (passed c .0) (passed c .1)
@@ -50,13 +50,13 @@ part-read-positions-end : tie.Need-part-read-positions-end
 part-read-positions-end c = let r = facts (c .before .before .before .before .before .before .before .before .before) in omega (arith, r .length-of, r .fits .handsets-to)
 
 read-positions-requires : tie.Need-read-positions-requires
-read-positions-requires c κs = let s = c .before .before .before .before .before .before .before .before .before .before .before .before in (facts s .fits .n-limit, s .pre .1, s .pre .2)
+read-positions-requires c κs = let s = c .before .before .before .before .before .before .before .before .before .before .before .before in (facts s .fits .n-limit, s .pre .0 .1, s .pre .0 .2)
 
 same-length : tie.Need-same-length
-same-length c = search needs
+same-length c = omega arith
 
 same-length-2 : tie.Need-same-length-2
-same-length-2 c = search needs
+same-length-2 c = omega arith
 
 returns : tie.Need-returns
 returns c =
@@ -65,7 +65,7 @@ returns c =
     not-read (s .args .image .now) (c .if1 .taken) (positions-told (s .args .image .now) (s .args .h) (passed s .1) (r .ensures)) _ _ _ _
 
 add-selves-requires : tie.Need-add-selves-requires
-add-selves-requires c κs = let s = c .before .before .before .before .before .before .before .before .before .before .before .before .before .before .before .before .before .before .before .before in (s .pre .3, s .pre .4, facts s .fits .n-limit)
+add-selves-requires c κs = let s = c .before .before .before .before .before .before .before .before .before .before .before .before .before .before .before .before .before .before .before .before in (facts s .fits .n-limit, s .pre .1 .0, s .pre .1 .1, s .pre .1 .2, s .pre .1 .3)
 
 sub-add-edges : tie.Need-sub-add-edges
 sub-add-edges c = omega arith
@@ -77,19 +77,31 @@ part-add-edges-end : tie.Need-part-add-edges-end
 part-add-edges-end c = let r = facts (c .before .before .before .before .before .before .before .before .before .before .before .before .before .before .before .before .before .before .before .before .before .before .before .before .before) in omega (arith, r .length-of, r .fits .edges-to)
 
 add-edges-requires : tie.Need-add-edges-requires
-add-edges-requires c κs = let s = c .before .before .before .before .before .before .before .before .before .before .before .before .before .before .before .before .before .before .before .before .before .before .before .before .before .before .before .before in let a = c .before .before .before .before .before .before .before .add-selves .ensures in (facts s .fits .n-limit, facts s .fits .m-limit, a .0, a .1, omega (arith, edgePart-length (s .args .image .now) (s .args .h) (facts s)))
+add-edges-requires c κs =
+    let s = c .before .before .before .before .before .before .before .before .before .before .before .before .before .before .before .before .before .before .before .before .before .before .before .before .before .before .before .before in
+    let a = s .args in
+    let r = facts s in
+    let made = c .before .before .before .before .before .before .before .add-selves .ensures in (
+      r .fits .n-limit,
+      r .fits .m-limit,
+      omega (arith, edgePart-length (a .image .now) (a .h) r),
+      omega (arith, s .pre .1 .0, c .before .before .before .before .before .before .before .add-selves .kept .0),
+      omega (arith, s .pre .1 .1, c .before .before .before .before .before .before .before .add-selves .kept .1 .0),
+      made .0,
+      made .1,
+    )
 
 same-length-3 : tie.Need-same-length-3
-same-length-3 c = search needs
+same-length-3 c = omega arith
 
 same-length-4 : tie.Need-same-length-4
-same-length-4 c = search needs
+same-length-4 c = omega arith
 
 same-length-5 : tie.Need-same-length-5
-same-length-5 c = search needs
+same-length-5 c = omega arith
 
 same-length-6 : tie.Need-same-length-6
-same-length-6 c = search needs
+same-length-6 c = omega arith
 
 returns-2 : tie.Need-returns-2
 returns-2 c =

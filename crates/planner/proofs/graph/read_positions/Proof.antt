@@ -2,7 +2,7 @@
 -- stores at v leave those alone. The measure is what is left of n.
 use Prim.Native.Nat.{ℕ, _*_, _+_, _-_, _≤_, _<_}
 use native.Mathlib.Omega.{arith}
-use mathlib.Core.Path.{_≡_, sym, ap, _∙_, subst}
+use mathlib.Core.Path.{_≡_, refl, sym, ap, _∙_, subst}
 use mathlib.Core.Bool.{Bool, not}
 use borrow.Author.Count.{below-more}
 use lib.Dec.{T}
@@ -18,23 +18,23 @@ use Rattle.planner.proofs.graph.read_positions.Tie as tie
 
 abbrev Inv-loop : tie.InvT-loop
 Inv-loop handsets n xs₀ ys₀ v₀ xs ys v =
-    (v ≤ n) × T (not (any v (outOfLimits handsets))) × (length xs ≡ 512) × (length ys ≡ 512)
+    (v ≤ n) × T (not (any v (outOfLimits handsets))) × (length xs ≡ length xs₀) × (length ys ≡ length ys₀)
     × ((x : ℕ) → x < v → getD xs x 0 ≡ xAt handsets x) × ((x : ℕ) → x < v → getD ys x 0 ≡ yAt handsets x)
 
 abbrev μ-loop : tie.MeasureT-loop
 μ-loop handsets n xs₀ ys₀ v₀ xs ys v = n - v
 
 loop-holds : tie.Need-loop-holds Inv-loop μ-loop
-loop-holds c = let s = c .before .before .before in (omega arith, scan-none _, s .pre .1, s .pre .2, λ x h. absurd (omega arith), λ x h. absurd (omega arith))
+loop-holds c = (omega arith, scan-none _, refl, refl, λ x h. absurd (omega arith), λ x h. absurd (omega arith))
 
 out-of-limits-requires : tie.Need-out-of-limits-requires Inv-loop μ-loop
 out-of-limits-requires c κs = tt
 
 same-length : tie.Need-same-length Inv-loop μ-loop
-same-length c = c .before .before .before .loop .inv .2 ∙ sym (c .before .before .before .before .before .before .before .pre .1)
+same-length c = c .before .before .before .loop .inv .2
 
 same-length-2 : tie.Need-same-length-2 Inv-loop μ-loop
-same-length-2 c = c .before .before .before .loop .inv .3 ∙ sym (c .before .before .before .before .before .before .before .pre .2)
+same-length-2 c = c .before .before .before .loop .inv .3
 
 returns : tie.Need-returns Inv-loop μ-loop
 returns c =
@@ -62,7 +62,7 @@ mul-xs : tie.Need-mul-xs Inv-loop μ-loop
 mul-xs c = omega (arith, c .before .before .before .before .before .before .before .before .pre .0, c .before .before .before .loop-test .taken)
 
 slice-write-xs : tie.Need-slice-write-xs Inv-loop μ-loop
-slice-write-xs c = omega (arith, c .before .before .before .before .before .before .before .before .pre .0, c .before .before .before .loop-test .taken, c .before .before .before .before .loop .inv .2)
+slice-write-xs c = omega (arith, c .before .before .before .before .before .before .before .before .pre .1, c .before .before .before .loop-test .taken, c .before .before .before .before .loop .inv .2)
 
 cast-coordinate-2 : tie.Need-cast-coordinate-2 Inv-loop μ-loop
 cast-coordinate-2 c = omega arith
@@ -83,7 +83,7 @@ mul-ys : tie.Need-mul-ys Inv-loop μ-loop
 mul-ys c = omega (arith, c .before .before .before .before .before .before .before .before .before .pre .0, c .before .before .before .before .loop-test .taken)
 
 slice-write-ys : tie.Need-slice-write-ys Inv-loop μ-loop
-slice-write-ys c = omega (arith, c .before .before .before .before .before .before .before .before .before .pre .0, c .before .before .before .before .loop-test .taken, c .before .before .before .before .before .loop .inv .3)
+slice-write-ys c = omega (arith, c .before .before .before .before .before .before .before .before .before .pre .2, c .before .before .before .before .loop-test .taken, c .before .before .before .before .before .loop .inv .3)
 
 add-v : tie.Need-add-v Inv-loop μ-loop
 add-v c = omega (arith, c .before .before .before .before .before .before .before .before .before .pre .0, c .before .before .before .before .loop-test .taken)
@@ -104,7 +104,7 @@ loop-again : tie.Need-loop-again Inv-loop μ-loop
 loop-again c =
     let l = c .before .before .before .before .before .loop in
     let h = c .before .before .before .before .loop-test .taken in
-    let n = c .before .before .before .before .before .before .before .before .before .pre .0 in
+    let n = c .before .before .before .before .before .before .before .before .before .pre in
     let x = c .before .coordinate .result in
     let y = c .coordinate2 .result in (
       omega arith,
@@ -113,17 +113,17 @@ loop-again c =
       length-set (l .ys) (l .v) y ∙ l .inv .3,
       below-more (λ (i : ℕ). getD (set (l .xs) (l .v) x) i 0 ≡ xAt (c .before .before .before .before .before .before .before .before .before .args .handsets .now) i) (l .v)
           (λ i q. getD-set-other (l .xs) (l .v) i x 0 (λ e. omega arith) ∙ l .inv .4 i q)
-          (getD-set-same (l .xs) (l .v) x 0 (omega (arith, h, n, l .inv .2)) ∙ x-read (c .before)),
+          (getD-set-same (l .xs) (l .v) x 0 (omega (arith, h, n .1, l .inv .2)) ∙ x-read (c .before)),
       below-more (λ (i : ℕ). getD (set (l .ys) (l .v) y) i 0 ≡ yAt (c .before .before .before .before .before .before .before .before .before .args .handsets .now) i) (l .v)
           (λ i q. getD-set-other (l .ys) (l .v) i y 0 (λ e. omega arith) ∙ l .inv .5 i q)
-          (getD-set-same (l .ys) (l .v) y 0 (omega (arith, h, n, l .inv .3)) ∙ y-read c),
+          (getD-set-same (l .ys) (l .v) y 0 (omega (arith, h, n .2, l .inv .3)) ∙ y-read c),
     )
 
 same-length-3 : tie.Need-same-length-3 Inv-loop μ-loop
-same-length-3 c = c .before .loop .inv .2 ∙ sym (c .before .before .before .before .before .pre .1)
+same-length-3 c = c .before .loop .inv .2
 
 same-length-4 : tie.Need-same-length-4 Inv-loop μ-loop
-same-length-4 c = c .before .loop .inv .3 ∙ sym (c .before .before .before .before .before .pre .2)
+same-length-4 c = c .before .loop .inv .3
 
 returns-2 : tie.Need-returns-2 Inv-loop μ-loop
 returns-2 c =

@@ -1,31 +1,37 @@
--- `planner::graph::take_out` meets its contract: where the bit was set its row has one less, and where it was not nothing changes but the list's making.
-use Prim.Native.Nat.{ℕ}
-use native.Mathlib.Omega.{arith}
-use mathlib.Core.Path.{_≡_, sym, _∙_}
-use mathlib.Core.Bool.{true, false}
-use Rattle.planner.proofs.Rows.{counted-out, counted-kept, row-some, one-is, zero-is}
-use Rattle.sets.proofs.Bits.{bitAt-lt}
+-- `planner::graph::take_out` meets its contract: the word written is the one without the bit, and the row's size goes down by it.
+use Prim.Native.Nat.{ℕ, _*_, _+_, _/_, _%_, _^_}
+use mathlib.Core.Path.{_≡_, ap}
+use lib.Bits.{bitAnd, bitXor}
+use lib.ListN.{getD, set}
+use native.Mathlib.Nat.{mod-lt, zero-lt-suc}
+use Rattle.sets.specs.Bits.{bitOf, bitAt, withoutBit}
+use Rattle.sets.proofs.Bits.{shl-one}
+use Rattle.planner.proofs.Rows.{row-bit, counted-out}
 use borrow.Author.Needs.{needs}
+use native.Mathlib.Omega.{arith}
 use Rattle.planner.proofs.graph.take_out.Statement.{statement}
 use Rattle.planner.proofs.graph.take_out.Tie as tie
 
-mul-has : tie.Need-mul-has
-mul-has c = omega arith
+mul-i : tie.Need-mul-i
+mul-i c = omega arith
 
-add-has : tie.Need-add-has
-add-has c = omega arith
+add-i : tie.Need-add-i
+add-i c = omega arith
 
-has-requires : tie.Need-has-requires
-has-requires c κs = tt
+mul-w : tie.Need-mul-w
+mul-w c = omega arith
 
-mul-unmark : tie.Need-mul-unmark
-mul-unmark c = omega arith
+slice-read-w : tie.Need-slice-read-w
+slice-read-w c = omega arith
 
-add-unmark : tie.Need-add-unmark
-add-unmark c = omega arith
+shl-table : tie.Need-shl-table
+shl-table c = omega arith
 
-unmark-requires : tie.Need-unmark-requires
-unmark-requires c κs = tt
+mul-table : tie.Need-mul-table
+mul-table c = omega arith
+
+slice-write-table : tie.Need-slice-write-table
+slice-write-table c = omega arith
 
 mul-sizes : tie.Need-mul-sizes
 mul-sizes c = omega arith
@@ -33,11 +39,18 @@ mul-sizes c = omega arith
 slice-read-sizes : tie.Need-slice-read-sizes
 slice-read-sizes c = omega arith
 
+shr-sizes : tie.Need-shr-sizes
+shr-sizes c = omega arith
+
+cast-sizes : tie.Need-cast-sizes
+cast-sizes c = omega arith
+
 sub-sizes : tie.Need-sub-sizes
+unfolding bitAt bitOf
 sub-sizes c =
-    let s = c .before .before .before .before .before .before .before .before .before .before in
+    let s = c .before .before in
     let a = s .args in
-    omega (arith, row-some (a .table .now) (a .sizes .now) (a .u) (a .v) (s .pre .0) (s .pre .1) (s .pre .2) (s .pre .3) (one-is _ (sym (c .before .before .before .before .before .before .has .ensures) ∙ c .before .if1 .taken)))
+    row-bit (a .table .now) (a .sizes .now) (a .u) (a .v) (s .pre .0) (s .pre .1) (s .pre .2)
 
 mul-sizes-2 : tie.Need-mul-sizes-2
 mul-sizes-2 c = omega arith
@@ -52,39 +65,34 @@ same-length-2 : tie.Need-same-length-2
 same-length-2 c = search needs
 
 returns : tie.Need-returns
+unfolding withoutBit bitAt bitOf
 returns c =
-    let s = c .before .before .before .before .before .before .before .before .before .before in
+    let s = c .before .before in
     let a = s .args in
-    let e = c .before .before .before .before .unmark .ensures in
-    (e, rw e (counted-out (a .table .now) (a .sizes .now) (a .u) (a .v) (s .pre .0) (s .pre .1) (s .pre .2) (s .pre .3) (one-is _ (sym (c .before .before .before .before .before .before .has .ensures) ∙ c .before .if1 .taken))))
-
-same-length-3 : tie.Need-same-length-3
-same-length-3 c = search needs
-
-returns-2 : tie.Need-returns-2
-returns-2 c =
-    let s = c .before .before .before .before .before .before .before .before .before in
-    let a = s .args in
-    let e = c .before .before .before .unmark .ensures in
-    (e, rw e (counted-kept (a .table .now) (a .sizes .now) (a .u) (a .v) (s .pre .0) (s .pre .1) (s .pre .2) (s .pre .3) (zero-is _ (bitAt-lt (a .table .now) _) (sym (c .before .before .before .before .before .has .ensures) ∙ c .if1 .left))))
+    let i : ℕ = a .u * 512 + a .v in
+    let w : ℕ = getD (a .table .now) (i / 64) 0 in
+    let e : set (a .table .now) (i / 64) (bitXor w (bitAnd w (1 * 2 ^ (i % 64) % 2 ^ 64))) ≡ withoutBit (a .table .now) i =
+    ap (λ (x : ℕ). set (a .table .now) (i / 64) (bitXor w (bitAnd w x))) (shl-one (i % 64) (mod-lt i (zero-lt-suc 63))) in
+    (e, rw e (counted-out (a .table .now) (a .sizes .now) (a .u) (a .v) (s .pre .0) (s .pre .1) (s .pre .2)))
 
 pub take-out-spec : {M : Type 1} → statement M
 take-out-spec =
     tie.close
     (tie.spec
-    mul-has
-    add-has
-    has-requires
-    mul-unmark
-    add-unmark
-    unmark-requires
+    mul-i
+    add-i
+    mul-w
+    slice-read-w
+    shl-table
+    mul-table
+    slice-write-table
     mul-sizes
     slice-read-sizes
+    shr-sizes
+    cast-sizes
     sub-sizes
     mul-sizes-2
     slice-write-sizes
     same-length
     same-length-2
-    returns
-    same-length-3
-    returns-2)
+    returns)

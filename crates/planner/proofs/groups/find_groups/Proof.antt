@@ -1,7 +1,7 @@
 -- `planner::groups::find_groups` meets its contract. The rows written are the communities of the leaders below the cores that are left, whose own rows are
 -- as they were; the smallest core left is the next leader, and its closure over the cores left is its community. The measure is the number of cores left.
-use mathlib.Core.Path.{_≡_, refl, sym, _∙_}
-use Prim.Native.Nat.{_<_}
+use mathlib.Core.Path.{_≡_, refl, sym, ap, _∙_}
+use Prim.Native.Nat.{ℕ, _+_, _*_, _<_}
 use native.Mathlib.Omega.{arith}
 use lib.ListN.{length}
 use Rattle.sets.specs.Below.{sum}
@@ -11,17 +11,17 @@ use Rattle.planner.proofs.groups.find_groups.Statement.{statement}
 use Rattle.planner.proofs.groups.find_groups.Tie as tie
 
 abbrev Inv-loop : tie.InvT-loop
-Inv-loop table₀ cores todo₀ k₀ u₀ table todo k u = Finding table₀ cores table todo k u
+Inv-loop table₀ cores n todo₀ k₀ u₀ table todo k u = Finding n table₀ cores table todo k u
 
 abbrev μ-loop : tie.MeasureT-loop
-μ-loop table₀ cores todo₀ k₀ u₀ table todo k u = sum 512 (bitAt todo)
+μ-loop table₀ cores n todo₀ k₀ u₀ table todo k u = sum 512 (bitAt todo)
 
 -- after a community is collected fewer cores are left, in as many words
 falls : (r : tie.After-collect Inv-loop μ-loop) → sum 512 (bitAt (r .collect .last .1 .0)) < sum 512 (bitAt (r .before .before .before .before .loop .todo))
 falls r =
     let l = r .before .before .before .before .loop in
     let a = r .before .before .before .before .before .before .before .before .before .before .before .before .before .args in
-    finding-falls (a .table .now) (a .cores .now) (l .table) (l .todo) (l .k) (l .u) (l .inv) (r .before .before .before .loop-test .taken)
+    finding-falls (a .n) (a .table .now) (a .cores .now) (l .table) (l .todo) (l .k) (l .u) (l .inv) (r .before .before .before .loop-test .taken)
     (r .collect .last .1 .0) (r .collect .result) (r .collect .ensures)
 
 left-size : (r : tie.After-collect Inv-loop μ-loop) → length (r .collect .last .1 .0) ≡ 8
@@ -31,7 +31,9 @@ slice-aggregate-join-row : tie.Need-slice-aggregate-join-row Inv-loop μ-loop
 slice-aggregate-join-row c = refl
 
 join-row-requires : tie.Need-join-row-requires Inv-loop μ-loop
-join-row-requires c κs = (omega (arith, c .before .before .before .pre .1), refl)
+join-row-requires c κs =
+    let s = c .before .before .before in
+    (omega arith, omega (arith, s .pre .0), refl, s .pre .1, λ v h q. ap (bitAt (s .args .cores .now)) (let e : 0 * 512 + v ≡ v = omega arith in e) ∙ s .pre .3 v h q)
 
 slice-aggregate-first-common : tie.Need-slice-aggregate-first-common Inv-loop μ-loop
 slice-aggregate-first-common c = sym (c .before .before .join-row .ensures .size)
@@ -44,9 +46,8 @@ first-common-requires c κs = let j = c .before .before .before .join-row .ensur
 
 loop-holds : tie.Need-loop-holds Inv-loop μ-loop
 loop-holds c =
-    let j = c .before .before .before .before in
     let s = c .before .before .before .before .before .before .before .before in
-    finding-start (s .args .table .now) (s .args .cores .now) (j .join-row .last .1 .1 .0) (c .first-common .result) (s .pre .0) (j .join-row .ensures) (c .first-common .ensures)
+    finding-start (s .args .n) (s .args .table .now) (s .args .cores .now) (c .before .before .before .before .join-row .last .1 .1 .0) (c .first-common .result) (s .pre .1) (s .pre .3) (c .before .before .before .before .join-row .ensures) (c .first-common .ensures)
 
 slice-aggregate-collect : tie.Need-slice-aggregate-collect Inv-loop μ-loop
 slice-aggregate-collect c = sym (c .before .before .before .loop .inv .todo-size)
@@ -55,8 +56,16 @@ collect-requires : tie.Need-collect-requires Inv-loop μ-loop
 collect-requires c κs =
     let l = c .before .before .before .loop in
     let s = c .before .before .before .before .before .before .before .before .before .before .before .before in
-    let h : l .u < 512 = c .before .before .loop-test .taken in
-    (h, l .inv .size, l .inv .todo-size, finding-left (s .args .table .now) (s .args .cores .now) (l .table) (l .todo) (l .k) (l .u) (l .inv) h)
+    let a = s .args in
+    let h : l .u < 512 = c .before .before .loop-test .taken in (
+      h,
+      l .inv .todo-size,
+      finding-left (a .n) (a .table .now) (a .cores .now) (l .table) (l .todo) (l .k) (l .u) (l .inv) h,
+      s .pre .1,
+      omega (arith, s .pre .2, l .inv .size),
+      l .inv .end,
+      λ x v hx p q e. l .inv .kept x v hx q e ∙ s .pre .4 x v hx p q,
+    )
 
 slice-aggregate-store-row : tie.Need-slice-aggregate-store-row Inv-loop μ-loop
 slice-aggregate-store-row c = sym (c .before .before .before .collect .ensures .size)
@@ -64,10 +73,10 @@ slice-aggregate-store-row c = sym (c .before .before .before .collect .ensures .
 store-row-requires : tie.Need-store-row-requires Inv-loop μ-loop
 store-row-requires c κs =
     let r = c .before .before .before in
-    (omega (arith, falls r, r .before .before .before .before .loop .inv .room, r .before .before .before .before .loop .inv .size), r .collect .ensures .size)
+    (omega (arith, falls r, c .before .before .before .before .before .before .before .loop .inv .room, c .before .before .before .before .before .before .before .loop .inv .size, c .before .before .before .before .before .before .before .before .before .before .before .before .before .before .before .before .pre .2), c .before .before .before .collect .ensures .size)
 
 add-k : tie.Need-add-k Inv-loop μ-loop
-add-k c = omega (arith, c .before .before .before .before .before .before .before .before .before .before .loop .inv .room)
+add-k c = omega (arith, c .before .before .before .before .before .before .before .before .before .before .loop .inv .room, c .before .before .before .before .before .before .before .before .before .before .before .before .before .before .before .before .before .before .before .pre .1)
 
 slice-aggregate-first-common-3 : tie.Need-slice-aggregate-first-common-3 Inv-loop μ-loop
 slice-aggregate-first-common-3 c = sym (left-size (c .before .before .before .before .before .before .before))
@@ -83,21 +92,21 @@ loop-less c = falls (c .before .before .before .before .before .before .before .
 
 loop-again : tie.Need-loop-again Inv-loop μ-loop
 loop-again c =
-    let r = c .before .before .before .before .before .before .before .before .before in
-    let l = r .before .before .before .before .loop in
+    let l = c .before .before .before .before .before .before .before .before .before .before .before .before .before .loop in
     let a = c .before .before .before .before .before .before .before .before .before .before .before .before .before .before .before .before .before .before .before .before .before .before .args in
-    finding-on (a .table .now) (a .cores .now) (l .table) (l .todo) (l .k) (l .u) (l .inv) (r .before .before .before .loop-test .taken)
-    (r .collect .last .1 .0) (r .collect .result) (r .collect .ensures) (c .before .before .before .before .before .store-row .last .0) (c .first-common2 .result)
-    (left-size r) (c .before .before .before .before .before .store-row .ensures) (c .first-common2 .ensures)
+    finding-on (a .n) (a .table .now) (a .cores .now) (l .table) (l .todo) (l .k) (l .u) (l .inv) (c .before .before .before .before .before .before .before .before .before .before .before .before .loop-test .taken)
+    (c .before .before .before .before .before .before .before .before .before .collect .last .1 .0) (c .before .before .before .before .before .before .before .before .before .collect .result) (c .before .before .before .before .before .before .before .before .before .collect .ensures) (c .before .before .before .before .before .store-row .last .0) (c .first-common2 .result)
+    (left-size (c .before .before .before .before .before .before .before .before .before)) (c .before .before .before .before .before .store-row .ensures) (c .first-common2 .ensures)
 
 same-length : tie.Need-same-length Inv-loop μ-loop
-same-length c = c .before .loop .inv .size ∙ sym (c .before .before .before .before .before .before .before .before .before .before .pre .0)
+same-length c = c .before .loop .inv .size
 
 returns : tie.Need-returns Inv-loop μ-loop
 returns c =
     let l = c .before .loop in
-    let a = c .before .before .before .before .before .before .before .before .before .before .args in
-    finding-end (a .table .now) (a .cores .now) (l .table) (l .todo) (l .k) (l .u) (l .inv) (c .loop-test .left)
+    let s = c .before .before .before .before .before .before .before .before .before .before in
+    let a = s .args in
+    finding-end (a .n) (a .table .now) (a .cores .now) (l .table) (l .todo) (l .k) (l .u) (l .inv) (c .loop-test .left) (s .pre .1) (s .pre .2)
 
 pub find-groups-spec : {M : Type 1} → statement M
 find-groups-spec =

@@ -20,7 +20,7 @@ loop-holds : tie.Need-loop-holds Inv-loop μ-loop
 loop-holds c = (omega arith, omega arith, sym (ap length (members-none (c .before .args .rows .now))))
 
 row-size-requires : tie.Need-row-size-requires Inv-loop μ-loop
-row-size-requires c κs = (c .before .before .before .pre .0, omega arith)
+row-size-requires c κs = (omega (arith, c .before .before .before .pre .0), omega arith)
 
 cast-n : tie.Need-cast-n Inv-loop μ-loop
 cast-n c = omega (arith, c .row-size .ensures, row-small (c .before .before .before .before .args .rows .now) (c .before .before .loop .k))

@@ -63,7 +63,7 @@ write-row-requires c κs =
     let s = i .before .before .before .before .before in
     let a = s .args in
     let h : l .k + 1 ≤ a .count = omega arith in (
-      s .pre .0,
+      omega (arith, h, s .pre .0),
       omega (arith, s .pre .1),
       omega (arith, same-members (i .before), s .pre .3, l .inv .1, members-length (a .rows .now) (l .k), members-room (a .rows .now) (l .k + 1) (a .count) h),
     )

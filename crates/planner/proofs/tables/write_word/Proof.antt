@@ -2,16 +2,13 @@
 -- written, and the place after it. A turn writes the lowest set bit's number and clears the bit; the measure is how many bits are left.
 use mathlib.Core.Path.{_≡_, refl, sym, ap, _∙_}
 use mathlib.Core.List.{_∷_}
-use Prim.Native.Nat.{ℕ, _+_, _*_, _%_, _^_, _<_}
+use Prim.Native.Nat.{ℕ, _+_, _^_, _<_}
 use native.Mathlib.Omega.{arith}
 use native.Mathlib.Numerals.{add-one}
 use lib.ListN.{length, set}
 use lib.Seq.{sets, length-sets}
-use lib.Bits.{bitAnd, bitXor, xor-lt, and-lt}
 use lib.Count.{trailingZeros}
-use lib.Pow.{pow-lt}
-use Rattle.sets.proofs.Bits.{shl-one}
-use Rattle.planner.proofs.Lowest.{lowest}
+use Rattle.planner.proofs.Lowest.{lowest, cleared, cleared-is, cleared-lt}
 use Rattle.planner.proofs.Listing.{wordMembers, without, word-none, word-lowest}
 use Rattle.planner.proofs.tables.write_word.Statement.{statement}
 use Rattle.planner.proofs.tables.write_word.Tie as tie
@@ -69,23 +66,13 @@ cast-w c = omega (arith, first c .0)
 shl-w : tie.Need-shl-w Inv-loop μ-loop
 shl-w c = omega (arith, first c .0)
 
--- the word with the bit cleared, as the code makes it
-abbrev cleared : ℕ → ℕ → ℕ
-cleared w t = bitXor w (bitAnd w (1 * 2 ^ t % 2 ^ 64))
-
-cleared-without : (w t : ℕ) → t < 64 → cleared w t ≡ without w t
-cleared-without w t h = ap (λ (x : ℕ). bitXor w (bitAnd w x)) (shl-one t h)
-
-cleared-lt : (w t : ℕ) → t < 64 → w < 2 ^ 64 → cleared w t < 2 ^ 64
-cleared-lt w t h l = rw (shl-one t h) (xor-lt 64 w (bitAnd w (2 ^ t)) l (and-lt 64 w (2 ^ t) l (pow-lt h)))
-
 rest : (c : tie.In-loop Inv-loop μ-loop) → (let t = trailingZeros 64 (c .before .loop .w) in let b = c .before .before .args .base in
     wordMembers b (c .before .loop .w) ≡ (b + t) ∷ wordMembers b (cleared (c .before .loop .w) t))
 rest c =
     let w : ℕ = c .before .loop .w in
     let t : ℕ = trailingZeros 64 w in
     let b : ℕ = c .before .before .args .base in
-    first c .1 ∙ ap (λ (x : ℕ). (b + t) ∷ wordMembers b x) (sym (cleared-without w t (first c .0)))
+    first c .1 ∙ ap (λ (x : ℕ). (b + t) ∷ wordMembers b x) (sym (cleared-is w t (first c .0)))
 
 loop-less : tie.Need-loop-less Inv-loop μ-loop
 loop-less c = omega (arith, ap length (rest c))

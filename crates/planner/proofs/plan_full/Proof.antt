@@ -1,0 +1,55 @@
+-- `planner::plan_full` meets its contract: its tables are empty and have room for what every header allows.
+use mathlib.Core.Path.{refl, sym, subst}
+use Rattle.image.proofs.Acceptance.{Fits, header-yes, checked-fits}
+use Rattle.planner.proofs.Rows.{empty-zeros}
+use native.Mathlib.Omega.{arith}
+use Rattle.planner.proofs.plan_full.Statement.{statement}
+use Rattle.planner.proofs.plan_full.Tie as tie
+
+facts : (c : tie.Start) → Fits (c .args .h)
+facts c =
+    let p = header-yes (c .args .image .now) (c .args .h) (c .pre) in
+    subst Fits (sym (p .1)) (checked-fits (c .args .image .now) (p .0))
+
+slice-aggregate-plan-in : tie.Need-slice-aggregate-plan-in
+slice-aggregate-plan-in c = refl
+
+slice-aggregate-plan-in-2 : tie.Need-slice-aggregate-plan-in-2
+slice-aggregate-plan-in-2 c = refl
+
+slice-aggregate-plan-in-3 : tie.Need-slice-aggregate-plan-in-3
+slice-aggregate-plan-in-3 c = refl
+
+slice-aggregate-plan-in-4 : tie.Need-slice-aggregate-plan-in-4
+slice-aggregate-plan-in-4 c = refl
+
+slice-aggregate-plan-in-5 : tie.Need-slice-aggregate-plan-in-5
+slice-aggregate-plan-in-5 c = refl
+
+plan-in-requires : tie.Need-plan-in-requires
+plan-in-requires c κs =
+    let s = c .before .before .before .before .before .before .before .before .before .before in
+    ((s .pre, facts s .n-limit, facts s .n-limit, facts s .m-limit), (omega (arith, facts s .n-limit), facts s .n-limit, empty-zeros 4096, empty-zeros 512))
+
+same-length : tie.Need-same-length
+same-length c = c .before .before .before .before .before .before .before .before .before .plan-in .kept .1 .1 .1 .1 .1 .1 .1 .0
+
+same-length-2 : tie.Need-same-length-2
+same-length-2 c = c .before .before .before .before .before .before .before .before .before .plan-in .kept .1 .1 .1 .1 .1 .1 .1 .1 .0
+
+returns : tie.Need-returns
+returns c = c .before .before .before .before .before .before .before .before .before .plan-in .ensures
+
+pub plan-full-spec : {M : Type 1} → statement M
+plan-full-spec =
+    tie.close
+    (tie.spec
+    slice-aggregate-plan-in
+    slice-aggregate-plan-in-2
+    slice-aggregate-plan-in-3
+    slice-aggregate-plan-in-4
+    slice-aggregate-plan-in-5
+    plan-in-requires
+    same-length
+    same-length-2
+    returns)

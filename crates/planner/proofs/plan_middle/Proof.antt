@@ -1,0 +1,49 @@
+-- `planner::plan_middle` meets its contract: its tables are empty and have room for as many handsets and edges.
+use mathlib.Core.Path.{refl}
+use Rattle.planner.proofs.Rows.{empty-zeros}
+use native.Mathlib.Omega.{arith}
+use Rattle.planner.proofs.plan_middle.Statement.{statement}
+use Rattle.planner.proofs.plan_middle.Tie as tie
+
+slice-aggregate-plan-in : tie.Need-slice-aggregate-plan-in
+slice-aggregate-plan-in c = refl
+
+slice-aggregate-plan-in-2 : tie.Need-slice-aggregate-plan-in-2
+slice-aggregate-plan-in-2 c = refl
+
+slice-aggregate-plan-in-3 : tie.Need-slice-aggregate-plan-in-3
+slice-aggregate-plan-in-3 c = refl
+
+slice-aggregate-plan-in-4 : tie.Need-slice-aggregate-plan-in-4
+slice-aggregate-plan-in-4 c = refl
+
+slice-aggregate-plan-in-5 : tie.Need-slice-aggregate-plan-in-5
+slice-aggregate-plan-in-5 c = refl
+
+plan-in-requires : tie.Need-plan-in-requires
+plan-in-requires c κs =
+    let s = c .before .before .before .before .before .before .before .before .before .before in
+    ((s .pre .0, s .pre .1, s .pre .1, s .pre .2), (omega (arith, s .pre .1), s .pre .1, empty-zeros 2048, empty-zeros 256))
+
+same-length : tie.Need-same-length
+same-length c = c .before .before .before .before .before .before .before .before .before .plan-in .kept .1 .1 .1 .1 .1 .1 .1 .0
+
+same-length-2 : tie.Need-same-length-2
+same-length-2 c = c .before .before .before .before .before .before .before .before .before .plan-in .kept .1 .1 .1 .1 .1 .1 .1 .1 .0
+
+returns : tie.Need-returns
+returns c = c .before .before .before .before .before .before .before .before .before .plan-in .ensures
+
+pub plan-middle-spec : {M : Type 1} → statement M
+plan-middle-spec =
+    tie.close
+    (tie.spec
+    slice-aggregate-plan-in
+    slice-aggregate-plan-in-2
+    slice-aggregate-plan-in-3
+    slice-aggregate-plan-in-4
+    slice-aggregate-plan-in-5
+    plan-in-requires
+    same-length
+    same-length-2
+    returns)
