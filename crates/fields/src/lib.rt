@@ -71,11 +71,18 @@ pub fn read8(s: &[u8], at: usize) -> u64
     }
 }
 
-// The coordinate at a place, plus 2 ^ 31, so that it is never negative.
+// The coordinate that four bytes hold, by their number, plus 2 ^ 31, so that it is never negative.
+pub fn shift(x: u32) -> u64
+    ensures { λ r. ⌜ r ≡ shifted x ⌝ }
+{
+    (x as u64 + 2147483648) % 4294967296
+}
+
+// The coordinate at a place, plus 2 ^ 31.
 pub fn coordinate(part: &[u8], at: usize) -> u64
     ensures { λ r. ⌜ r ≡ shifted (number 4 (now (part .entry)) at) ⌝ }
 {
-    (read4(part, at) as u64 + 2147483648) % 4294967296
+    shift(read4(part, at))
 }
 
 // How many handsets make a core: a blank mu, 0, means 3.

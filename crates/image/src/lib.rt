@@ -104,14 +104,14 @@ fn ask_header(h: Header) -> Opened
 }
 
 // A shifted coordinate is from -1,000,000 to 1,000,000, both inclusive.
-fn in_limits(x: u64) -> bool
+pub fn in_limits(x: u64) -> bool
     ensures { λ r. ⌜ r ≡ inLimits x ⌝ }
 {
     (2146483648 <= x) & (x <= 2148483648)
 }
 
 // Whether handset v has a coordinate out of its limits.
-pub fn out_of_limits(part: &[u8], v: u16) -> bool
+fn out_of_limits(part: &[u8], v: u16) -> bool
     ensures { λ r. ⌜ r ≡ outOfLimits (now (part .entry)) v ⌝ }
 {
     let at = 8 * (v as usize);

@@ -245,11 +245,16 @@ module _ (s : List ℕ) (h : Header) (e : h ≡ headerOf s) where
   handsetPart-is =
       ap (λ (j : ℕ). take j (drop (h .handsets) s)) (add-sub-cancel-left (h .handsets) (8 * h .n)) ∙ ap (λ (x : Header). take (8 * x .n) (drop (x .handsets) s)) e
 
--- all of the part is there
+-- all of a part is there
 pub edgePart-length : (s : List ℕ) (h : Header) → Read s h → length (edgePart s h) ≡ 4 * h .m
 edgePart-length s h r =
     let rest : length (drop (h .edges) s) ≡ length s - h .edges = length-drop (h .edges) s in
     length-take-le (h .edges + 4 * h .m - h .edges) (drop (h .edges) s) (omega (arith, rest, r .length-of, r .fits .edges-to)) ∙ add-sub-cancel-left (h .edges) (4 * h .m)
+
+pub handsetPart-length : (s : List ℕ) (h : Header) → Read s h → length (handsetPart s h) ≡ 8 * h .n
+handsetPart-length s h r =
+    let rest : length (drop (h .handsets) s) ≡ length s - h .handsets = length-drop (h .handsets) s in
+    length-take-le (h .handsets + 8 * h .n - h .handsets) (drop (h .handsets) s) (omega (arith, rest, r .length-of, r .fits .handsets-to)) ∙ add-sub-cancel-left (h .handsets) (8 * h .n)
 
 -- ---- the image is accepted exactly when no position and no edge is at fault
 module _ (s : List ℕ) where

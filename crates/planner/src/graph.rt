@@ -103,17 +103,20 @@ fn add_edges(edges: &[u8], n: usize, m: usize, table: &mut [u64], sizes: &mut [u
 }
 
 // Reads the position of each handset into two tables. Stops with a no at one that is out of its limits.
-fn read_positions(handsets: &[u8], n: u16, xs: &mut [u64], ys: &mut [u64]) -> bool
-    requires { ⌜ (n ≤ 512) × (n ≤ length (now xs)) × (n ≤ length (now ys)) ⌝ }
+fn read_positions(handsets: &[u8], n: usize, xs: &mut [u64], ys: &mut [u64]) -> bool
+    requires { ⌜ (n ≤ 512) × (8 * n ≤ length (now handsets)) × (n ≤ length (now xs)) × (n ≤ length (now ys)) ⌝ }
     ensures { λ r. ⌜ Positions (now (handsets .entry)) n r (now (xs .exit)) (now (ys .exit)) ⌝ }
 {
-    let mut v: u16 = 0;
+    let mut v: usize = 0;
     while v < n {
-        if image::out_of_limits(handsets, v) {
+        let both = fields::read8(handsets, 8 * v);
+        let x = fields::shift((both % 4294967296) as u32);
+        let y = fields::shift((both / 4294967296) as u32);
+        if !(image::in_limits(x) & image::in_limits(y)) {
             return false;
         }
-        xs[v as usize] = fields::coordinate(handsets, 8 * (v as usize));
-        ys[v as usize] = fields::coordinate(handsets, 8 * (v as usize) + 4);
+        xs[v] = x;
+        ys[v] = y;
         v += 1;
     }
     true
@@ -196,24 +199,6 @@ fn common_words(table: &[u64], u: usize, v: usize, words: usize) -> u32
     n
 }
 
-// How many are marked in both rows u and v of a table whose rows have no number from n on. As many words are looked at as n needs, and each count
-// of words is a case of its own, so that it is compiled without a loop.
-fn common(table: &[u64], u: usize, v: usize, n: usize) -> u32
-    requires { ⌜ (u < 512) × (v < 512) × (u * 8 + 8 ≤ length (now table)) × (v * 8 + 8 ≤ length (now table)) × (n ≤ 512) × ((w : ℕ) → n ≤ w → w < 512 → cell (now table) u w ≡ 0) ⌝ }
-    ensures { λ r. ⌜ (r ≡ sum 512 (λ w. min (cell (now (table .entry)) u w) (cell (now (table .entry)) v w))) × (r ≤ 512) ⌝ }
-{
-    if 256 < n {
-        return common_words(table, u, v, 8);
-    }
-    if 128 < n {
-        return common_words(table, u, v, 4);
-    }
-    if 64 < n {
-        return common_words(table, u, v, 2);
-    }
-    common_words(table, u, v, 1)
-}
-
 // Whether c common neighbours of a and b are enough: c / √(a b) ≥ p / q, in whole numbers.
 fn meets_epsilon(c: u64, a: u64, b: u64, p: u64, q: u64) -> bool
     requires { ⌜ (c ≤ 512) × (a ≤ 512) × (b ≤ 512) × (p ≤ 1000) × (q ≤ 1000) ⌝ }
@@ -222,25 +207,58 @@ fn meets_epsilon(c: u64, a: u64, b: u64, p: u64, q: u64) -> bool
     p * p * (a * b) <= c * c * (q * q)
 }
 
-// Whether rows u and v have enough in common for their sizes.
+// Whether rows u and v, which have no number behind their first few words, have enough in common for their sizes.
 fn have_enough<'a>(
     table: &'a [u64],
     sizes: &'a [u32],
     u: usize,
     v: usize,
-    n: usize,
+    words: usize,
     p: u16,
     q: u16,
 ) -> bool
-    requires { ⌜ (Room (now table) (now sizes) u) × (Room (now table) (now sizes) v) × (n ≤ 512) × ((w : ℕ) → n ≤ w → w < 512 → cell (now table) u w ≡ 0) ⌝ }
+    requires { ⌜ (Room (now table) (now sizes) u) × (Room (now table) (now sizes) v) × (words ≤ 8) × ((w : ℕ) → words * 64 ≤ w → w < 512 → cell (now table) u w ≡ 0) ⌝ }
     requires { ⌜ (getD (now sizes) u 0 ≤ 512) × (getD (now sizes) v 0 ≤ 512) × (p ≤ 1000) × (q ≤ 1000) ⌝ }
     ensures { λ r. ⌜ r ≡ enough (now (table .entry)) (now (sizes .entry)) p q u v ⌝ }
 {
-    let c = common(table, u, v, n) as u64;
+    let c = common_words(table, u, v, words) as u64;
     meets_epsilon(c, sizes[u] as u64, sizes[v] as u64, p as u64, q as u64)
 }
 
-// Of the first `count` edges of a list, keeps those whose ends do not have enough in common, at the front, and gives their count.
+// Of the first `count` edges of a list, keeps those whose ends do not have enough in common, at the front, and gives their count. No row has a number
+// behind its first few words.
+fn list_unlike_words<'a>(
+    edges: &'a [u8],
+    table: &'a [u64],
+    sizes: &'a [u32],
+    words: usize,
+    p: u16,
+    q: u16,
+    count: usize,
+    list: &mut [u16],
+) -> usize
+    requires { ⌜ (count ≤ 4096) × (count ≤ length (now list)) × (words ≤ 8) × (p ≤ 1000) × (q ≤ 1000) ⌝ }
+    requires { ⌜ ((i : ℕ) → i < count → (Stands (now edges) (getD (now list) i 0)) × (Room (now table) (now sizes) (endA (now edges) (getD (now list) i 0))) × (Room (now table) (now sizes) (endB (now edges) (getD (now list) i 0)))) ⌝ }
+    requires { ⌜ ((u : ℕ) → u < 512 → getD (now sizes) u 0 ≤ 512) × ((u w : ℕ) → u < 512 → words * 64 ≤ w → w < 512 → cell (now table) u w ≡ 0) ⌝ }
+    ensures most { λ r. ⌜ r ≤ count ⌝ }
+    ensures listed { λ r. ⌜ Picks (λ j. getD (now (list .exit)) j 0) r (λ i. getD (now (list .entry)) i 0) count (λ k. not (enough (now (table .entry)) (now (sizes .entry)) p q (endA (now (edges .entry)) k) (endB (now (edges .entry)) k))) ⌝ }
+{
+    let mut c: usize = 0;
+    let mut i: usize = 0;
+    while i < count {
+        let k = list[i] as usize;
+        let alike = have_enough(table, sizes, end_a(edges, k), end_b(edges, k), words, p, q);
+        list[c] = list[i];
+        if !alike {
+            c += 1;
+        }
+        i += 1;
+    }
+    c
+}
+
+// The same for a table whose rows have no number from n on. As many words are looked at as n needs, and each count of words is a case of its own, so
+// that it is compiled without a loop over them.
 fn list_unlike<'a>(
     edges: &'a [u8],
     table: &'a [u64],
@@ -255,19 +273,16 @@ fn list_unlike<'a>(
     ensures most { λ r. ⌜ r ≤ count ⌝ }
     ensures listed { λ r. ⌜ Picks (λ j. getD (now (list .exit)) j 0) r (λ i. getD (now (list .entry)) i 0) count (λ k. not (enough (now (table .entry)) (now (sizes .entry)) (h .p) (h .q) (endA (now (edges .entry)) k) (endB (now (edges .entry)) k))) ⌝ }
 {
-    let n = h.n as usize;
-    let mut c: usize = 0;
-    let mut i: usize = 0;
-    while i < count {
-        let k = list[i] as usize;
-        let alike = have_enough(table, sizes, end_a(edges, k), end_b(edges, k), n, h.p, h.q);
-        list[c] = list[i];
-        if !alike {
-            c += 1;
-        }
-        i += 1;
+    if 256 < h.n {
+        return list_unlike_words(edges, table, sizes, 8, h.p, h.q, count, list);
     }
-    c
+    if 128 < h.n {
+        return list_unlike_words(edges, table, sizes, 4, h.p, h.q, count, list);
+    }
+    if 64 < h.n {
+        return list_unlike_words(edges, table, sizes, 2, h.p, h.q, count, list);
+    }
+    list_unlike_words(edges, table, sizes, 1, h.p, h.q, count, list)
 }
 
 // Adds u to a set of eight words or leaves it as it is, without a branch.
@@ -311,7 +326,7 @@ pub(crate) fn read_network(
     let to = from + 8 * n;
     let a = h.edges as usize;
     let b = a + 4 * m;
-    if !read_positions(&image[from..to], h.n, xs, ys) {
+    if !read_positions(&image[from..to], n, xs, ys) {
         return false;
     }
     add_selves(table, sizes, n);

@@ -1,14 +1,16 @@
--- `planner::graph::have_enough` meets its contract: the marks in common are counted, and tested against the two sizes.
+-- `planner::graph::have_enough` meets its contract: behind those words the rows have nothing in common, and the marks that they have are tested against the
+-- two sizes.
 use Prim.Native.Nat.{ℕ, _*_}
-use native.Mathlib.Omega.{arith}
 use mathlib.Core.Path.{_≡_, _∙_, ap}
 use lib.Dec.{leb}
 use lib.ListN.{getD}
+use Rattle.planner.proofs.Rows.{common-few}
+use native.Mathlib.Omega.{arith}
 use Rattle.planner.proofs.graph.have_enough.Statement.{statement}
 use Rattle.planner.proofs.graph.have_enough.Tie as tie
 
-common-requires : tie.Need-common-requires
-common-requires c κs = let s = c .before .before in (s .pre .0 .0 .0, s .pre .0 .1 .0, s .pre .0 .0 .1, s .pre .0 .1 .1, s .pre .0 .2, s .pre .0 .3)
+common-words-requires : tie.Need-common-words-requires
+common-words-requires c κs = let s = c .before .before in (s .pre .0 .0 .0, s .pre .0 .1 .0, s .pre .0 .0 .1, s .pre .0 .1 .1, s .pre .0 .2)
 
 cast-c : tie.Need-cast-c
 cast-c c = omega arith
@@ -32,19 +34,21 @@ cast-meets-epsilon-2 : tie.Need-cast-meets-epsilon-2
 cast-meets-epsilon-2 c = omega arith
 
 meets-epsilon-requires : tie.Need-meets-epsilon-requires
-meets-epsilon-requires c κs = let s = c .before .before .before .before .before in (c .before .before .common .ensures .1, s .pre .1 .0, s .pre .1 .1, s .pre .1 .2, s .pre .1 .3)
+meets-epsilon-requires c κs = let s = c .before .before .before .before .before in (c .before .before .common-words .ensures .1, s .pre .1 .0, s .pre .1 .1, s .pre .1 .2, s .pre .1 .3)
 
 returns : tie.Need-returns
 returns c =
-    let a = c .before .before .before .before .before .before .args in
+    let s = c .before .before .before .before .before .before in
+    let a = s .args in
     c .meets-epsilon .ensures
-    ∙ ap (λ (x : ℕ). leb (a .p * a .p * (getD (a .sizes .now) (a .u) 0 * getD (a .sizes .now) (a .v) 0)) (x * x * (a .q * a .q))) (c .before .before .before .common .ensures .0)
+    ∙ ap (λ (x : ℕ). leb (a .p * a .p * (getD (a .sizes .now) (a .u) 0 * getD (a .sizes .now) (a .v) 0)) (x * x * (a .q * a .q)))
+    (c .before .before .before .common-words .ensures .0 ∙ common-few (a .table .now) (a .u) (a .v) (a .words * 64) (a .words) (omega arith) (s .pre .0 .2) (s .pre .0 .3))
 
 pub have-enough-spec : {M : Type 1} → statement M
 have-enough-spec =
     tie.close
     (tie.spec
-    common-requires
+    common-words-requires
     cast-c
     mul-meets-epsilon
     shared-slice-read-meets-epsilon

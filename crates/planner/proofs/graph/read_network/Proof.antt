@@ -4,7 +4,7 @@ use native.Mathlib.Omega.{arith}
 use mathlib.Core.Path.{_≡_}
 use Rattle.image.specs.Questions.{headerOf}
 use Rattle.image.proofs.Acceptance.{Checked, header-yes}
-use Rattle.planner.proofs.GraphLaws.{Read, header-is, edgePart-length, positions-told, edges-told, not-read, network-read}
+use Rattle.planner.proofs.GraphLaws.{Read, header-is, edgePart-length, handsetPart-length, positions-told, edges-told, not-read, network-read}
 use borrow.Author.Needs.{needs}
 use Rattle.planner.proofs.graph.read_network.Statement.{statement}
 use Rattle.planner.proofs.graph.read_network.Tie as tie
@@ -50,7 +50,7 @@ part-read-positions-end : tie.Need-part-read-positions-end
 part-read-positions-end c = let r = facts (c .before .before .before .before .before .before .before .before .before) in omega (arith, r .length-of, r .fits .handsets-to)
 
 read-positions-requires : tie.Need-read-positions-requires
-read-positions-requires c κs = let s = c .before .before .before .before .before .before .before .before .before .before .before .before in (facts s .fits .n-limit, s .pre .0 .1, s .pre .0 .2)
+read-positions-requires c κs = let s = c .before .before .before .before .before .before .before .before .before .before .before .before in (facts s .fits .n-limit, omega (arith, handsetPart-length (s .args .image .now) (s .args .h) (facts s)), s .pre .0 .1, s .pre .0 .2)
 
 same-length : tie.Need-same-length
 same-length c = omega arith

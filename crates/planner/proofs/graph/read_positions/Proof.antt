@@ -1,18 +1,21 @@
 -- `planner::graph::read_positions` meets its contract. At v no handset below v is out of its limits and each has its two coordinates in the tables; the
--- stores at v leave those alone. The measure is what is left of n.
-use Prim.Native.Nat.{ℕ, _*_, _+_, _-_, _≤_, _<_}
-use native.Mathlib.Omega.{arith}
-use mathlib.Core.Path.{_≡_, refl, sym, ap, _∙_, subst}
-use mathlib.Core.Bool.{Bool, not}
+-- eight bytes read at v are those of its coordinates, and the stores at v leave the others alone. The measure is what is left of n.
+use Prim.Native.Nat.{ℕ, _*_, _+_, _-_, _/_, _%_, _≤_, _<_}
+use mathlib.Core.Path.{_≡_, refl, sym, ap, ap₂, _∙_, subst}
+use mathlib.Core.Bool.{Bool, _&&_, not}
 use borrow.Author.Count.{below-more}
 use lib.Dec.{T}
 use lib.ListN.{length, getD, set, length-set}
 use lib.Seq.{getD-set-same, getD-set-other}
 use Rattle.sets.specs.Below.{any}
 use Rattle.sets.proofs.Tests.{any-make, T-true}
+use Rattle.fields.specs.Bytes.{number}
+use Rattle.fields.specs.Fields.{shifted}
+use Rattle.fields.proofs.Bytes.{number-halves}
 use Rattle.image.specs.Image.{xAt, yAt}
-use Rattle.image.specs.Questions.{outOfLimits}
+use Rattle.image.specs.Questions.{inLimits, outOfLimits}
 use Rattle.image.proofs.Scanning.{scan-none, scan-more}
+use native.Mathlib.Omega.{arith}
 use Rattle.planner.proofs.graph.read_positions.Statement.{statement}
 use Rattle.planner.proofs.graph.read_positions.Tie as tie
 
@@ -27,96 +30,110 @@ abbrev μ-loop : tie.MeasureT-loop
 loop-holds : tie.Need-loop-holds Inv-loop μ-loop
 loop-holds c = (omega arith, scan-none _, refl, refl, λ x h. absurd (omega arith), λ x h. absurd (omega arith))
 
-out-of-limits-requires : tie.Need-out-of-limits-requires Inv-loop μ-loop
-out-of-limits-requires c κs = tt
+mul-read8 : tie.Need-mul-read8 Inv-loop μ-loop
+mul-read8 c = omega (arith, c .before .before .before .before .before .pre .0, c .loop-test .taken)
+
+read8-requires : tie.Need-read8-requires Inv-loop μ-loop
+read8-requires c κs = tt
+
+-- the two halves of the eight bytes
+halves : (c : tie.After-read8 Inv-loop μ-loop)
+    → (let s = c .before .before .before .before .before .before .args .handsets .now in let at = 8 * c .before .before .loop .v in
+    (c .read8 .result % 4294967296 ≡ number 4 s at) × (c .read8 .result / 4294967296 ≡ number 4 s (at + 4)))
+halves c =
+    let s = c .before .before .before .before .before .before .args .handsets .now in
+    let at = 8 * c .before .before .loop .v in
+    let h = number-halves s at (λ i. c .before .before .before .before .before .shared-slice-known .given i .fits) (omega (arith, c .before .loop-test .taken, c .before .before .before .before .before .before .pre .1)) in
+    (ap (λ (x : ℕ). x % 4294967296) (c .read8 .ensures) ∙ h .0, ap (λ (x : ℕ). x / 4294967296) (c .read8 .ensures) ∙ h .1)
+
+cast-shift : tie.Need-cast-shift Inv-loop μ-loop
+cast-shift c = omega arith
+
+shift-requires : tie.Need-shift-requires Inv-loop μ-loop
+shift-requires c κs = tt
+
+cast-shift-2 : tie.Need-cast-shift-2 Inv-loop μ-loop
+cast-shift-2 c = omega arith
+
+shift-requires-2 : tie.Need-shift-requires-2 Inv-loop μ-loop
+shift-requires-2 c κs = tt
+
+in-limits-requires : tie.Need-in-limits-requires Inv-loop μ-loop
+in-limits-requires c κs = tt
+
+in-limits-requires-2 : tie.Need-in-limits-requires-2 Inv-loop μ-loop
+in-limits-requires-2 c κs = tt
+
+-- what was read are the two coordinates
+x-read : (c : tie.After-shift2 Inv-loop μ-loop) → c .before .shift .result ≡ xAt (c .before .before .before .before .before .before .before .before .args .handsets .now) (c .before .before .before .before .loop .v)
+unfolding xAt
+x-read c = c .before .shift .ensures ∙ ap shifted (halves (c .before .before) .0)
+
+y-read : (c : tie.After-shift2 Inv-loop μ-loop) → c .shift2 .result ≡ yAt (c .before .before .before .before .before .before .before .before .args .handsets .now) (c .before .before .before .before .loop .v)
+unfolding yAt
+y-read c = c .shift2 .ensures ∙ ap shifted (halves (c .before .before) .1)
+
+-- and the test of them is question 7's
+told : (c : tie.After-in-limits2 Inv-loop μ-loop)
+    → not (c .before .in-limits .result && c .in-limits2 .result) ≡ outOfLimits (c .before .before .before .before .before .before .before .before .before .before .args .handsets .now) (c .before .before .before .before .before .before .loop .v)
+unfolding outOfLimits
+told c =
+    ap₂ (λ (a b : Bool). not (a && b))
+    (c .before .in-limits .ensures ∙ ap inLimits (x-read (c .before .before)))
+    (c .in-limits2 .ensures ∙ ap inLimits (y-read (c .before .before)))
 
 same-length : tie.Need-same-length Inv-loop μ-loop
-same-length c = c .before .before .before .loop .inv .2
+same-length c = c .before .before .before .before .before .before .before .loop .inv .2
 
 same-length-2 : tie.Need-same-length-2 Inv-loop μ-loop
-same-length-2 c = c .before .before .before .loop .inv .3
+same-length-2 c = c .before .before .before .before .before .before .before .loop .inv .3
 
 returns : tie.Need-returns Inv-loop μ-loop
 returns c =
-    let a = c .before .before .before .before .before .before .before .args in
-    let bad : T (outOfLimits (a .handsets .now) (c .before .before .before .loop .v)) = subst (λ (b : Bool). T b) (sym (sym (c .before .out-of-limits .ensures) ∙ c .if1 .taken)) tt in
+    let a = c .before .before .before .before .before .before .before .before .before .before .before .args in
+    let bad : T (outOfLimits (a .handsets .now) (c .before .before .before .before .before .before .before .loop .v)) = subst (λ (b : Bool). T b) (sym (sym (told (c .before)) ∙ c .if1 .taken)) tt in
     record {
-      answer = sym (ap not (T-true (any (a .n) (outOfLimits (a .handsets .now))) (any-make (a .n) (outOfLimits (a .handsets .now)) (c .before .before .before .loop .v) (c .before .before .loop-test .taken) bad)));
+      answer = sym (ap not (T-true (any (a .n) (outOfLimits (a .handsets .now))) (any-make (a .n) (outOfLimits (a .handsets .now)) (c .before .before .before .before .before .before .before .loop .v) (c .before .before .before .before .before .before .loop-test .taken) bad)));
       x-is = λ t. absurd t;
       y-is = λ t. absurd t;
     }
 
-cast-coordinate : tie.Need-cast-coordinate Inv-loop μ-loop
-cast-coordinate c = omega arith
-
-mul-coordinate : tie.Need-mul-coordinate Inv-loop μ-loop
-mul-coordinate c = omega (arith, c .before .before .before .before .before .before .before .pre .0, c .before .before .loop-test .taken)
-
-coordinate-requires : tie.Need-coordinate-requires Inv-loop μ-loop
-coordinate-requires c κs = tt
-
-cast-xs : tie.Need-cast-xs Inv-loop μ-loop
-cast-xs c = omega arith
-
 mul-xs : tie.Need-mul-xs Inv-loop μ-loop
-mul-xs c = omega (arith, c .before .before .before .before .before .before .before .before .pre .0, c .before .before .before .loop-test .taken)
+mul-xs c = omega (arith, c .before .before .before .before .before .before .before .before .before .before .before .pre .0, c .before .before .before .before .before .before .loop-test .taken)
 
 slice-write-xs : tie.Need-slice-write-xs Inv-loop μ-loop
-slice-write-xs c = omega (arith, c .before .before .before .before .before .before .before .before .pre .1, c .before .before .before .loop-test .taken, c .before .before .before .before .loop .inv .2)
-
-cast-coordinate-2 : tie.Need-cast-coordinate-2 Inv-loop μ-loop
-cast-coordinate-2 c = omega arith
-
-mul-coordinate-2 : tie.Need-mul-coordinate-2 Inv-loop μ-loop
-mul-coordinate-2 c = omega (arith, c .before .before .before .before .before .before .before .before .pre .0, c .before .before .before .loop-test .taken)
-
-add-coordinate : tie.Need-add-coordinate Inv-loop μ-loop
-add-coordinate c = omega (arith, c .before .before .before .before .before .before .before .before .pre .0, c .before .before .before .loop-test .taken)
-
-coordinate-requires-2 : tie.Need-coordinate-requires-2 Inv-loop μ-loop
-coordinate-requires-2 c κs = tt
-
-cast-ys : tie.Need-cast-ys Inv-loop μ-loop
-cast-ys c = omega arith
+slice-write-xs c = omega (arith, c .before .before .before .before .before .before .before .before .before .before .before .pre .2, c .before .before .before .before .before .before .loop-test .taken, c .before .before .before .before .before .before .before .loop .inv .2)
 
 mul-ys : tie.Need-mul-ys Inv-loop μ-loop
-mul-ys c = omega (arith, c .before .before .before .before .before .before .before .before .before .pre .0, c .before .before .before .before .loop-test .taken)
+mul-ys c = omega (arith, c .before .before .before .before .before .before .before .before .before .before .before .pre .0, c .before .before .before .before .before .before .loop-test .taken)
 
 slice-write-ys : tie.Need-slice-write-ys Inv-loop μ-loop
-slice-write-ys c = omega (arith, c .before .before .before .before .before .before .before .before .before .pre .2, c .before .before .before .before .loop-test .taken, c .before .before .before .before .before .loop .inv .3)
+slice-write-ys c = omega (arith, c .before .before .before .before .before .before .before .before .before .before .before .pre .3, c .before .before .before .before .before .before .loop-test .taken, c .before .before .before .before .before .before .before .loop .inv .3)
 
 add-v : tie.Need-add-v Inv-loop μ-loop
-add-v c = omega (arith, c .before .before .before .before .before .before .before .before .before .pre .0, c .before .before .before .before .loop-test .taken)
+add-v c = omega (arith, c .before .before .before .before .before .before .before .before .before .before .before .pre .0, c .before .before .before .before .before .before .loop-test .taken)
 
 loop-less : tie.Need-loop-less Inv-loop μ-loop
-loop-less c = omega arith
-
--- what was read are the two coordinates
-x-read : (c : tie.After-coordinate Inv-loop μ-loop) → c .coordinate .result ≡ xAt (c .before .before .before .before .before .before .before .before .args .handsets .now) (c .before .before .before .before .loop .v)
-unfolding xAt
-x-read c = c .coordinate .ensures
-
-y-read : (c : tie.After-coordinate2 Inv-loop μ-loop) → c .coordinate2 .result ≡ yAt (c .before .before .before .before .before .before .before .before .before .args .handsets .now) (c .before .before .before .before .before .loop .v)
-unfolding yAt
-y-read c = c .coordinate2 .ensures
+loop-less c = omega (arith, c .before .before .before .before .before .before .loop-test .taken)
 
 loop-again : tie.Need-loop-again Inv-loop μ-loop
 loop-again c =
-    let l = c .before .before .before .before .before .loop in
-    let h = c .before .before .before .before .loop-test .taken in
-    let n = c .before .before .before .before .before .before .before .before .before .pre in
-    let x = c .before .coordinate .result in
-    let y = c .coordinate2 .result in (
-      omega arith,
-      scan-more _ (l .v) (l .inv .1) (sym (c .before .before .before .out-of-limits .ensures) ∙ c .before .before .if1 .left),
+    let l = c .before .before .before .before .before .before .before .loop in
+    let h = c .before .before .before .before .before .before .loop-test .taken in
+    let s = c .before .before .before .before .before .before .before .before .before .before .before in
+    let x = c .before .before .before .before .shift .result in
+    let y = c .before .before .before .shift2 .result in
+    let r = c .before .before .before in (
+      omega (arith, h),
+      scan-more _ (l .v) (l .inv .1) (sym (told (c .before)) ∙ c .if1 .left),
       length-set (l .xs) (l .v) x ∙ l .inv .2,
       length-set (l .ys) (l .v) y ∙ l .inv .3,
-      below-more (λ (i : ℕ). getD (set (l .xs) (l .v) x) i 0 ≡ xAt (c .before .before .before .before .before .before .before .before .before .args .handsets .now) i) (l .v)
+      below-more (λ (i : ℕ). getD (set (l .xs) (l .v) x) i 0 ≡ xAt (s .args .handsets .now) i) (l .v)
           (λ i q. getD-set-other (l .xs) (l .v) i x 0 (λ e. omega arith) ∙ l .inv .4 i q)
-          (getD-set-same (l .xs) (l .v) x 0 (omega (arith, h, n .1, l .inv .2)) ∙ x-read (c .before)),
-      below-more (λ (i : ℕ). getD (set (l .ys) (l .v) y) i 0 ≡ yAt (c .before .before .before .before .before .before .before .before .before .args .handsets .now) i) (l .v)
+          (getD-set-same (l .xs) (l .v) x 0 (omega (arith, h, s .pre .2, l .inv .2)) ∙ x-read r),
+      below-more (λ (i : ℕ). getD (set (l .ys) (l .v) y) i 0 ≡ yAt (s .args .handsets .now) i) (l .v)
           (λ i q. getD-set-other (l .ys) (l .v) i y 0 (λ e. omega arith) ∙ l .inv .5 i q)
-          (getD-set-same (l .ys) (l .v) y 0 (omega (arith, h, n .2, l .inv .3)) ∙ y-read c),
+          (getD-set-same (l .ys) (l .v) y 0 (omega (arith, h, s .pre .3, l .inv .3)) ∙ y-read r),
     )
 
 same-length-3 : tie.Need-same-length-3 Inv-loop μ-loop
@@ -129,7 +146,7 @@ returns-2 : tie.Need-returns-2 Inv-loop μ-loop
 returns-2 c =
     let l = c .before .loop in
     let a = c .before .before .before .before .before .args in
-    let e : l .v ≡ a .n = omega arith in
+    let e : l .v ≡ a .n = omega (arith, l .inv .0, c .loop-test .left) in
     record {
       answer = sym (T-true (not (any (a .n) (outOfLimits (a .handsets .now)))) (subst (λ (j : ℕ). T (not (any j (outOfLimits (a .handsets .now))))) e (l .inv .1)));
       x-is = λ t i h. l .inv .4 i (omega (arith, h, e));
@@ -143,21 +160,19 @@ read-positions-spec =
     Inv-loop
     μ-loop
     loop-holds
-    out-of-limits-requires
+    mul-read8
+    read8-requires
+    cast-shift
+    shift-requires
+    cast-shift-2
+    shift-requires-2
+    in-limits-requires
+    in-limits-requires-2
     same-length
     same-length-2
     returns
-    cast-coordinate
-    mul-coordinate
-    coordinate-requires
-    cast-xs
     mul-xs
     slice-write-xs
-    cast-coordinate-2
-    mul-coordinate-2
-    add-coordinate
-    coordinate-requires-2
-    cast-ys
     mul-ys
     slice-write-ys
     add-v
