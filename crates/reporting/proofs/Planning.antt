@@ -2,17 +2,17 @@
 --
 --     plan-held        the plan's counts and tables, and the set of cores
 --     plan-refused     the plan is not refused
-use Prim.Native.Nat.{ℕ, _+_, _*_, _≤_, _<_}
+use Prim.Native.Nat.{ℕ, _≤_, _<_}
 use native.Mathlib.Omega.{arith}
-use mathlib.Core.Path.{_≡_, refl, sym, ap, ap₂, _∙_}
-use mathlib.Core.Bool.{Bool, _&&_, cond}
-use mathlib.Core.List.{List, [], _∷_, _++_}
-use lib.Dec.{ltb, leb}
+use mathlib.Core.Path.{_≡_, sym, ap, _∙_}
+use mathlib.Core.Bool.{_&&_}
+use mathlib.Core.List.{List}
+use lib.Dec.{ltb}
 use lib.ListN.{length, replicate, length-replicate}
 use borrow.Author.Tests.{lt-ltb, le-leb}
 use Rattle.sets.specs.Below.{bit}
-use Rattle.image.specs.Image.{handsetCount, edgeCount}
-use Rattle.image.specs.Questions.{Accepted, headerOf, openOf}
+use Rattle.image.specs.Image.{handsetCount}
+use Rattle.image.specs.Questions.{Accepted, headerOf}
 use Rattle.image.specs.declared.Header.{Header}
 use Rattle.image.specs.declared.Refusal.{Refusal}
 use Rattle.image.specs.declared.Opened.{Opened}
@@ -22,7 +22,7 @@ use Rattle.community.specs.Site.{network}
 use Rattle.community.specs.Tables.{startTable, memberTable}
 use Rattle.community.proofs.Bound.{memberships-bound}
 use Rattle.planner.specs.Held.{SetOf}
-use Rattle.planner.specs.Plan.{byRoom, over, communitiesOf, planned, planFor, planOf, tableFor, startsAfter, membersAfter, coreFor, PlanCall, CoreWords}
+use Rattle.planner.specs.Plan.{byRoom, over, communitiesOf, planFor, planOf, tableFor, startsAfter, membersAfter, coreFor, PlanCall, CoreWords}
 use Rattle.planner.specs.declared.Planned.{Planned}
 use Rattle.planner.specs.declared.Planned.the-variants as P
 use Rattle.reporting.specs.Held.{PlanHeld}

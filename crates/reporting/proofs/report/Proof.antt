@@ -1,6 +1,6 @@
 -- `reporting::report` meets its contract: a refused image ends the call, and of an accepted one the report is written.
 use native.Mathlib.Omega.{arith}
-use mathlib.Core.Path.{_≡_, refl, sym, ap, _∙_}
+use mathlib.Core.Path.{_≡_, sym, ap, _∙_}
 use denote.Ref.{now}
 use Rattle.image.specs.Questions.{openOf, refusalOf}
 use Rattle.image.specs.declared.Opened.the-variants as O

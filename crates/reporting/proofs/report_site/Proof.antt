@@ -1,6 +1,6 @@
 -- `reporting::report_site` meets its contract: the plan of an accepted image fits the two tables, so that the answer is the text's.
 use native.Mathlib.Omega.{arith}
-use mathlib.Core.Path.{_≡_, refl, sym, ap, _∙_}
+use mathlib.Core.Path.{refl}
 use denote.Ref.{now}
 use Rattle.reporting.proofs.Planning.{plan-held, plan-refused}
 use borrow.Author.Needs.{needs}
