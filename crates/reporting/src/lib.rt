@@ -14,7 +14,7 @@ ghost use mathlib.Core.Path.{_≡_};
 ghost use mathlib.Core.List.{_++_};
 ghost use lib.Dec.{ltb};
 ghost use lib.ListN.{length, getD, replicate};
-ghost use Rattle.image.specs.Questions.{Accepted, headerOf};
+ghost use Rattle.image.specs.Questions.{headerOf};
 ghost use Rattle.planner.specs.Held.{SetOf};
 ghost use Rattle.scores.specs.Scored.{scoresFor};
 ghost use Rattle.text.specs.Text.{Wrote, decimal, membersOf};
@@ -271,10 +271,10 @@ fn report_plan<'a>(
     )
 }
 
-// Writes the report of an accepted image. Its plan fits the two tables, so that it is never refused.
+// Writes the report of an image with the header h. The plan of an accepted image fits the two tables, so that it is refused only where the image is.
 fn report_site(text: &mut [u8], image: &[u8], h: Header) -> Reported
-    requires { ⌜ (Accepted (now image)) × (h ≡ headerOf (now image)) ⌝ }
-    ensures { λ r. ⌜ Filled (reportText (now (image .entry))) (now (text .entry)) r (now (text .exit)) ⌝ }
+    requires { ⌜ h ≡ headerOf (now image) ⌝ }
+    ensures { λ r. ⌜ ReportCall (now (image .entry)) (now (text .entry)) r (now (text .exit)) ⌝ }
 {
     let mut starts = [0u32; 513];
     let mut members = [0u16; 8704];
@@ -297,11 +297,11 @@ fn report_site(text: &mut [u8], image: &[u8], h: Header) -> Reported
 }
 
 // Writes the report of an image into the buffer, and answers the text's length. A refused image, or a buffer that does not hold the whole text
-// (16), is refused with nothing written; past the text the buffer holds what it held.
+// (16), is refused with nothing written; past the text the buffer holds what it held. Only the header is looked at here: the planner reads the rest.
 pub fn report(image: &[u8], text: &mut [u8]) -> Reported
     ensures { λ r. ⌜ ReportCall (now (image .entry)) (now (text .entry)) r (now (text .exit)) ⌝ }
 {
-    let opened = image::open(image);
+    let opened = image::open_header(image);
     let Opened::Site(h) = opened else {
         return Reported::Refused(image::refusal_of(opened));
     };
