@@ -37,9 +37,13 @@ and-true : (b : Bool) → (b && true) ≡ b
 and-true true = refl
 and-true false = refl
 
-and-false : (b : Bool) → (b && false) ≡ false
+pub and-false : (b : Bool) → (b && false) ≡ false
 and-false true = refl
 and-false false = refl
+
+pub or-false : (b : Bool) → (b || false) ≡ b
+or-false true = refl
+or-false false = refl
 
 -- ---- the numbers below a bound
 
@@ -77,11 +81,7 @@ without-start m u = sym (test-bit (bitAt m u) (bitAt-lt m u)) ∙ ap bit (sym (a
 
 contains-one : (u x : ℕ) → contains u (x ∷ []) ≡ eqb u x
 unfolding contains
-contains-one u x = go (eqb u x)
-  where
-    go : (b : Bool) → (b || false) ≡ b
-    go true = refl
-    go false = refl
+contains-one u x = or-false (eqb u x)
 
 -- the first numbers of a table, one more
 pub contains-more : (l : List ℕ) (i u : ℕ) → i < length l → contains u (take (i + 1) l) ≡ (contains u (take i l) || eqb u (getD l i 0))

@@ -31,18 +31,11 @@ use Rattle.community.specs.Scores.{justOne}
 use Rattle.planner.specs.Held.{Table}
 use Rattle.planner.proofs.Lowest.{bitOf-none}
 use Rattle.lookup.specs.Lookup.{membersOf}
+use Rattle.scores.proofs.Entries.{bit-le}
 use Rattle.reporting.specs.Held.{inGroup, bitFor, tiedIn, leavesIn, Joined, Raised, Room, Ends, EdgeCounted, EdgesCounted, GroupsCounted}
-use Rattle.reporting.proofs.Marking.{bit-test, test-bit, contains-more}
+use Rattle.reporting.proofs.Marking.{bit-test, test-bit, and-false, or-false, contains-more}
 
 -- ---- the rows
-
-or-false : (b : Bool) → (b || false) ≡ b
-or-false true = refl
-or-false false = refl
-
-and-false : (b : Bool) → (b && false) ≡ false
-and-false true = refl
-and-false false = refl
 
 pub joined-none : (rows : List ℕ) (k : ℕ) → Joined rows [] k rows
 unfolding contains
@@ -109,12 +102,6 @@ rows-more f rows rows′ l k same t g = record {
       ∙ ap bit (grown v j);
 }
   where
-    last : (b : Bool) → ((false && b) || (true && b)) ≡ (true && b)
-    last b = refl
-
-    earlier : (b c : Bool) → ((true && b) || (false && c)) ≡ (true && b)
-    earlier b c = or-false b
-
     grown : (v j : ℕ) → ((ltb j k && f v j) || (eqb j k && f v k)) ≡ (ltb j (k + 1) && f v j)
     grown v j =
         ⊎-elim
@@ -300,10 +287,6 @@ module _ (rows : List ℕ) (u v j : ℕ) where
       word-more (λ x. justOne (inGroup rows u x) (inGroup rows v x)) j (bitXor here there) k leaving-bit,
     );
   }
-
-bit-le : (b : Bool) → bit b ≤ 1
-bit-le true = omega arith
-bit-le false = omega arith
 
 -- what one edge leaves still has room
 pub edge-room : (rows : List ℕ) (u v words : ℕ) (ts₀ ts : List ℕ) → Room ts₀ → EdgeCounted rows u v words ts₀ ts → (i : ℕ) → i < 1024 → getD ts i 0 ≤ 4097

@@ -7,7 +7,7 @@
 --     tied-once       the tied pairs of a list without repeats are the edges with both ends in it
 --     tally-is        tallyAt (edgeRecords s) l ≡ tallyOf s l
 --     tallied-is      talliedAt (handsetCount s) (edgeRecords s) l ≡ talliedOf s l
---     good-tallied, good-part, good-scored     the answers for at most 512 handsets of an accepted image: the tally, and its scores
+--     good-tallied, good-scored     the answers for at most 512 handsets of an accepted image: the tally, and its scores
 --     site-fits       the edge records of an opened image stand in it
 --     site-tallied    the call's answer for an opened image is the tally over its edge records
 --     site-refused    the call's answer for a refused image is its refusal
@@ -153,9 +153,6 @@ module _ (s : List ℕ) (a : Accepted s) (l : List ℕ) (few : length l ≤ 512)
   pub good-tallied : talliedOf s l ≡ T.Of (tallyOf s l)
   unfolding talliedOf headerOf
   good-tallied = ap (λ (o : Opened). talliedFor s o l) (opened s a) ∙ entries-good (handsetCount s) l (tallyOf s l) few below
-
-  pub good-part : talliedAt (handsetCount s) (edgeRecords s) l ≡ T.Of (tallyOf s l)
-  good-part = tallied-is s a l ∙ good-tallied
 
   pub good-scored : scoredOf s l ≡ S.Of (scoresFor (tallyOf s l))
   unfolding scoredOf
