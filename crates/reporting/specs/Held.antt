@@ -2,6 +2,7 @@
 --
 --     scoresPart k c       what stands before the colon in the line of group k
 --     tallyAt ts k l       the tally of group k with the members l, from a table that holds its tied pairs at k and its leaving edges at 512 + k
+--     inGroup, tiedIn, leavesIn    by the rows of the groups of each handset: whether it is in a group, whether an edge is tied in it, or leaves it
 --     Joined rows l k ..   the rows with group k added to those of the handsets in l
 --     Raised ts base w ..  a table with 1 added at base + k for each set bit k of the word w
 --     Room ts              a table of 1,024 numbers that none of 4,096 edges makes too large
