@@ -3,14 +3,13 @@
 --     site-answer, refused-answer          the call's answer and the buffer after it, for an accepted image and for a refused one
 --     program-long                         an input of more than 65,536 bytes
 --     program-written, program-refused     what the program prints after either answer
-use Prim.Native.Nat.{ℕ, zero, suc, _+_, _≤_, _<_}
+use Prim.Native.Nat.{ℕ, _+_, _≤_, _<_}
 use native.Mathlib.Omega.{arith}
 use mathlib.Core.Path.{_≡_, refl, sym, ap, _∙_, subst}
 use mathlib.Core.Bool.{Bool, true, false, cond}
-use mathlib.Core.List.{List, [], _∷_, _++_}
-use lib.Dec.{leb, ltb}
+use mathlib.Core.List.{List, _++_}
+use lib.Dec.{leb}
 use lib.ListN.{length, drop}
-use lib.Seq.{sets}
 use borrow.Author.Tests.{leb-true, le-leb, lt-ltb, le-ltb}
 use Rattle.sets.proofs.Writing.{sets-front}
 use Rattle.image.specs.Questions.{openOf}

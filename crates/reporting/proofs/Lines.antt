@@ -1,10 +1,8 @@
 -- The texts that the report's loops write, one step more; and the text from the tables is the report's.
-use Prim.Native.Nat.{ℕ, zero, suc, _+_, _*_, _≤_, _<_}
-use native.Mathlib.Omega.{arith}
+use Prim.Native.Nat.{ℕ, _+_}
 use native.Mathlib.Numerals.{add-one}
-use mathlib.Core.Path.{_≡_, refl, sym, ap, ap₂, _∙_}
+use mathlib.Core.Path.{_≡_, sym, ap, _∙_}
 use mathlib.Core.List.{List, [], _∷_, _++_, append-assoc}
-use lib.ListN.{length, getD}
 use Rattle.lookup.specs.Lookup.{membersOf}
 use Rattle.scores.specs.Scored.{scoresFor}
 use Rattle.text.specs.Text.{decimal}
@@ -14,7 +12,7 @@ use Rattle.reporting.specs.Report.{headLine, groupLine, listLine, refuse
 use Rattle.reporting.specs.Held.{tallyAt, tableLines, tableText}
 
 pub lines-more : (starts members ts : List ℕ) (k : ℕ)
-    → tableLines starts members ts (k + 1) ≡ tableLines starts members ts k ++ groupLine k (scoresFor (tallyAt ts k)) (membersOf starts members k)
+    → tableLines starts members ts (k + 1) ≡ tableLines starts members ts k ++ groupLine k (scoresFor (tallyAt ts k (membersOf starts members k))) (membersOf starts members k)
 unfolding tableLines
 lines-more starts members ts k = ap (tableLines starts members ts) (add-one k)
 

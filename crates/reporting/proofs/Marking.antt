@@ -1,17 +1,17 @@
 -- How a set of bits grows and shrinks as the loops mark and unmark its numbers.
 --
 --     below-start, below-more        the set of the numbers below a bound: at 0, and one bound more
+--     contains-more                  the first numbers of a table, one more
 --     without-start, without-more    a set with the first numbers of a table taken out: none, and one more
 --     outside                        the numbers below n that are not in a table, from the two loops
-use Prim.Native.Nat.{ℕ, zero, suc, _+_, _/_, _≤_, _<_}
+use Prim.Native.Nat.{ℕ, zero, suc, _+_, _/_, _<_}
 use native.Mathlib.Omega.{arith}
 use native.Mathlib.Decide.{ℕ-discrete, decLt}
 use native.Mathlib.Numerals.{add-one}
-use mathlib.Core.Path.{_≡_, refl, sym, ap, ap₂, _∙_}
-use mathlib.Core.Logic.{_⊎_, inl, inr, ⊎-elim}
+use mathlib.Core.Path.{_≡_, refl, sym, ap, _∙_}
 use mathlib.Core.Bool.{Bool, true, false, _&&_, _||_, not}
-use mathlib.Core.List.{List, [], _∷_, _++_}
-use lib.Dec.{T, eqb, ltb, eqb→eq, eqb-refl}
+use mathlib.Core.List.{List, [], _∷_}
+use lib.Dec.{eqb, ltb}
 use lib.ListN.{length, getD, take, replicate}
 use lib.Seq.{take-suc}
 use borrow.Author.Tests.{lt-ltb, le-ltb, eq-eqb, ne-eqb}
@@ -28,7 +28,7 @@ pub bit-test : (b : Bool) → eqb (bit b) 1 ≡ b
 bit-test true = refl
 bit-test false = refl
 
-test-bit : (x : ℕ) → x < 2 → bit (eqb x 1) ≡ x
+pub test-bit : (x : ℕ) → x < 2 → bit (eqb x 1) ≡ x
 test-bit zero h = refl
 test-bit (suc zero) h = refl
 test-bit (suc (suc x)) h = absurd (omega arith)
@@ -37,9 +37,13 @@ and-true : (b : Bool) → (b && true) ≡ b
 and-true true = refl
 and-true false = refl
 
-and-false : (b : Bool) → (b && false) ≡ false
+pub and-false : (b : Bool) → (b && false) ≡ false
 and-false true = refl
 and-false false = refl
+
+pub or-false : (b : Bool) → (b || false) ≡ b
+or-false true = refl
+or-false false = refl
 
 -- ---- the numbers below a bound
 
@@ -77,11 +81,13 @@ without-start m u = sym (test-bit (bitAt m u) (bitAt-lt m u)) ∙ ap bit (sym (a
 
 contains-one : (u x : ℕ) → contains u (x ∷ []) ≡ eqb u x
 unfolding contains
-contains-one u x = go (eqb u x)
-  where
-    go : (b : Bool) → (b || false) ≡ b
-    go true = refl
-    go false = refl
+contains-one u x = or-false (eqb u x)
+
+-- the first numbers of a table, one more
+pub contains-more : (l : List ℕ) (i u : ℕ) → i < length l → contains u (take (i + 1) l) ≡ (contains u (take i l) || eqb u (getD l i 0))
+contains-more l i u h =
+    ap (λ (k : ℕ). contains u (take k l)) (add-one i) ∙ ap (contains u) (take-suc l i 0 h)
+    ∙ contains-append u (take i l) (getD l i 0 ∷ []) ∙ ap (λ (b : Bool). contains u (take i l) || b) (contains-one u (getD l i 0))
 
 pub without-more : (m₀ m l : List ℕ) (i : ℕ) → i < length l
     → ((u : ℕ) → bitAt m u ≡ bit (eqb (bitAt m₀ u) 1 && not (contains u (take i l))))
@@ -91,17 +97,12 @@ without-more m₀ m l i h held u =
     ∙ ap (λ (x : ℕ). bit (eqb x 1 && not (eqb u (getD l i 0)))) (held u)
     ∙ ap (λ (b : Bool). bit (b && not (eqb u (getD l i 0)))) (bit-test (eqb (bitAt m₀ u) 1 && not (contains u (take i l))))
     ∙ ap bit (both (eqb (bitAt m₀ u) 1) (contains u (take i l)) (eqb u (getD l i 0)))
-    ∙ ap (λ (b : Bool). bit (eqb (bitAt m₀ u) 1 && not b)) (sym grown)
+    ∙ ap (λ (b : Bool). bit (eqb (bitAt m₀ u) 1 && not b)) (sym (contains-more l i u h))
   where
     both : (a b d : Bool) → ((a && not b) && not d) ≡ (a && not (b || d))
     both true true d = refl
     both true false d = refl
     both false b d = refl
-
-    grown : contains u (take (i + 1) l) ≡ (contains u (take i l) || eqb u (getD l i 0))
-    grown =
-        ap (λ (k : ℕ). contains u (take k l)) (add-one i) ∙ ap (contains u) (take-suc l i 0 h)
-        ∙ contains-append u (take i l) (getD l i 0 ∷ []) ∙ ap (λ (b : Bool). contains u (take i l) || b) (contains-one u (getD l i 0))
 
 pub outside : {ws ws′ : List ℕ} {l : List ℕ} (n : ℕ) → SetOf ws (λ v. ltb v n) → Without ws l ws′ → (v : ℕ) → v < 512 → bitAt ws′ v ≡ bit (ltb v n && not (contains v l))
 outside {ws} {ws′} {l} n p q v h =

@@ -7,26 +7,24 @@
 --     held-members       the members of a set of bits that holds the handsets below n that pass f
 use Prim.Native.Nat.{ℕ, zero, suc, _+_, _-_, _≤_, _<_}
 use native.Mathlib.Omega.{arith}
-use mathlib.Core.Path.{_≡_, refl, sym, ap, ap₂, _∙_, subst}
-use mathlib.Core.Logic.{_⊎_, inl, inr, ⊎-elim}
-use mathlib.Core.Bool.{Bool, true, false, _&&_, _||_, not, cond}
+use mathlib.Core.Path.{_≡_, refl, sym, ap, _∙_}
+use mathlib.Core.Logic.{_⊎_, ⊎-elim}
+use mathlib.Core.Bool.{Bool, true, false, _&&_, _||_, not}
 use mathlib.Core.List.{List, [], _∷_, _++_, List·Memᴰ}
-use lib.Dec.{T, eqb, ltb, eqb→eq, ltb→lt}
+use lib.Dec.{T, eqb, ltb}
 use lib.ListN.{length, getD}
 use borrow.Author.Tests.{lt-ltb, le-ltb}
 use Rattle.sets.specs.Below.{select, bit}
 use Rattle.sets.specs.Bits.{bitAt}
 use Rattle.sets.proofs.Tests.{decide, T-true, T-false}
 use Rattle.sets.proofs.Selecting.{select-no, select-cong}
-use Rattle.community.specs.Network.{Network, Sound, isCore, communities, contains, membershipCount, communityNumber, role, borderOf, cores}
+use Rattle.community.specs.Network.{Network, Sound, isCore, communities, contains, membershipCount, role, borderOf}
 use Rattle.community.specs.Tables.{memberTable}
-use Rattle.community.specs.declared.Role.{Role}
-use Rattle.community.specs.declared.Role.the-variants.{Core, Border, Outlier}
 use Rattle.community.proofs.Reachability.{from-below}
-use Rattle.community.proofs.Communities.{leader, leader-of, leader-place, reachable-member}
-use Rattle.community.proofs.Roles.{contains-mem, mem-contains}
+use Rattle.community.proofs.Communities.{leader-of, leader-place, reachable-member}
+use Rattle.community.proofs.Roles.{mem-contains}
 use Rattle.text.specs.Text.{membersOf}
-use Rattle.reporting.specs.Report.{isOutlier, outliers}
+use Rattle.reporting.specs.Report.{isOutlier}
 
 or-assoc : (a b c : Bool) → ((a || b) || c) ≡ (a || (b || c))
 or-assoc true b c = refl

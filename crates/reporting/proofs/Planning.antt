@@ -1,28 +1,30 @@
 -- The plan that the report works from: an accepted image has at most 512 communities and 8,704 memberships, so that its plan fits the two tables.
 --
+--     plan-accepted    an image with a plan is accepted
 --     plan-held        the plan's counts and tables, and the set of cores
---     plan-refused     the plan is not refused
-use Prim.Native.Nat.{ℕ, _+_, _*_, _≤_, _<_}
+--     plan-refused     an image whose plan is refused is refused with the same
+use Prim.Native.Nat.{ℕ, _≤_, _<_}
 use native.Mathlib.Omega.{arith}
-use mathlib.Core.Path.{_≡_, refl, sym, ap, ap₂, _∙_}
-use mathlib.Core.Bool.{Bool, _&&_, cond}
-use mathlib.Core.List.{List, [], _∷_, _++_}
-use lib.Dec.{ltb, leb}
+use mathlib.Core.Path.{_≡_, refl, sym, ap, _∙_}
+use mathlib.Core.Bool.{_&&_}
+use mathlib.Core.List.{List}
+use lib.Dec.{ltb}
 use lib.ListN.{length, replicate, length-replicate}
 use borrow.Author.Tests.{lt-ltb, le-leb}
 use Rattle.sets.specs.Below.{bit}
-use Rattle.image.specs.Image.{handsetCount, edgeCount}
+use Rattle.image.specs.Image.{handsetCount}
 use Rattle.image.specs.Questions.{Accepted, headerOf, openOf}
 use Rattle.image.specs.declared.Header.{Header}
 use Rattle.image.specs.declared.Refusal.{Refusal}
 use Rattle.image.specs.declared.Opened.{Opened}
-use Rattle.image.proofs.Acceptance.{accepted-fits, opened}
+use Rattle.image.specs.declared.Opened.the-variants as O
+use Rattle.image.proofs.Acceptance.{accepted, accepted-fits, opened}
 use Rattle.community.specs.Network.{isCore, communities}
 use Rattle.community.specs.Site.{network}
 use Rattle.community.specs.Tables.{startTable, memberTable}
 use Rattle.community.proofs.Bound.{memberships-bound}
 use Rattle.planner.specs.Held.{SetOf}
-use Rattle.planner.specs.Plan.{byRoom, over, communitiesOf, planned, planFor, planOf, tableFor, startsAfter, membersAfter, coreFor, PlanCall, CoreWords}
+use Rattle.planner.specs.Plan.{byRoom, over, communitiesOf, planFor, planOf, tableFor, startsAfter, membersAfter, coreFor, PlanCall, CoreWords}
 use Rattle.planner.specs.declared.Planned.{Planned}
 use Rattle.planner.specs.declared.Planned.the-variants as P
 use Rattle.reporting.specs.Held.{PlanHeld}
@@ -80,7 +82,22 @@ module _ (s : List ℕ) (a : Accepted s) where
         cores-are = cores-held ws c;
       }
 
-  pub plan-refused : (r : Refusal) (answer : Planned) (starts table : List ℕ) → answer ≡ P.Refused r → PlanCall s blankStarts blankMembers answer starts table → ⊥
-  plan-refused r answer starts table d p =
-      let m : P.Refused r ≡ P.Made (length (communities (network s))) (length (memberTable (communities (network s)))) = sym d ∙ p .answer ∙ plan-made in
-      let z : _≡_ {A = ℕ} 0 1 = cc in omega arith
+pub plan-accepted : (s : List ℕ) (groups memberships : ℕ) (answer : Planned) (starts table : List ℕ) → answer ≡ P.Made groups memberships
+    → PlanCall s blankStarts blankMembers answer starts table → Accepted s
+unfolding planOf
+plan-accepted s groups memberships answer starts table d p = go (openOf s) refl (sym d ∙ p .answer)
+  where
+    go : (o : Opened) → openOf s ≡ o → P.Made groups memberships ≡ planFor s o (length blankStarts) (length blankMembers) → Accepted s
+    go (O.Site h) e q = accepted s h e .0
+    go (O.Refused r) e q = let z : _≡_ {A = ℕ} 0 1 = cc in absurd (omega arith)
+
+pub plan-refused : (s : List ℕ) (r : Refusal) (answer : Planned) (starts table : List ℕ) → answer ≡ P.Refused r
+    → PlanCall s blankStarts blankMembers answer starts table → openOf s ≡ O.Refused r
+unfolding planOf
+plan-refused s r answer starts table d p = go (openOf s) refl (sym d ∙ p .answer)
+  where
+    go : (o : Opened) → openOf s ≡ o → P.Refused r ≡ planFor s o (length blankStarts) (length blankMembers) → o ≡ O.Refused r
+    go (O.Refused x) e q = cc
+    go (O.Site h) e q =
+        let m : P.Refused r ≡ P.Made (length (communities (network s))) (length (memberTable (communities (network s)))) = sym d ∙ p .answer ∙ plan-made s (accepted s h e .0) in
+        let z : _≡_ {A = ℕ} 0 1 = cc in absurd (omega arith)

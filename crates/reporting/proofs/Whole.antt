@@ -1,28 +1,29 @@
--- The text from the plan's tables is the report's: each part of the member table is a community, each tally is the community's, the set of cores
--- holds the cores, and what is left of the handsets are the outliers.
+-- The text from the plan's tables is the report's: each part of the member table is a community, which lists no handset twice, so that its counts are
+-- the community's tally; the set of cores holds the cores, and what is left of the handsets are the outliers.
 --
 --     groups-few           an accepted image has at most 512 communities
 --     part-is              the part of the tables for group k is the k-th community
 --     text-is              the text from the tables is the report's
---     handsets-few, edges-fit, members-fit    the bounds that the calls and the parts of the report ask for
+--     handsets-few, edges-fit, members-fit, ends-held    the bounds that the calls and the parts of the report ask for
 --     text-held            the text from the tables as the report's functions leave them
 use Prim.Native.Nat.{ℕ, zero, suc, _+_, _*_, _-_, _≤_, _<_}
 use native.Mathlib.Omega.{arith}
-use mathlib.Core.Path.{_≡_, refl, sym, ap, ap₂, _∙_}
-use mathlib.Core.Bool.{Bool, _&&_, not}
-use mathlib.Core.List.{List, [], _∷_, _++_}
+use mathlib.Core.Path.{_≡_, refl, sym, ap, ap₂, _∙_, subst}
+use mathlib.Core.Bool.{_&&_, not}
+use mathlib.Core.List.{List, [], _++_}
 use lib.Dec.{ltb}
-use lib.ListN.{length, getD, take, drop, replicate, length-append, length-replicate}
-use lib.Seq.{sets, take-at}
+use lib.ListN.{length, getD, take, drop, replicate, length-append}
+use lib.Seq.{take-at, take-all}
 use Rattle.sets.specs.Below.{select, bit}
 use Rattle.sets.specs.Bits.{bitAt}
 use Rattle.sets.proofs.Counting.{count-le}
-use Rattle.sets.proofs.Selecting.{length-select, select-below, select-cong}
+use Rattle.sets.proofs.Selecting.{length-select, select-ascends, select-cong}
 use Rattle.image.specs.Image.{handsetCount, edgeCount, edgeOffset, edgeRecords}
-use Rattle.image.specs.Questions.{Accepted, headerOf}
+use Rattle.image.specs.Questions.{headerOf}
 use Rattle.image.specs.declared.Header.{Header}
-use Rattle.image.proofs.Acceptance.{accepted-fits, length-is}
+use Rattle.image.proofs.Acceptance.{accepted-fits, length-is, ends-below}
 use Rattle.community.specs.Network.{Network, isCore, isLeader, leaders, members, reachable, communities, cores, contains, role}
+use Rattle.community.specs.Scores.{pairs, tiedPairs, leaving}
 use Rattle.community.specs.Site.{network}
 use Rattle.community.specs.Tables.{startTable, memberTable}
 use Rattle.community.proofs.Communities.{leader, length-communities, community-at}
@@ -31,14 +32,13 @@ use Rattle.community.proofs.Tables.{length-startTable, table-community, starts-
 use Rattle.planner.specs.Held.{SetOf}
 use Rattle.lookup.specs.Lookup.{membersOf}
 use Rattle.lookup.proofs.Agreement.{members-slice}
-use Rattle.scores.specs.Scored.{scoresFor, tallyOf, talliedAt}
-use Rattle.scores.proofs.Tallying.{good-part}
+use Rattle.scores.specs.Scored.{tallyOf}
+use Rattle.scores.proofs.Tallying.{tied-once}
 use Rattle.text.specs.Text as X
-use Rattle.reporting.specs.Report.{headLine, groupLine, groupLines, listLine, isOutlier, outliers, reportWith, reportText, coresWord, outliersWord}
-use Rattle.reporting.specs.Held.{tallyAt, countedOf, talliesIn, tableLines, tableText, Without, PlanHeld}
+use Rattle.reporting.specs.Report.{headLine, groupLines, listLine, isOutlier, outliers, reportWith, reportText, coresWord, outliersWord}
+use Rattle.reporting.specs.Held.{tallyAt, Ends, GroupsCounted, tableLines, tableText, Without, PlanHeld}
 use Rattle.reporting.proofs.Outliers.{outlier-test, held-members}
 use Rattle.reporting.proofs.Marking.{outside}
-use Rattle.reporting.proofs.Tallies.{tally-held}
 
 module _ (g : Network) where
   pub communities-few : length (communities g) ≤ g .n
@@ -49,15 +49,16 @@ module _ (g : Network) where
   unfolding members
   members-few u = omega (arith, length-select (g .n) (reachable g u), count-le (g .n) (reachable g u))
 
-  members-below : (u i : ℕ) → i < length (members g u) → getD (members g u) i 0 < g .n
+  members-apart : (u i j : ℕ) → i < j → j < length (members g u) → getD (members g u) i 0 ≡ getD (members g u) j 0 → ⊥
   unfolding members
-  members-below u i h = select-below (g .n) (reachable g u) i h
+  members-apart u i j h l e = omega (arith, select-ascends (g .n) (reachable g u) i j h l)
 
   community-few : (k : ℕ) → k < length (communities g) → length (getD (communities g) k []) ≤ g .n
   community-few k h = rw (community-at g k h) (members-few (leader g k))
 
-  community-below : (k : ℕ) → k < length (communities g) → (i : ℕ) → i < length (getD (communities g) k []) → getD (getD (communities g) k []) i 0 < g .n
-  community-below k h = rw (community-at g k h) (members-below (leader g k))
+  community-apart : (k : ℕ) → k < length (communities g) → (i j : ℕ) → i < j → j < length (getD (communities g) k [])
+      → getD (getD (communities g) k []) i 0 ≡ getD (getD (communities g) k []) j 0 → ⊥
+  community-apart k h = rw (community-at g k h) (members-apart (leader g k))
 
 -- the part of the tables for group k is the k-th list
 pub part-is : (gs : List (List ℕ)) (x y : List ℕ) (k : ℕ) → k < length gs → membersOf (startTable gs ++ x) (memberTable gs ++ y) k ≡ getD gs k []
@@ -68,7 +69,7 @@ part-is gs x y k h =
 
 -- the lines from tables whose parts and tallies are those of the communities
 lines-are : (s : List ℕ) (gs : List (List ℕ)) (starts table ts : List ℕ) (k : ℕ)
-    → ((j : ℕ) → j < k → membersOf starts table j ≡ getD gs j []) → ((j : ℕ) → j < k → tallyAt ts j ≡ tallyOf s (getD gs j []))
+    → ((j : ℕ) → j < k → membersOf starts table j ≡ getD gs j []) → ((j : ℕ) → j < k → tallyAt ts j (getD gs j []) ≡ tallyOf s (getD gs j []))
     → tableLines starts table ts k ≡ groupLines s gs k
 unfolding tableLines groupLines
 lines-are s gs starts table ts zero p q = refl
@@ -88,17 +89,20 @@ module _ {s : List ℕ} {h : Header} {groups memberships : ℕ} {starts table co
       rw (held .starts-are, held .members-are)
       (part-is gs (drop (length (startTable gs)) (replicate 513 0)) (drop (length (memberTable gs)) (replicate 8704 0)) k (omega (arith, held .groups-are)))
 
-  tally-at : (k : ℕ) → k < groups → countedOf (talliedAt (handsetCount s) (edgeRecords s) (membersOf starts table k)) ≡ tallyOf s (getD (communities (network s)) k [])
-  unfolding countedOf headerOf
-  tally-at k l =
+  -- the counts of a group are its community's tally
+  tally-held : (ts : List ℕ) → GroupsCounted (edgeRecords s) (edgeCount s) starts table groups ts
+      → (k : ℕ) → k < groups → tallyAt ts k (getD (communities (network s)) k []) ≡ tallyOf s (getD (communities (network s)) k [])
+  unfolding tallyAt tallyOf leaving headerOf
+  tally-held ts c k l =
       let inside : k < length (communities (network s)) = omega (arith, held .groups-are) in
-      rw (
-        part-at k l,
-        good-part s (held .accepted) (getD (communities (network s)) k [])
-            (omega (arith, community-few (network s) k inside, accepted-fits s (held .accepted) .n-limit)) (community-below (network s) k inside),
-      )
+      let list : List ℕ = getD (communities (network s)) k [] in
+      let p : pairs (take 512 list) ≡ pairs list = ap pairs (take-all 512 list (omega (arith, community-few (network s) k inside, accepted-fits s (held .accepted) .n-limit))) in
+      let t : getD ts k 0 ≡ tiedPairs s list =
+      rw (part-at k l) at (c .tied k l) ∙ sym (tied-once s (held .accepted) list (community-apart (network s) k inside)) in
+      let o : getD ts (512 + k) 0 ≡ leaving s list = rw (part-at k l) at (c .leaving k l) in
+      λ i. record { pairs = p i; tied = t i; leaving = o i }
 
-  pub text-is : (ts outlier-set : List ℕ) → ts ≡ sets (replicate 1536 0) 0 (talliesIn (handsetCount s) (edgeRecords s) starts table groups)
+  pub text-is : (ts outlier-set : List ℕ) → GroupsCounted (edgeRecords s) (edgeCount s) starts table groups ts
       → ((v : ℕ) → v < 512 → bitAt outlier-set v ≡ bit (ltb v (handsetCount s) && not (contains v (memberTable (communities (network s))))))
       → tableText (handsetCount s) (edgeCount s) groups memberships starts table ts cores-set outlier-set ≡ reportText s
   unfolding tableText reportText reportWith cores outliers headerOf
@@ -106,10 +110,6 @@ module _ {s : List ℕ} {h : Header} {groups memberships : ℕ} {starts table co
       let n : ℕ = handsetCount s in
       let gs : List (List ℕ) = communities (network s) in
       let few : n ≤ 512 = omega (arith, accepted-fits s (held .accepted) .n-limit) in
-      let tallied : (j : ℕ) → j < groups → tallyAt ts j ≡ tallyOf s (getD gs j []) = λ j l.
-      ap (λ (t : List ℕ). tallyAt t j) e
-      ∙ tally-held n (edgeRecords s) starts table (replicate 1536 0) groups j (omega (arith, length-replicate {A = ℕ} 1536 0, groups-few)) l
-      ∙ tally-at j l in
       let core-list : X.membersOf cores-set ≡ select n (isCore (network s)) = held-members cores-set n (isCore (network s)) few (held .cores-are .bits) in
       let outlier-list : X.membersOf outlier-set ≡ select n (λ v. isOutlier (role (network s) v)) =
       held-members outlier-set n (λ v. not (contains v (memberTable gs))) few o
@@ -117,7 +117,7 @@ module _ {s : List ℕ} {h : Header} {groups memberships : ℕ} {starts table co
       ap₂ (λ (a b : List ℕ). a ++ b)
       (ap₂ (λ (a b : ℕ). headLine n (edgeCount s) a b) (held .groups-are) (held .memberships-are))
       (ap₂ (λ (a b : List ℕ). a ++ b)
-      (lines-are s gs starts table ts groups part-at tallied ∙ ap (groupLines s gs) (held .groups-are))
+      (lines-are s gs starts table ts groups part-at (tally-held ts e) ∙ ap (groupLines s gs) (held .groups-are))
       (ap₂ (λ (a b : List ℕ). listLine coresWord a ++ listLine outliersWord b) core-list outlier-list))
 
   header-fits : (headerOf s .n ≤ 512) × (headerOf s .edges + 4 * headerOf s .m ≤ length s)
@@ -150,24 +150,36 @@ module _ {s : List ℕ} {h : Header} {groups memberships : ℕ} {starts table co
   unfolding headerOf edgeRecords
   edges-part = ap (λ (k : ℕ). take k (drop (edgeOffset s) s)) (let e : (edgeOffset s + 4 * edgeCount s) - edgeOffset s ≡ 4 * edgeCount s = omega arith in e)
 
+  header-ends : Ends (edgeRecords s) (headerOf s .m)
+  unfolding headerOf
+  header-ends =
+      let f = accepted-fits s (held .accepted) in
+      record {
+        few = f .m-limit;
+        low = λ e l. let b = ends-below s (held .accepted) e l in (omega (arith, b .0, f .n-limit), omega (arith, b .1, f .n-limit));
+      }
+
   -- the same from the header's own numbers
-  text-of-header : (ts outlier-set : List ℕ) → ts ≡ sets (replicate 1536 0) 0 (talliesIn (headerOf s .n) (edgeRecords s) starts table groups)
+  text-of-header : (ts outlier-set : List ℕ) → GroupsCounted (edgeRecords s) (headerOf s .m) starts table groups ts
       → ((v : ℕ) → v < 512 → bitAt outlier-set v ≡ bit (ltb v (headerOf s .n) && not (contains v (memberTable (communities (network s))))))
       → tableText (headerOf s .n) (headerOf s .m) groups memberships starts table ts cores-set outlier-set ≡ reportText s
   unfolding headerOf
   text-of-header ts outlier-set e o = text-is ts outlier-set e o
 
+  pub ends-held : Ends (take ((h .edges + 4 * h .m) - h .edges) (drop (h .edges) s)) (h .m)
+  ends-held = rw (held .header) (rw edges-part header-ends)
+
   pub text-held : (ts low outlier-set : List ℕ)
-      → ts ≡ sets (replicate 1536 0) 0 (talliesIn (h .n) (take ((h .edges + 4 * h .m) - h .edges) (drop (h .edges) s)) starts table groups)
+      → GroupsCounted (take ((h .edges + 4 * h .m) - h .edges) (drop (h .edges) s)) (h .m) starts table groups ts
       → SetOf low (λ v. ltb v (h .n)) → Without low (take (memberships - 0) (drop 0 table)) outlier-set
       → tableText (h .n) (h .m) groups memberships starts table ts cores-set outlier-set ≡ reportText s
   text-held ts low outlier-set e p q =
       let m : List ℕ = memberTable (communities (network s)) in
+      let counted : GroupsCounted (take ((headerOf s .edges + 4 * headerOf s .m) - headerOf s .edges) (drop (headerOf s .edges) s)) (headerOf s .m) starts table groups ts =
+      subst (λ (x : Header). GroupsCounted (take ((x .edges + 4 * x .m) - x .edges) (drop (x .edges) s)) (x .m) starts table groups ts) (held .header) e in
       ap (λ (x : Header). tableText (x .n) (x .m) groups memberships starts table ts cores-set outlier-set) (held .header)
       ∙ text-of-header ts outlier-set
-      (e
-      ∙ ap (λ (x : Header). sets (replicate 1536 0) 0 (talliesIn (x .n) (take ((x .edges + 4 * x .m) - x .edges) (drop (x .edges) s)) starts table groups)) (held .header)
-      ∙ ap (λ (part : List ℕ). sets (replicate 1536 0) 0 (talliesIn (headerOf s .n) part starts table groups)) edges-part)
+      (subst (λ (part : List ℕ). GroupsCounted part (headerOf s .m) starts table groups ts) edges-part counted)
       (λ v l.
       outside (h .n) p q v l
       ∙ ap (λ (x : Header). bit (ltb v (x .n) && not (contains v (take (memberships - 0) (drop 0 table))))) (held .header)

@@ -1,26 +1,33 @@
 -- What the report's working tables hold, for the contracts inside the crate.
 --
 --     scoresPart k c       what stands before the colon in the line of group k
---     tallyAt ts k         the tally of group k, in a table with three numbers to a group
---     countedOf            the tally of an answer; three zeros for a refusal
---     talliesIn ..         the three numbers of each of the first k groups, from the plan's two tables
---     tableLines ..        the lines of the first k groups, from the plan's two tables and the tallies
+--     tallyAt ts k l       the tally of group k with the members l, from a table that holds its tied pairs at k and its leaving edges at 512 + k
+--     inGroup, tiedIn, leavesIn    by the rows of the groups of each handset: whether it is in a group, whether an edge is tied in it, or leaves it
+--     Joined rows l k ..   the rows with group k added to those of the handsets in l
+--     Raised ts base w ..  a table with 1 added at base + k for each set bit k of the word w
+--     Room ts              a table of 1,024 numbers that none of 4,096 edges makes too large
+--     Ends part m          the ends of the first m edges, which have rows
+--     EdgeCounted ..       a table with one edge added, for the groups of the first words of the rows
+--     EdgesCounted ..      the counts over the first m edges, for those groups
+--     GroupsCounted ..     the tied pairs and the leaving edges of each group of a plan's two tables
+--     tableLines ..        the lines of the first k groups, from the plan's two tables and the counts
 --     tableText ..         the whole text from the tables and the two sets
 --     Filled t l r l′      a text t was written into the buffer l where it fits: the answer r, and the buffer after
 --     Without ws l ws′     the set ws with the numbers of l taken out
 --     PlanHeld s ..        the plan of an accepted image in the two tables, with the set of cores
-use Prim.Native.Nat.{ℕ, zero, suc, _+_, _*_}
+use Prim.Native.Nat.{ℕ, zero, suc, _+_, _*_, _-_, _≤_, _<_}
 use mathlib.Core.Path.{_≡_}
-use mathlib.Core.Bool.{_&&_, not}
-use mathlib.Core.List.{List, [], _∷_, _++_}
-use lib.Dec.{eqb, ltb}
-use lib.ListN.{length, getD, replicate}
-use Rattle.sets.specs.Below.{bit}
-use Rattle.sets.specs.Bits.{bitAt}
-use Rattle.image.specs.Image.{handsetCount}
+use mathlib.Core.Bool.{Bool, _&&_, _||_, not, cond}
+use mathlib.Core.List.{List, [], _++_}
+use lib.Dec.{eqb, leb, ltb}
+use lib.ListN.{length, getD, take, replicate}
+use Rattle.sets.specs.Below.{bit, count}
+use Rattle.sets.specs.Bits.{bitOf, bitAt, cell}
+use Rattle.image.specs.Image.{handsetCount, endA, endB}
 use Rattle.image.specs.Questions.{Accepted, headerOf}
 use Rattle.image.specs.declared.Header.{Header}
 use Rattle.community.specs.Network.{contains, isCore, communities}
+use Rattle.community.specs.Scores.{pairs, justOne}
 use Rattle.community.specs.Site.{network}
 use Rattle.community.specs.Tables.{startTable, memberTable}
 use Rattle.planner.specs.Held.{SetOf}
@@ -28,9 +35,7 @@ use Rattle.planner.specs.Plan.{over}
 use Rattle.lookup.specs.Lookup.{membersOf}
 use Rattle.scores.specs.declared.Scores.{Scores}
 use Rattle.scores.specs.declared.Tally.{Tally}
-use Rattle.scores.specs.declared.Tallied.{Tallied}
-use Rattle.scores.specs.declared.Tallied.the-variants as A
-use Rattle.scores.specs.Scored.{scoresFor, talliedAt}
+use Rattle.scores.specs.Scored.{scoresFor}
 use Rattle.text.specs.Text.{decimal}
 use Rattle.text.specs.Text as T
 use Rattle.reporting.specs.Report.{headLine, scoreText, groupLine, listLine, groupWord, densityWord, conductanceWord, coresWord, outliersWord, writtenOf, writtenIn}
@@ -40,24 +45,67 @@ use Rattle.reporting.specs.declared.Reported.{Reported}
 unfoldable pub scoresPart : ℕ → Scores → List ℕ
 scoresPart k c = groupWord ++ (decimal k ++ (densityWord ++ (scoreText (c .density) ++ (conductanceWord ++ scoreText (c .conductance)))))
 
-unfoldable pub tallyAt : List ℕ → ℕ → Tally
-tallyAt ts k = record { pairs = getD ts (3 * k) 0; tied = getD ts (3 * k + 1) 0; leaving = getD ts (3 * k + 2) 0 }
+-- a group has at most 512 members
+unfoldable pub tallyAt : List ℕ → ℕ → List ℕ → Tally
+unfolding pairs
+tallyAt ts k l = record { pairs = pairs (take 512 l); tied = getD ts k 0; leaving = getD ts (512 + k) 0 }
 
-unfoldable pub countedOf : Tallied → Tally
-countedOf (A.Of t) = t
-countedOf (A.Refused r) = record { pairs = 0; tied = 0; leaving = 0 }
+-- ---- the counts of all groups in one pass over the edges
 
-abbrev pub threeOf : Tally → List ℕ
-threeOf t = t .pairs ∷ t .tied ∷ t .leaving ∷ []
+-- whether handset v is in group k, by its row
+abbrev pub inGroup : List ℕ → ℕ → ℕ → Bool
+inGroup rows v k = eqb (cell rows v k) 1
 
--- for n handsets, over the part of the image that the edge records stand in
-unfoldable pub talliesIn : ℕ → List ℕ → List ℕ → List ℕ → ℕ → List ℕ
-talliesIn n part starts members zero = []
-talliesIn n part starts members (suc k) = talliesIn n part starts members k ++ threeOf (countedOf (talliedAt n part (membersOf starts members k)))
+pub record Joined (rows l : List ℕ) (k : ℕ) (rows′ : List ℕ) : Type 0 where
+  pub size : length rows′ ≡ length rows
+  pub bits : (v j : ℕ) → v < 512 → j < 512 → cell rows′ v j ≡ bit (inGroup rows v j || (eqb j k && contains v l))
+
+-- the bit of a word that place i of a table gets, where bit 0 belongs to the place base
+unfoldable pub bitFor : ℕ → ℕ → ℕ → ℕ
+bitFor base w i = cond (leb base i && ltb i (base + 64)) (bitOf w (i - base)) 0
+
+pub record Raised (ts : List ℕ) (base w : ℕ) (ts′ : List ℕ) : Type 0 where
+  pub size : length ts′ ≡ length ts
+  pub counts : (i : ℕ) → getD ts′ i 0 ≡ getD ts i 0 + bitFor base w i
+
+pub record Room (ts : List ℕ) : Type 0 where
+  pub size : length ts ≡ 1024
+  pub tied : (k : ℕ) → k < 512 → getD ts k 0 ≤ 4096
+  pub leaving : (k : ℕ) → k < 512 → getD ts (512 + k) 0 ≤ 4096
+
+pub record Ends (part : List ℕ) (m : ℕ) : Type 0 where
+  pub few : m ≤ 4096
+  pub low : (e : ℕ) → e < m → (endA part e < 512) × (endB part e < 512)
+
+-- the edge between u and v is tied in group k, or leaves it; k is one of the first words' groups
+unfoldable pub tiedIn : List ℕ → ℕ → ℕ → ℕ → ℕ → Bool
+tiedIn rows words u v k = ltb k (64 * words) && (inGroup rows u k && inGroup rows v k)
+
+unfoldable pub leavesIn : List ℕ → ℕ → ℕ → ℕ → ℕ → Bool
+leavesIn rows words u v k = ltb k (64 * words) && justOne (inGroup rows u k) (inGroup rows v k)
+
+pub record EdgeCounted (rows : List ℕ) (u v words : ℕ) (ts ts′ : List ℕ) : Type 0 where
+  pub size : length ts′ ≡ 1024
+  pub tied : (k : ℕ) → k < 512 → getD ts′ k 0 ≡ getD ts k 0 + bit (tiedIn rows words u v k)
+  pub leaving : (k : ℕ) → k < 512 → getD ts′ (512 + k) 0 ≡ getD ts (512 + k) 0 + bit (leavesIn rows words u v k)
+
+pub record EdgesCounted (rows part : List ℕ) (m words : ℕ) (ts : List ℕ) : Type 0 where
+  pub size : length ts ≡ 1024
+  pub tied : (k : ℕ) → k < 512 → getD ts k 0 ≡ count m (λ e. tiedIn rows words (endA part e) (endB part e) k)
+  pub leaving : (k : ℕ) → k < 512 → getD ts (512 + k) 0 ≡ count m (λ e. leavesIn rows words (endA part e) (endB part e) k)
+
+pub record GroupsCounted (part : List ℕ) (m : ℕ) (starts members : List ℕ) (groups : ℕ) (ts : List ℕ) : Type 0 where
+  pub size : length ts ≡ 1024
+  pub tied : (k : ℕ) → k < groups
+      → getD ts k 0 ≡ count m (λ e. contains (endA part e) (membersOf starts members k) && contains (endB part e) (membersOf starts members k))
+  pub leaving : (k : ℕ) → k < groups
+      → getD ts (512 + k) 0 ≡ count m (λ e. justOne (contains (endA part e) (membersOf starts members k)) (contains (endB part e) (membersOf starts members k)))
+
+-- ---- the text from the tables
 
 unfoldable pub tableLines : List ℕ → List ℕ → List ℕ → ℕ → List ℕ
 tableLines starts members ts zero = []
-tableLines starts members ts (suc k) = tableLines starts members ts k ++ groupLine k (scoresFor (tallyAt ts k)) (membersOf starts members k)
+tableLines starts members ts (suc k) = tableLines starts members ts k ++ groupLine k (scoresFor (tallyAt ts k (membersOf starts members k))) (membersOf starts members k)
 
 unfoldable pub tableText : ℕ → ℕ → ℕ → ℕ → List ℕ → List ℕ → List ℕ → List ℕ → List ℕ → List ℕ
 tableText n m groups memberships starts members ts cores outliers =

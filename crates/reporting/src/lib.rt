@@ -1,23 +1,25 @@
 // The report: the text of a site's plan, written into a lent buffer, and the text that the report program prints.
+//
+// `counts` counts each group's tied pairs and leaving edges, in one pass over the edges.
+mod counts;
+
 use image::Header;
 use image::Opened;
 use image::Refusal;
 use planner::Planned;
 use scores::Score;
-use scores::Tallied;
 use scores::Tally;
-ghost use Prim.Native.Nat.{ℕ, _*_, _≤_, _<_};
+ghost use Prim.Native.Nat.{ℕ, _≤_, _<_};
 ghost use mathlib.Core.Path.{_≡_};
-ghost use mathlib.Core.List.{[], _∷_, _++_};
+ghost use mathlib.Core.List.{_++_};
 ghost use lib.Dec.{ltb};
 ghost use lib.ListN.{length, getD, replicate};
-ghost use lib.Seq.{sets};
-ghost use Rattle.image.specs.Questions.{Accepted, headerOf};
+ghost use Rattle.image.specs.Questions.{headerOf};
 ghost use Rattle.planner.specs.Held.{SetOf};
 ghost use Rattle.scores.specs.Scored.{scoresFor};
 ghost use Rattle.text.specs.Text.{Wrote, decimal, membersOf};
 ghost use Rattle.reporting.specs.Report.{headLine, scoreText, groupLine, listLine, reportText, ReportCall, refusedText, programText};
-ghost use Rattle.reporting.specs.Held.{scoresPart, tallyAt, countedOf, threeOf, talliesIn, tableLines, tableText, Filled, Without, PlanHeld};
+ghost use Rattle.reporting.specs.Held.{scoresPart, tallyAt, tableLines, tableText, Filled, Without, PlanHeld};
 
 // What a call for a report answers: the text's length, or the refusal.
 pub enum Reported {
@@ -81,15 +83,15 @@ fn put_group(text: &mut [u8], at: usize, k: usize, tally: Tally, members: &[u16]
     text::put(text, p3, 10)
 }
 
-// The tally of group k, which stands at three places of the table; 0 for a place past its end.
-fn tally_at(tallies: &[u32], k: usize) -> Tally
+// The tally of group k, from the table of counts and the group's members; 0 for a place past the table's end.
+fn tally_at(counts: &[u32], k: usize, members: &[u16]) -> Tally
     requires { ⌜ k < 512 ⌝ }
-    ensures { λ r. ⌜ r ≡ tallyAt (now (tallies .entry)) k ⌝ }
+    ensures { λ r. ⌜ r ≡ tallyAt (now (counts .entry)) k (now (members .entry)) ⌝ }
 {
     Tally {
-        pairs: at_or_zero(tallies, 3 * k),
-        tied: at_or_zero(tallies, 3 * k + 1),
-        leaving: at_or_zero(tallies, 3 * k + 2),
+        pairs: scores::pairs_of(members),
+        tied: at_or_zero(counts, k),
+        leaving: at_or_zero(counts, 512 + k),
     }
 }
 
@@ -100,28 +102,23 @@ fn at_or_zero(table: &[u32], i: usize) -> u32
     if i < table.len() { table[i] } else { 0 }
 }
 
-// Writes the lines of the first `groups` groups, from the plan's two tables and the tallies. With no group it writes nothing.
+// Writes the lines of the first `groups` groups, from the plan's two tables and the counts. With no group it writes nothing.
 fn put_groups<'a>(
     text: &mut [u8],
     at: usize,
     starts: &'a [u32],
     members: &'a [u16],
-    tallies: &'a [u32],
+    counts: &'a [u32],
     groups: usize,
 ) -> usize
     requires { ⌜ (at ≤ 9223372036854775808) × (groups ≤ 512) ⌝ }
-    ensures { λ r. ⌜ Wrote (now (text .entry)) at (tableLines (now (starts .entry)) (now (members .entry)) (now (tallies .entry)) groups) (now (text .exit)) r ⌝ }
+    ensures { λ r. ⌜ Wrote (now (text .entry)) at (tableLines (now (starts .entry)) (now (members .entry)) (now (counts .entry)) groups) (now (text .exit)) r ⌝ }
 {
     let mut k: usize = 0;
     let mut next = at;
     while k < groups {
-        next = put_group(
-            text,
-            next,
-            k,
-            tally_at(tallies, k),
-            lookup::members(starts, members, k),
-        );
+        let list = lookup::members(starts, members, k);
+        next = put_group(text, next, k, tally_at(counts, k, list), list);
         k += 1;
     }
     next
@@ -136,7 +133,7 @@ fn put_set(text: &mut [u8], at: usize, word: &[u8], set: &[u64]) -> usize
     text::put(text, p2, 10)
 }
 
-// Writes the whole report from the plan's counts and tables, the tallies, and the sets of cores and of outliers.
+// Writes the whole report from the plan's counts and tables, the counts, and the sets of cores and of outliers.
 fn put_report<'a>(
     text: &mut [u8],
     n: u16,
@@ -145,15 +142,15 @@ fn put_report<'a>(
     memberships: usize,
     starts: &'a [u32],
     members: &'a [u16],
-    tallies: &'a [u32],
+    counts: &'a [u32],
     cores: &'a [u64],
     outliers: &'a [u64],
 ) -> usize
     requires { ⌜ groups ≤ 512 ⌝ }
-    ensures { λ r. ⌜ Wrote (now (text .entry)) 0 (tableText n m groups memberships (now (starts .entry)) (now (members .entry)) (now (tallies .entry)) (now (cores .entry)) (now (outliers .entry))) (now (text .exit)) r ⌝ }
+    ensures { λ r. ⌜ Wrote (now (text .entry)) 0 (tableText n m groups memberships (now (starts .entry)) (now (members .entry)) (now (counts .entry)) (now (cores .entry)) (now (outliers .entry))) (now (text .exit)) r ⌝ }
 {
     let p1 = put_head(text, 0, n, m, groups, memberships);
-    let p2 = put_groups(text, p1, starts, members, tallies, groups);
+    let p2 = put_groups(text, p1, starts, members, counts, groups);
     let p3 = put_set(text, p2, b"cores:", cores);
     put_set(text, p3, b"outliers:", outliers)
 }
@@ -167,12 +164,12 @@ fn write_report<'a>(
     memberships: usize,
     starts: &'a [u32],
     members: &'a [u16],
-    tallies: &'a [u32],
+    counts: &'a [u32],
     cores: &'a [u64],
     outliers: &'a [u64],
 ) -> Reported
     requires { ⌜ groups ≤ 512 ⌝ }
-    ensures { λ r. ⌜ Filled (tableText n m groups memberships (now (starts .entry)) (now (members .entry)) (now (tallies .entry)) (now (cores .entry)) (now (outliers .entry))) (now (text .entry)) r (now (text .exit)) ⌝ }
+    ensures { λ r. ⌜ Filled (tableText n m groups memberships (now (starts .entry)) (now (members .entry)) (now (counts .entry)) (now (cores .entry)) (now (outliers .entry))) (now (text .entry)) r (now (text .exit)) ⌝ }
 {
     let mut none = [0u8; 1];
     let need = put_report(
@@ -183,7 +180,7 @@ fn write_report<'a>(
         memberships,
         starts,
         members,
-        tallies,
+        counts,
         cores,
         outliers,
     );
@@ -196,7 +193,7 @@ fn write_report<'a>(
             memberships,
             starts,
             members,
-            tallies,
+            counts,
             cores,
             outliers,
         );
@@ -238,50 +235,6 @@ fn unmark_all(set: &mut [u64], table: &[u16])
     }
 }
 
-// The tally of an answer; three zeros for a refusal, which no group of a plan gets.
-fn counted(answer: Tallied) -> Tally
-    ensures { λ r. ⌜ r ≡ countedOf answer ⌝ }
-{
-    match answer {
-        Tallied::Of(tally) => tally,
-        Tallied::Refused(_) => Tally {
-            pairs: 0,
-            tied: 0,
-            leaving: 0,
-        },
-    }
-}
-
-// Writes the tally of group k at its three places.
-fn set_tally(tallies: &mut [u32], k: usize, tally: Tally)
-    requires { ⌜ (k < 512) × (length (now tallies) ≡ 1536) ⌝ }
-    ensures { λ _. ⌜ now (tallies .exit) ≡ sets (now (tallies .entry)) (3 * k) (threeOf tally) ⌝ }
-{
-    tallies[3 * k] = tally.pairs;
-    tallies[3 * k + 1] = tally.tied;
-    tallies[3 * k + 2] = tally.leaving;
-}
-
-// Works out the tally of each of the first `groups` groups, once, for n handsets and the edge records of an image.
-fn tally_groups<'a>(
-    n: u16,
-    edges: &'a [u8],
-    starts: &'a [u32],
-    members: &'a [u16],
-    groups: usize,
-    tallies: &mut [u32],
-)
-    requires { ⌜ (groups ≤ 512) × (length (now tallies) ≡ 1536) ⌝ }
-    ensures { λ _. ⌜ now (tallies .exit) ≡ sets (now (tallies .entry)) 0 (talliesIn n (now (edges .entry)) (now (starts .entry)) (now (members .entry)) groups) ⌝ }
-{
-    let mut k: usize = 0;
-    while k < groups {
-        let answer = scores::tally_part(n, edges, lookup::members(starts, members, k));
-        set_tally(tallies, k, counted(answer));
-        k += 1;
-    }
-}
-
 // Writes the report of an accepted image from its plan.
 fn report_plan<'a>(
     text: &mut [u8],
@@ -297,9 +250,10 @@ fn report_plan<'a>(
     ensures { λ r. ⌜ Filled (reportText (now (image .entry))) (now (text .entry)) r (now (text .exit)) ⌝ }
 {
     let a = h.edges as usize;
-    let b = a + 4 * (h.m as usize);
-    let mut tallies = [0u32; 1536];
-    tally_groups(h.n, &image[a..b], starts, members, groups, &mut tallies);
+    let m = h.m as usize;
+    let b = a + 4 * m;
+    let mut counts = [0u32; 1024];
+    counts::count_groups(&image[a..b], m, starts, members, groups, &mut counts);
     let mut outliers = [0u64; 8];
     mark_below(&mut outliers, h.n as usize);
     unmark_all(&mut outliers, &members[0..memberships]);
@@ -311,16 +265,16 @@ fn report_plan<'a>(
         memberships,
         starts,
         members,
-        &tallies,
+        &counts,
         cores,
         &outliers,
     )
 }
 
-// Writes the report of an accepted image. Its plan fits the two tables, so that it is never refused.
+// Writes the report of an image with the header h. The plan of an accepted image fits the two tables, so that it is refused only where the image is.
 fn report_site(text: &mut [u8], image: &[u8], h: Header) -> Reported
-    requires { ⌜ (Accepted (now image)) × (h ≡ headerOf (now image)) ⌝ }
-    ensures { λ r. ⌜ Filled (reportText (now (image .entry))) (now (text .entry)) r (now (text .exit)) ⌝ }
+    requires { ⌜ h ≡ headerOf (now image) ⌝ }
+    ensures { λ r. ⌜ ReportCall (now (image .entry)) (now (text .entry)) r (now (text .exit)) ⌝ }
 {
     let mut starts = [0u32; 513];
     let mut members = [0u16; 8704];
@@ -343,11 +297,11 @@ fn report_site(text: &mut [u8], image: &[u8], h: Header) -> Reported
 }
 
 // Writes the report of an image into the buffer, and answers the text's length. A refused image, or a buffer that does not hold the whole text
-// (16), is refused with nothing written; past the text the buffer holds what it held.
+// (16), is refused with nothing written; past the text the buffer holds what it held. Only the header is looked at here: the planner reads the rest.
 pub fn report(image: &[u8], text: &mut [u8]) -> Reported
     ensures { λ r. ⌜ ReportCall (now (image .entry)) (now (text .entry)) r (now (text .exit)) ⌝ }
 {
-    let opened = image::open(image);
+    let opened = image::open_header(image);
     let Opened::Site(h) = opened else {
         return Reported::Refused(image::refusal_of(opened));
     };

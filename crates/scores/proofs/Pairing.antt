@@ -5,18 +5,19 @@
 --     count-once              a test that no two pass counts 0 or 1
 --     multiplicity-le         an entry stands at most as often as there are places
 --     multiplicity-contains   an entry stands in a list exactly when it stands there at least once
+--     multiplicity-once       in a list without repeats an entry stands once or not at all
 use Prim.Native.Nat.{ℕ, zero, suc, _+_, _*_, _≤_, _<_}
 use native.Mathlib.Omega.{arith}
 use native.Mathlib.Nat.{mul-add, add-mul}
 use mathlib.Core.Path.{_≡_, refl, sym, ap, _∙_}
 use mathlib.Core.Logic.{⊎-elim}
-use mathlib.Core.Bool.{Bool, true, false, _&&_, _||_, not}
+use mathlib.Core.Bool.{Bool, true, false, _&&_, _||_}
 use mathlib.Core.List.{List}
 use lib.Dec.{T, leb, eqb, eqb→eq, not-T, le→leb, leb→le}
 use lib.ListN.{length, getD}
 use Rattle.sets.specs.Below.{any, count, sum, bit}
-use Rattle.sets.proofs.Tests.{or-left, or-right, decide, any-make, any-take, eqb-of, T-false, T-ext}
-use Rattle.sets.proofs.Counting.{bit-true, bit-false, count-cong, count-le, count-some, count-but, count-false, sum-cong}
+use Rattle.sets.proofs.Tests.{or-left, decide, any-take, eqb-of, T-false, T-ext}
+use Rattle.sets.proofs.Counting.{bit-true, bit-false, count-cong, count-le, count-some, count-but, count-false}
 use Rattle.sets.proofs.Selecting.{mem-at, at-mem}
 use Rattle.community.specs.Network.{contains}
 use Rattle.community.specs.Scores.{countPairs, pairs}
@@ -109,3 +110,15 @@ multiplicity-contains l v = T-ext (leb 1 (count (length l) f)) (contains v l) to
     back t =
         let r = mem-at l 0 v (contains-mem v l t) in
         le→leb 1 (count (length l) f) (omega (arith, count-but (length l) f (r .0) (r .1) (eqb-of v (getD l (r .0) 0) (sym (r .2)))))
+
+pub multiplicity-once : (l : List ℕ) → ((i j : ℕ) → i < j → j < length l → getD l i 0 ≡ getD l j 0 → ⊥) → (v : ℕ) → multiplicity l v ≡ bit (contains v l)
+unfolding multiplicity
+multiplicity-once l apart v =
+    let f : ℕ → Bool = λ i. eqb v (getD l i 0) in
+    let once : bit (any (length l) f) ≡ multiplicity l v = count-once (length l) f
+    (λ i j h k x y. apart i j h k (sym (eqb→eq v (getD l i 0) x) ∙ eqb→eq v (getD l j 0) y)) in
+    sym once ∙ ap bit (sym (one (any (length l) f)) ∙ ap (leb 1) once ∙ multiplicity-contains l v)
+  where
+    one : (b : Bool) → leb 1 (bit b) ≡ b
+    one true = refl
+    one false = refl

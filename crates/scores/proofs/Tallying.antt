@@ -4,36 +4,38 @@
 --
 --     joined-once     no two edges of an accepted image join the same two handsets
 --     edges-in        its edge records hold as many edges as its header says
+--     tied-once       the tied pairs of a list without repeats are the edges with both ends in it
 --     tally-is        tallyAt (edgeRecords s) l ≡ tallyOf s l
 --     tallied-is      talliedAt (handsetCount s) (edgeRecords s) l ≡ talliedOf s l
---     good-tallied, good-part, good-scored     the answers for at most 512 handsets of an accepted image: the tally, and its scores
+--     good-tallied, good-scored     the answers for at most 512 handsets of an accepted image: the tally, and its scores
 --     site-fits       the edge records of an opened image stand in it
 --     site-tallied    the call's answer for an opened image is the tally over its edge records
 --     site-refused    the call's answer for a refused image is its refusal
-use Prim.Native.Nat.{ℕ, _+_, _*_, _/_, _≤_, _<_, min}
+use Prim.Native.Nat.{ℕ, _+_, _*_, _≤_, _<_, min}
 use native.Mathlib.Omega.{arith}
 use mathlib.Core.Path.{_≡_, refl, sym, ap, ap₂, _∙_, subst}
 use mathlib.Core.Logic.{_⊎_, inl, inr, ⊎-elim}
-use mathlib.Core.Bool.{Bool, _&&_, _||_, not}
+use mathlib.Core.Bool.{Bool, true, false, _&&_}
 use mathlib.Core.List.{List}
 use lib.Dec.{T, eqb, eqb→eq, T-not}
 use lib.ListN.{length, getD, take, drop, length-take, length-drop}
-use Rattle.sets.specs.Below.{any, count, sum, bit}
+use Rattle.sets.specs.Below.{count, sum, bit}
 use Rattle.sets.proofs.Tests.{and-make, and-left, and-right, or-left, or-right, or-cases, any-make, eqb-of}
 use Rattle.sets.proofs.Counting.{count-sum, count-swap, sum-cong, sum-swap}
-use Rattle.image.specs.Image.{handsetCount, edgeCount, edgeOffset, imageLength, edgeRecords, endA, endB, joins, adjacent}
-use Rattle.image.specs.Questions.{isLoop, repeatsEarlier, openOf, headerOf, refusalOf, Accepted}
+use Rattle.image.specs.Image.{handsetCount, edgeCount, edgeOffset, edgeRecords, endA, endB, joins, adjacent}
+use Rattle.image.specs.Questions.{isLoop, repeatsEarlier, openOf, headerOf, Accepted}
 use Rattle.image.specs.declared.Header.{Header}
 use Rattle.image.specs.declared.Refusal.{Refusal}
 use Rattle.image.specs.declared.Opened.{Opened}
 use Rattle.image.specs.declared.Opened.the-variants as O
 use Rattle.image.proofs.Acceptance.{accepted, accepted-fits, length-is, opened}
+use Rattle.community.specs.Network.{contains}
 use Rattle.community.specs.Scores.{countPairs, pairs, tiedPairs, leaving}
 use Rattle.scores.specs.Scored.{multiplicity, edgesIn, tallyAt, tallyOf, askEntries, talliedAt, talliedFor, talliedOf, scoresFor, scoredFor, scoredOf}
 use Rattle.scores.specs.declared.Tally.{Tally}
 use Rattle.scores.specs.declared.Tallied.the-variants as T
 use Rattle.scores.specs.declared.Scored.the-variants as S
-use Rattle.scores.proofs.Pairing.{pairs-product, count-once}
+use Rattle.scores.proofs.Pairing.{pairs-product, count-once, multiplicity-once}
 use Rattle.scores.proofs.Entries.{entries-good}
 
 -- edge k has the ends u and v, as equations
@@ -119,6 +121,23 @@ module _ (s : List ℕ) (a : Accepted s) where
       ∙ sum-swap n m f
       ∙ sum-cong m (λ k. sum n (λ j. f j k)) (λ k. multiplicity l (endA (edgeRecords s) k) * multiplicity l (endB (edgeRecords s) k)) (λ k h. edge-pairs l k h)
 
+  pub tied-once : (l : List ℕ) → ((i j : ℕ) → i < j → j < length l → getD l i 0 ≡ getD l j 0 → ⊥)
+      → tiedPairs s l ≡ count (edgeCount s) (λ k. contains (endA (edgeRecords s) k) l && contains (endB (edgeRecords s) k) l)
+  tied-once l apart =
+      let f : ℕ → ℕ = λ k. multiplicity l (endA (edgeRecords s) k) * multiplicity l (endB (edgeRecords s) k) in
+      let g : ℕ → Bool = λ k. contains (endA (edgeRecords s) k) l && contains (endB (edgeRecords s) k) l in
+      tied-is l
+      ∙ sum-cong (edgeCount s) f (λ k. bit (g k))
+      (λ k h. ap₂ _*_ (multiplicity-once l apart (endA (edgeRecords s) k)) (multiplicity-once l apart (endB (edgeRecords s) k))
+      ∙ both (contains (endA (edgeRecords s) k) l) (contains (endB (edgeRecords s) k) l))
+      ∙ sym (count-sum (edgeCount s) g)
+    where
+      both : (x y : Bool) → bit x * bit y ≡ bit (x && y)
+      both true true = refl
+      both true false = refl
+      both false true = refl
+      both false false = refl
+
   pub tally-is : (l : List ℕ) → tallyAt (edgeRecords s) l ≡ tallyOf s l
   unfolding tallyAt tallyOf leaving
   tally-is l = rw edges-in (ap (λ (x : ℕ). record { pairs = pairs l; tied = x; leaving = leaving s l }) (sym (tied-is l)))
@@ -134,9 +153,6 @@ module _ (s : List ℕ) (a : Accepted s) (l : List ℕ) (few : length l ≤ 512)
   pub good-tallied : talliedOf s l ≡ T.Of (tallyOf s l)
   unfolding talliedOf headerOf
   good-tallied = ap (λ (o : Opened). talliedFor s o l) (opened s a) ∙ entries-good (handsetCount s) l (tallyOf s l) few below
-
-  pub good-part : talliedAt (handsetCount s) (edgeRecords s) l ≡ T.Of (tallyOf s l)
-  good-part = tallied-is s a l ∙ good-tallied
 
   pub good-scored : scoredOf s l ≡ S.Of (scoresFor (tallyOf s l))
   unfolding scoredOf

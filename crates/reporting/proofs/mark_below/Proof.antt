@@ -1,15 +1,13 @@
 -- `reporting::mark_below` meets its contract. At v the set holds the numbers below v. The measure is the count of numbers left.
 use native.Mathlib.Omega.{arith}
-use Prim.Native.Nat.{ℕ, _-_, _≤_, _/_, _<_}
-use mathlib.Core.Path.{_≡_, ap, sym, _∙_, subst}
+use Prim.Native.Nat.{ℕ, _-_, _≤_}
+use mathlib.Core.Path.{_≡_, ap, sym, _∙_}
 use mathlib.Core.List.{List}
-use denote.Ref.{now}
 use lib.Dec.{ltb}
-use lib.ListN.{length, replicate, length-replicate}
+use lib.ListN.{length, length-replicate}
 use Rattle.sets.specs.Below.{bit}
 use Rattle.sets.specs.Bits.{bitAt}
 use Rattle.sets.proofs.Bits.{length-withBit}
-use Rattle.planner.specs.Held.{SetOf}
 use Rattle.reporting.proofs.Marking.{below-start, below-more}
 use Rattle.reporting.proofs.mark_below.Statement.{statement}
 use Rattle.reporting.proofs.mark_below.Tie as tie

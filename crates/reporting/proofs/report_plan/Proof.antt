@@ -1,19 +1,19 @@
 -- `reporting::report_plan` meets its contract: the tables that its calls make are those of the image, and the text from them is the report's.
 use native.Mathlib.Omega.{arith}
 use Prim.Native.Nat.{ℕ}
-use mathlib.Core.Path.{_≡_, refl, subst}
+use mathlib.Core.Path.{refl, subst}
 use mathlib.Core.List.{List}
 use denote.Ref.{now}
 use Rattle.reporting.specs.Held.{Filled}
-use Rattle.reporting.proofs.Whole.{groups-few, handsets-few, edges-fit, members-fit, text-held}
+use Rattle.reporting.proofs.Whole.{groups-few, handsets-few, edges-fit, members-fit, ends-held, text-held}
 use Rattle.reporting.proofs.report_plan.Statement.{statement}
 use Rattle.reporting.proofs.report_plan.Tie as tie
 
 cast-a : tie.Need-cast-a
 cast-a c = omega arith
 
-cast-b : tie.Need-cast-b
-cast-b c = omega arith
+cast-m : tie.Need-cast-m
+cast-m c = omega arith
 
 mul-b : tie.Need-mul-b
 mul-b c = omega arith
@@ -21,20 +21,20 @@ mul-b c = omega arith
 add-b : tie.Need-add-b
 add-b c = omega arith
 
-sub-tally-groups : tie.Need-sub-tally-groups
-sub-tally-groups c = omega arith
+sub-count-groups : tie.Need-sub-count-groups
+sub-count-groups c = omega arith
 
-part-tally-groups-start : tie.Need-part-tally-groups-start
-part-tally-groups-start c = omega arith
+part-count-groups-start : tie.Need-part-count-groups-start
+part-count-groups-start c = omega arith
 
-part-tally-groups-end : tie.Need-part-tally-groups-end
-part-tally-groups-end c = edges-fit (c .before .before .before .before .before .before .before .pre)
+part-count-groups-end : tie.Need-part-count-groups-end
+part-count-groups-end c = edges-fit (c .before .before .before .before .before .before .before .pre)
 
-slice-aggregate-tally-groups : tie.Need-slice-aggregate-tally-groups
-slice-aggregate-tally-groups c = refl
+slice-aggregate-count-groups : tie.Need-slice-aggregate-count-groups
+slice-aggregate-count-groups c = refl
 
-tally-groups-requires : tie.Need-tally-groups-requires
-tally-groups-requires c κs = (groups-few (c .before .before .before .before .before .before .before .before .before .pre), refl)
+count-groups-requires : tie.Need-count-groups-requires
+count-groups-requires c κs = let held = c .before .before .before .before .before .before .before .before .before .pre in (groups-few held, (ends-held held, refl))
 
 slice-aggregate-mark-below : tie.Need-slice-aggregate-mark-below
 slice-aggregate-mark-below c = refl
@@ -77,10 +77,10 @@ returns c =
     let wrote = c .before .before in
     let left = wrote .before .before .before .before .before in
     let low = left .before .before .before .before in
-    let tallied = low .before .before .before .before in
-    let start = tallied .before .before .before .before .before .before .before .before .before .before in
+    let counted = low .before .before .before .before in
+    let start = counted .before .before .before .before .before .before .before .before .before .before in
     subst (λ (t : List ℕ). Filled t (now (start .args .text)) (wrote .write-report .result) (wrote .write-report .last .0))
-    (text-held (start .pre) _ _ _ (tallied .tally-groups .ensures) (low .mark-below .ensures) (left .unmark-all .ensures))
+    (text-held (start .pre) _ _ _ (counted .count-groups .ensures) (low .mark-below .ensures) (left .unmark-all .ensures))
     (wrote .write-report .ensures)
 
 pub report-plan-spec : {M : Type 1} → statement M
@@ -88,14 +88,14 @@ report-plan-spec =
     tie.close
     (tie.spec
     cast-a
-    cast-b
+    cast-m
     mul-b
     add-b
-    sub-tally-groups
-    part-tally-groups-start
-    part-tally-groups-end
-    slice-aggregate-tally-groups
-    tally-groups-requires
+    sub-count-groups
+    part-count-groups-start
+    part-count-groups-end
+    slice-aggregate-count-groups
+    count-groups-requires
     slice-aggregate-mark-below
     cast-mark-below
     mark-below-requires

@@ -1,8 +1,12 @@
--- `reporting::report_site` meets its contract: the plan of an accepted image fits the two tables, so that the answer is the text's.
+-- `reporting::report_site` meets its contract: the plan of an accepted image fits the two tables, so that the answer is the text's; any other image is
+-- refused with its plan's refusal.
 use native.Mathlib.Omega.{arith}
-use mathlib.Core.Path.{_≡_, refl, sym, ap, _∙_}
+use mathlib.Core.Path.{refl}
 use denote.Ref.{now}
-use Rattle.reporting.proofs.Planning.{plan-held, plan-refused}
+use Rattle.image.specs.Questions.{Accepted, headerOf}
+use Rattle.image.proofs.Acceptance.{opened}
+use Rattle.reporting.proofs.Planning.{plan-accepted, plan-held, plan-refused}
+use Rattle.reporting.proofs.Answers.{site-answer, refused-answer}
 use borrow.Author.Needs.{needs}
 use Rattle.reporting.proofs.report_site.Statement.{statement}
 use Rattle.reporting.proofs.report_site.Tie as tie
@@ -28,13 +32,24 @@ slice-aggregate-report-plan-2 c = omega arith
 slice-aggregate-report-plan-3 : tie.Need-slice-aggregate-report-plan-3
 slice-aggregate-report-plan-3 c = omega arith
 
+-- where the plan is made, and where the function starts
+abbrev planned : tie.After-cores2 → tie.After-plan-and-cores
+planned c = c .before .before .before .before .before .before .before .before .before .before
+
+abbrev start : tie.After-plan-and-cores → tie.Start
+start c = c .before .before .before .before .before
+
+passed : (c : tie.After-cores2) → Accepted (now (start (planned c) .args .image))
+passed c =
+    let made = c .before .before .before .before .before .answer .given in
+    plan-accepted (now (start (planned c) .args .image)) (made .0 .0) (made .0 .1 .0) _ _ _ (made .1) (planned c .plan-and-cores .ensures .0)
+
 report-plan-requires : tie.Need-report-plan-requires
 report-plan-requires c κs =
     let made = c .before .before .before .before .before .answer .given in
-    let planned = c .before .before .before .before .before .before .before .before .before .before in
-    let start = planned .before .before .before .before .before in
-    plan-held (now (start .args .image)) (start .pre .0) (start .args .h) (made .0 .0) (made .0 .1 .0) _ _ _ _ (start .pre .1) (made .1)
-    (planned .plan-and-cores .ensures .0) (planned .plan-and-cores .ensures .1)
+    let s = start (planned c) in
+    let p = planned c .plan-and-cores .ensures in
+    plan-held (now (s .args .image)) (passed c) (s .args .h) (made .0 .0) (made .0 .1 .0) _ _ _ _ (s .pre) (made .1) (p .0) (p .1)
 
 enum-known-answer-2 : tie.Need-enum-known-answer-2
 enum-known-answer-2 c = search needs
@@ -43,14 +58,17 @@ same-length : tie.Need-same-length
 same-length c = omega arith
 
 returns : tie.Need-returns
-returns c = search needs
+returns c =
+    let written = c .before .before in
+    let image = now (start (planned (written .before)) .args .image) in
+    site-answer (headerOf image) (opened image (passed (written .before))) (written .report-plan .ensures)
 
 returns-2 : tie.Need-returns-2
 returns-2 c =
     let refused = c .before .answer2 .given in
-    let planned = c .before .before .before .before .before .before in
-    let start = planned .before .before .before .before .before in
-    absurd (plan-refused (now (start .args .image)) (start .pre .0) (refused .0 .0) _ _ _ (refused .1) (planned .plan-and-cores .ensures .0))
+    let made = c .before .before .before .before .before .before in
+    let a = start made .args in
+    refused-answer (now (a .image)) (now (a .text)) (refused .0 .0) (plan-refused (now (a .image)) (refused .0 .0) _ _ _ (refused .1) (made .plan-and-cores .ensures .0))
 
 pub report-site-spec : {M : Type 1} → statement M
 report-site-spec =

@@ -1,17 +1,13 @@
 -- `reporting::unmark_all` meets its contract. After i steps the first i numbers are taken out. The measure is the count of numbers left.
 use native.Mathlib.Omega.{arith}
 use Prim.Native.Nat.{ℕ, _-_, _≤_}
-use mathlib.Core.Path.{_≡_, refl, ap, sym, _∙_}
-use mathlib.Core.Bool.{_&&_, not}
+use mathlib.Core.Path.{refl, ap, _∙_}
 use mathlib.Core.List.{List}
 use denote.Ref.{now}
-use lib.Dec.{eqb}
 use lib.ListN.{length, take}
 use lib.Seq.{take-all}
-use Rattle.sets.specs.Below.{bit}
 use Rattle.sets.specs.Bits.{bitAt, withoutBit}
 use Rattle.sets.proofs.Bits.{length-withoutBit}
-use Rattle.community.specs.Network.{contains}
 use Rattle.reporting.specs.Held.{Without}
 use Rattle.reporting.proofs.Marking.{without-start, without-more}
 use Rattle.reporting.proofs.unmark_all.Statement.{statement}

@@ -8,7 +8,7 @@ use denote.Ref.{now}
 use borrow.Author.Tests.{le-leb, lt-leb}
 use Rattle.sets.proofs.Writing.{sets-front}
 use Rattle.reporting.specs.Report.{writtenOf, writtenIn}
-use Rattle.reporting.specs.Held.{tableText, Filled}
+use Rattle.reporting.specs.Held.{tableText}
 use Rattle.reporting.specs.declared.Reported.the-variants.{Written}
 use Rattle.reporting.proofs.write_report.Statement.{statement}
 use Rattle.reporting.proofs.write_report.Tie as tie
@@ -29,7 +29,7 @@ returns : tie.Need-returns
 unfolding writtenOf writtenIn
 returns c =
     let a = c .before .before .before .before .before .before .before .before .before .before .before .before .before .before .args in
-    let t : List ℕ = tableText (a .n) (a .m) (a .groups) (a .memberships) (now (a .starts)) (now (a .members)) (now (a .tallies)) (now (a .cores)) (now (a .outliers)) in
+    let t : List ℕ = tableText (a .n) (a .m) (a .groups) (a .memberships) (now (a .starts)) (now (a .members)) (now (a .counts)) (now (a .cores)) (now (a .outliers)) in
     let h : length t ≤ length (now (a .text)) = omega (arith, c .before .before .before .before .before .before .put-report .ensures .next, c .before .before .before .before .if1 .taken, c .before .before .before .before .before .before .before .before .before .before .before .before .before .before .good .0 .1) in
     let e : c .before .before .put-report2 .result ≡ length t = omega (arith, c .before .before .put-report2 .ensures .next, c .before .before .before .before .before .before .before .before .before .before .before .before .before .before .good .0 .1) in
     record {
@@ -41,7 +41,7 @@ returns-2 : tie.Need-returns-2
 unfolding writtenOf writtenIn
 returns-2 c =
     let a = c .before .before .before .before .before .before .before .before .before .before .args in
-    let t : List ℕ = tableText (a .n) (a .m) (a .groups) (a .memberships) (now (a .starts)) (now (a .members)) (now (a .tallies)) (now (a .cores)) (now (a .outliers)) in
+    let t : List ℕ = tableText (a .n) (a .m) (a .groups) (a .memberships) (now (a .starts)) (now (a .members)) (now (a .counts)) (now (a .cores)) (now (a .outliers)) in
     let h : length (now (a .text)) < length t = omega (arith, c .before .before .put-report .ensures .next, c .if1 .left, c .before .before .before .before .before .before .before .before .before .before .good .0 .1) in
     record { answer = simp (lt-leb _ _ h); text = simp (lt-leb _ _ h) }
 

@@ -1,26 +1,43 @@
 -- `scores::pairs_of` meets its contract: twice the pairs, and the places, make the square of the places, which is at most 512 * 512.
-use Prim.Native.Nat.{_*_, _≤_}
+use Prim.Native.Nat.{ℕ, _+_, _*_, _≤_}
 use native.Mathlib.Omega.{arith}
 use native.Mathlib.Nat.{mul-le-mul}
-use lib.ListN.{length}
+use mathlib.Core.Path.{_≡_}
+use mathlib.Core.List.{List}
+use lib.ListN.{length, take, length-take}
+use denote.Ref.{now}
+use Rattle.community.specs.Scores.{pairs}
 use Rattle.scores.proofs.Pairing.{pairs-half}
 use Rattle.scores.proofs.pairs_of.Statement.{statement}
 use Rattle.scores.proofs.pairs_of.Tie as tie
 
-square : (c : tie.Start) → length (c .args .list .now) * length (c .args .list .now) ≤ 262144
-square c = mul-le-mul {n₂ = 512} {m₂ = 512} (c .pre) (c .pre)
+smaller-requires : tie.Need-smaller-requires
+smaller-requires c κs = tt
+
+-- the places looked at
+abbrev looked : tie.After-smaller → List ℕ
+looked c = take 512 (now (c .before .before .args .list))
+
+places : (c : tie.After-smaller) → c .smaller .result ≡ length (looked c)
+places c = omega (arith, c .smaller .ensures, length-take 512 (now (c .before .before .args .list)))
+
+half : (c : tie.After-smaller) → pairs (looked c) * 2 + c .smaller .result ≡ c .smaller .result * c .smaller .result
+half c = rw (places c) (pairs-half (looked c))
+
+square : (c : tie.After-smaller) → c .smaller .result * c .smaller .result ≤ 262144
+square c = let few : c .smaller .result ≤ 512 = omega (arith, c .smaller .ensures) in mul-le-mul {n₂ = 512} {m₂ = 512} few few
 
 mul-result : tie.Need-mul-result
 mul-result c = omega (arith, square c)
 
 sub-result : tie.Need-sub-result
-sub-result c = omega (arith, pairs-half (c .args .list .now))
+sub-result c = omega (arith, half c)
 
 cast-result : tie.Need-cast-result
 cast-result c = omega (arith, square c)
 
 returns : tie.Need-returns
-returns c = omega (arith, pairs-half (c .args .list .now))
+returns c = omega (arith, half c)
 
 pub pairs-of-spec : {M : Type 1} → statement M
-pairs-of-spec = tie.close (tie.spec mul-result sub-result cast-result returns)
+pairs-of-spec = tie.close (tie.spec smaller-requires mul-result sub-result cast-result returns)

@@ -2,6 +2,7 @@
 use Prim.Native.Nat.{ℕ}
 use native.Mathlib.Omega.{arith}
 use mathlib.Core.Path.{ap, ap₂, _∙_}
+use lib.Seq.{take-all}
 use denote.Ref.{now}
 use Rattle.community.specs.Scores.{pairs}
 use Rattle.scores.specs.Scored.{edgesIn}
@@ -35,10 +36,11 @@ pairs-of-requires c κs = search needs
 returns : tie.Need-returns
 unfolding edgesIn
 returns c =
-    let a = c .before .before .before .before .before .before .before .before .before .args in
+    let start = c .before .before .before .before .before .before .before .before .before in
+    let a = start .args in
     let held = c .before .before .before .before .before .count-entries in
     let table = held .last .1 .0 in
-    ap₂ (λ (p : ℕ) (k : EdgeCounts). record { pairs = p; tied = k .tied; leaving = k .leaving }) (c .pairs-of .ensures) (c .before .count-edges .ensures)
+    ap₂ (λ (p : ℕ) (k : EdgeCounts). record { pairs = p; tied = k .tied; leaving = k .leaving }) (c .pairs-of .ensures ∙ ap pairs (take-all 512 (now (a .list)) (start .pre .short))) (c .before .count-edges .ensures)
     ∙ ap (λ (m : ℕ). record { pairs = pairs (now (a .list)); tied = tiedBy table (now (a .edges)) m; leaving = leavingBy table (now (a .edges)) m })
     (c .before .before .before .smaller .ensures)
     ∙ table-tally (now (a .edges)) (now (a .list)) table (held .ensures)

@@ -1,0 +1,351 @@
+-- The counts of all groups in one pass over the edges. A row holds the groups of a handset, so that the `and` of two rows holds the groups that an edge
+-- is tied in and their `xor` those that it leaves, 64 groups to a word.
+--
+--     joined-none, joined-more      the rows with the first handsets of a list added to a group: none, and one more
+--     rows-none, rows-more          the rows of the first groups: of none, and of one more
+--     raised-more, raised-done      a table where the bits of a word are added one by one, the lowest first; raised-le: none is raised by more than 1
+--     edge-none, edge-more          one edge, for the groups of the first words: of none, and of one more; edge-room: no count is too large
+--     edges-none, edges-more        the first edges: none, and one more; edges-room: the next edge has room
+--     groups-counted                the counts by the rows are the groups' counts
+use Prim.Native.Nat.{ℕ, zero, suc, _+_, _*_, _-_, _^_, _≤_, _<_, min}
+use native.Mathlib.Omega.{arith}
+use native.Mathlib.Decide.{ℕ-discrete, decLt}
+use native.Mathlib.Numerals.{add-one}
+use mathlib.Core.Path.{_≡_, refl, sym, ap, ap₂, _∙_}
+use mathlib.Core.Logic.{_⊎_, inl, inr, ⊎-elim}
+use mathlib.Core.Bool.{Bool, true, false, _&&_, _||_, cond}
+use mathlib.Core.List.{List, []}
+use lib.Dec.{eqb, leb, ltb}
+use lib.Bits.{bitAnd, bitXor, differ}
+use lib.ListN.{length, getD, set, take, replicate, length-replicate, getD-replicate}
+use lib.Seq.{getD-set-same, getD-set-other}
+use borrow.Author.Tests.{lt-ltb, le-ltb, le-leb, lt-leb, eq-eqb, ne-eqb}
+use Rattle.sets.specs.Below.{bit, count}
+use Rattle.sets.specs.Bits.{bitOf, bitAt, cell, withBit}
+use Rattle.sets.proofs.Bits.{bitOf-lt, bitOf-and, bitOf-xor, bitOf-clear-same, bitOf-clear-other, bitAt-lt, bitAt-set-same, bitAt-set-other, bitAt-zeros, cell-word, length-withBit}
+use Rattle.sets.proofs.Counting.{count-cong, count-le, count-none}
+use Rattle.sets.proofs.Tests.{three}
+use Rattle.image.specs.Image.{endA, endB}
+use Rattle.community.specs.Network.{contains}
+use Rattle.community.specs.Scores.{justOne}
+use Rattle.planner.specs.Held.{Table}
+use Rattle.planner.proofs.Lowest.{bitOf-none}
+use Rattle.lookup.specs.Lookup.{membersOf}
+use Rattle.scores.proofs.Entries.{bit-le}
+use Rattle.reporting.specs.Held.{inGroup, bitFor, tiedIn, leavesIn, Joined, Raised, Room, Ends, EdgeCounted, EdgesCounted, GroupsCounted}
+use Rattle.reporting.proofs.Marking.{bit-test, test-bit, and-false, or-false, contains-more}
+
+-- ---- the rows
+
+pub joined-none : (rows : List ℕ) (k : ℕ) → Joined rows [] k rows
+unfolding contains
+joined-none rows k = record {
+  size = refl;
+  bits = λ v j h l.
+      sym (test-bit (cell rows v j) (bitAt-lt rows (v * 512 + j)))
+      ∙ ap bit (sym (or-false (inGroup rows v j)) ∙ ap (λ (b : Bool). inGroup rows v j || b) (sym (and-false (eqb j k))));
+}
+
+-- one handset x added to group k; past the last row there is none
+marked : (rows : List ℕ) (x k v j : ℕ) → length rows ≡ 4096 → k < 512 → v < 512 → j < 512
+    → cell (withBit rows (x * 512 + k)) v j ≡ bit (inGroup rows v j || (eqb j k && eqb v x))
+marked rows x k v j size h p q = pick (ℕ-discrete v x) (ℕ-discrete j k)
+  where
+    other : (v * 512 + j ≡ x * 512 + k → ⊥) → (eqb j k && eqb v x) ≡ false → cell (withBit rows (x * 512 + k)) v j ≡ bit (inGroup rows v j || (eqb j k && eqb v x))
+    other n e =
+        bitAt-set-other rows (x * 512 + k) (v * 512 + j) n ∙ sym (test-bit (cell rows v j) (bitAt-lt rows (v * 512 + j)))
+        ∙ ap bit (sym (or-false (inGroup rows v j)) ∙ ap (λ (b : Bool). inGroup rows v j || b) (sym e))
+
+    or-true : (b : Bool) → (b || true) ≡ true
+    or-true true = refl
+    or-true false = refl
+
+    pick : Dec (v ≡ x) → Dec (j ≡ k) → cell (withBit rows (x * 512 + k)) v j ≡ bit (inGroup rows v j || (eqb j k && eqb v x))
+    pick (yes d) (yes e) =
+        ap (bitAt (withBit rows (x * 512 + k))) (let i : v * 512 + j ≡ x * 512 + k = omega arith in i)
+        ∙ bitAt-set-same rows (x * 512 + k) (omega arith)
+        ∙ sym (ap bit (ap (λ (b : Bool). inGroup rows v j || b) (ap₂ _&&_ (eq-eqb j k e) (eq-eqb v x d)) ∙ or-true (inGroup rows v j)))
+    pick (yes d) (no e) = other (λ i. e (omega arith)) (ap (λ (b : Bool). b && eqb v x) (ne-eqb j k e))
+    pick (no d) e = other (λ i. d (omega arith)) (ap (λ (b : Bool). eqb j k && b) (ne-eqb v x d) ∙ and-false (eqb j k))
+
+pub joined-more : (rows₀ rows l : List ℕ) (k i : ℕ) → length rows₀ ≡ 4096 → k < 512 → i < length l
+    → Joined rows₀ (take i l) k rows → Joined rows₀ (take (i + 1) l) k (withBit rows (getD l i 0 * 512 + k))
+joined-more rows₀ rows l k i size h q held = record {
+  size = length-withBit rows (getD l i 0 * 512 + k) ∙ held .size;
+  bits = λ v j p r.
+      marked rows (getD l i 0) k v j (held .size ∙ size) h p r
+      ∙ ap (λ (x : ℕ). bit (eqb x 1 || (eqb j k && eqb v (getD l i 0)))) (held .bits v j p r)
+      ∙ ap (λ (b : Bool). bit (b || (eqb j k && eqb v (getD l i 0)))) (bit-test (inGroup rows₀ v j || (eqb j k && contains v (take i l))))
+      ∙ ap bit (joint (inGroup rows₀ v j) (eqb j k) (contains v (take i l)) (eqb v (getD l i 0)))
+      ∙ ap (λ (b : Bool). bit (inGroup rows₀ v j || (eqb j k && b))) (sym (contains-more l i v q));
+}
+  where
+    joint : (a b x y : Bool) → ((a || (b && x)) || (b && y)) ≡ (a || (b && (x || y)))
+    joint true b x y = refl
+    joint false true x y = refl
+    joint false false x y = refl
+
+pub rows-none : (f : ℕ → ℕ → Bool) → Table (replicate 4096 0) (λ v j. ltb j 0 && f v j)
+rows-none f = record {
+  size = length-replicate {A = ℕ} 4096 0;
+  bits = λ v j h l. bitAt-zeros 4096 (v * 512 + j) ∙ sym (ap (λ (b : Bool). bit (b && f v j)) (le-ltb j 0 (omega arith)));
+}
+
+pub rows-more : (f : ℕ → ℕ → Bool) (rows rows′ l : List ℕ) (k : ℕ) → ((v : ℕ) → contains v l ≡ f v k)
+    → Table rows (λ v j. ltb j k && f v j) → Joined rows l k rows′ → Table rows′ (λ v j. ltb j (k + 1) && f v j)
+rows-more f rows rows′ l k same t g = record {
+  size = g .size ∙ t .size;
+  bits = λ v j h q.
+      g .bits v j h q
+      ∙ ap₂ (λ (x : ℕ) (b : Bool). bit (eqb x 1 || (eqb j k && b))) (t .bits v j h q) (same v)
+      ∙ ap (λ (b : Bool). bit (b || (eqb j k && f v k))) (bit-test (ltb j k && f v j))
+      ∙ ap bit (grown v j);
+}
+  where
+    grown : (v j : ℕ) → ((ltb j k && f v j) || (eqb j k && f v k)) ≡ (ltb j (k + 1) && f v j)
+    grown v j =
+        ⊎-elim
+        (λ e. ap (λ (i : ℕ). (ltb i k && f v i) || (eqb i k && f v k)) e
+        ∙ ap₂ (λ (x y : Bool). (x && f v k) || (y && f v k)) (le-ltb k k (omega arith)) (eq-eqb k k refl)
+        ∙ ap (λ (x : Bool). x && f v k) (sym (lt-ltb k (k + 1) (omega arith))) ∙ ap (λ (i : ℕ). ltb i (k + 1) && f v i) (sym e))
+        (⊎-elim
+        (λ h. ap₂ (λ (x y : Bool). (x && f v j) || (y && f v k)) (lt-ltb j k h) (ne-eqb j k (λ e. omega arith))
+        ∙ or-false (f v j) ∙ ap (λ (x : Bool). x && f v j) (sym (lt-ltb j (k + 1) (omega arith))))
+        (λ h. ap₂ (λ (x y : Bool). (x && f v j) || (y && f v k)) (le-ltb j k (omega arith)) (ne-eqb j k (λ e. omega arith))
+        ∙ ap (λ (x : Bool). x && f v j) (sym (le-ltb j (k + 1) (omega arith)))))
+        (three j k)
+
+-- ---- the bits of a word, added to a table
+
+-- a place is before the word's 64, one of them, or past them
+where-is : (base i : ℕ) → (i < base) ⊎ (((k : ℕ) × (k < 64) × (i ≡ base + k)) ⊎ (base + 64 ≤ i))
+where-is base i = pick (decLt i base) (decLt i (base + 64))
+  where
+    pick : Dec (i < base) → Dec (i < base + 64) → (i < base) ⊎ (((k : ℕ) × (k < 64) × (i ≡ base + k)) ⊎ (base + 64 ≤ i))
+    pick (yes h) l = inl h
+    pick (no h) (yes l) = inr (inl (i - base, omega arith, omega arith))
+    pick (no h) (no l) = inr (inr (omega arith))
+
+bitFor-before : (base w i : ℕ) → i < base → bitFor base w i ≡ 0
+unfolding bitFor
+bitFor-before base w i h = ap (λ (b : Bool). cond (b && ltb i (base + 64)) (bitOf w (i - base)) 0) (lt-leb base i h)
+
+bitFor-past : (base w i : ℕ) → base + 64 ≤ i → bitFor base w i ≡ 0
+unfolding bitFor
+bitFor-past base w i h =
+    ap (λ (b : Bool). cond (leb base i && b) (bitOf w (i - base)) 0) (le-ltb i (base + 64) h)
+    ∙ ap (λ (b : Bool). cond b (bitOf w (i - base)) 0) (and-false (leb base i))
+
+pub bitFor-at : (base w k : ℕ) → k < 64 → bitFor base w (base + k) ≡ bitOf w k
+unfolding bitFor
+bitFor-at base w k h =
+    ap₂ (λ (a b : Bool). cond (a && b) (bitOf w ((base + k) - base)) 0) (le-leb base (base + k) (omega arith)) (lt-ltb (base + k) (base + 64) (omega arith))
+    ∙ ap (bitOf w) (let e : (base + k) - base ≡ k = omega arith in e)
+
+bitFor-of : (base w i k : ℕ) → k < 64 → i ≡ base + k → bitFor base w i ≡ bitOf w k
+bitFor-of base w i k h e = ap (bitFor base w) e ∙ bitFor-at base w k h
+
+pub bitFor-le : (base w i : ℕ) → bitFor base w i ≤ 1
+bitFor-le base w i =
+    ⊎-elim (λ h. omega (arith, bitFor-before base w i h))
+    (⊎-elim (λ p. omega (arith, bitFor-of base w i (p .0) (p .1) (p .2), bitOf-lt w (p .0))) (λ h. omega (arith, bitFor-past base w i h)))
+    (where-is base i)
+
+-- no place is raised by more than 1
+pub raised-le : {ts ts′ : List ℕ} {base w : ℕ} → Raised ts base w ts′ → (i : ℕ) → getD ts′ i 0 ≤ getD ts i 0 + 1
+raised-le {ts} {ts′} {base} {w} r i = omega (arith, r .counts i, bitFor-le base w i)
+
+-- the word with bit t cleared
+abbrev pub without : ℕ → ℕ → ℕ
+without w t = bitXor w (bitAnd w (2 ^ t))
+
+pub raised-more : (ts : List ℕ) (base w t : ℕ) → t < 64 → bitOf w t ≡ 1 → base + t < length ts
+    → (i : ℕ) → getD (set ts (base + t) (getD ts (base + t) 0 + 1)) i 0 + bitFor base (without w t) i ≡ getD ts i 0 + bitFor base w i
+raised-more ts base w t h one room i = pick (ℕ-discrete i (base + t))
+  where
+    same : (i ≡ base + t → ⊥) → bitFor base (without w t) i ≡ bitFor base w i
+    same n =
+        ⊎-elim (λ l. bitFor-before base (without w t) i l ∙ sym (bitFor-before base w i l))
+        (⊎-elim
+        (λ p. bitFor-of base (without w t) i (p .0) (p .1) (p .2) ∙ bitOf-clear-other w t (p .0) (λ e. n (omega (arith, p .2))) ∙ sym (bitFor-of base w i (p .0) (p .1) (p .2)))
+        (λ l. bitFor-past base (without w t) i l ∙ sym (bitFor-past base w i l)))
+        (where-is base i)
+
+    pick : Dec (i ≡ base + t) → getD (set ts (base + t) (getD ts (base + t) 0 + 1)) i 0 + bitFor base (without w t) i ≡ getD ts i 0 + bitFor base w i
+    pick (yes e) =
+        let set-here : getD (set ts (base + t) (getD ts (base + t) 0 + 1)) i 0 ≡ getD ts i 0 + 1 =
+        ap (λ (x : ℕ). getD (set ts (base + t) (getD ts (base + t) 0 + 1)) x 0) e ∙ getD-set-same ts (base + t) (getD ts (base + t) 0 + 1) 0 room
+        ∙ ap (λ (x : ℕ). getD ts x 0 + 1) (sym e) in
+        omega (arith, set-here, bitFor-of base (without w t) i t h e, bitOf-clear-same w t, bitFor-of base w i t h e, one)
+    pick (no n) = ap₂ _+_ (getD-set-other ts (base + t) i (getD ts (base + t) 0 + 1) 0 n) (same n)
+
+pub raised-done : (base i : ℕ) → bitFor base 0 i ≡ 0
+raised-done base i =
+    ⊎-elim (bitFor-before base 0 i)
+    (⊎-elim (λ p. bitFor-of base 0 i (p .0) (p .1) (p .2) ∙ bitOf-none (p .0)) (bitFor-past base 0 i))
+    (where-is base i)
+
+-- ---- one edge
+
+-- one word more: the groups of the first j words that pass, and the bits of the next word
+word-more : (f : ℕ → Bool) (j w k : ℕ) → ((r : ℕ) → r < 64 → bitOf w r ≡ bit (f (64 * j + r)))
+    → bit (ltb k (64 * (j + 1)) && f k) ≡ bit (ltb k (64 * j) && f k) + bitFor (64 * j) w k
+word-more f j w k e =
+    ⊎-elim
+    (λ h. omega (arith, told (j + 1) (lt-ltb k (64 * (j + 1)) (omega arith)), told j (lt-ltb k (64 * j) h), bitFor-before (64 * j) w k h))
+    (⊎-elim
+    (λ p. omega (
+      arith,
+      told (j + 1) (lt-ltb k (64 * (j + 1)) (omega (arith, p .1, p .2))),
+      told j (le-ltb k (64 * j) (omega (arith, p .2))),
+      bitFor-of (64 * j) w k (p .0) (p .1) (p .2),
+      e (p .0) (p .1),
+      ap (λ (x : ℕ). bit (f x)) (p .2),
+    ))
+    (λ h. omega (arith, told (j + 1) (le-ltb k (64 * (j + 1)) (omega arith)), told j (le-ltb k (64 * j) (omega arith)), bitFor-past (64 * j) w k h)))
+    (where-is (64 * j) k)
+  where
+    told : (n : ℕ) {b : Bool} → ltb k (64 * n) ≡ b → bit (ltb k (64 * n) && f k) ≡ bit (b && f k)
+    told n q = ap (λ (b : Bool). bit (b && f k)) q
+
+bitFor-later : (base w k : ℕ) → bitFor (512 + base) w (512 + k) ≡ bitFor base w k
+bitFor-later base w k =
+    ⊎-elim (λ h. bitFor-before (512 + base) w (512 + k) (omega arith) ∙ sym (bitFor-before base w k h))
+    (⊎-elim
+    (λ p. bitFor-of (512 + base) w (512 + k) (p .0) (p .1) (omega (arith, p .2)) ∙ sym (bitFor-of base w k (p .0) (p .1) (p .2)))
+    (λ h. bitFor-past (512 + base) w (512 + k) (omega arith) ∙ sym (bitFor-past base w k h)))
+    (where-is base k)
+
+-- both bits, and just one of two, as tests
+both-bits : (x y : ℕ) → x < 2 → y < 2 → min x y ≡ bit (eqb x 1 && eqb y 1)
+both-bits zero zero h l = refl
+both-bits zero (suc zero) h l = refl
+both-bits zero (suc (suc y)) h l = absurd (omega arith)
+both-bits (suc zero) zero h l = refl
+both-bits (suc zero) (suc zero) h l = refl
+both-bits (suc zero) (suc (suc y)) h l = absurd (omega arith)
+both-bits (suc (suc x)) y h l = absurd (omega arith)
+
+one-bit : (x y : ℕ) → x < 2 → y < 2 → differ x y ≡ bit (justOne (eqb x 1) (eqb y 1))
+one-bit zero zero h l = refl
+one-bit zero (suc zero) h l = refl
+one-bit zero (suc (suc y)) h l = absurd (omega arith)
+one-bit (suc zero) zero h l = refl
+one-bit (suc zero) (suc zero) h l = refl
+one-bit (suc zero) (suc (suc y)) h l = absurd (omega arith)
+one-bit (suc (suc x)) y h l = absurd (omega arith)
+
+pub edge-none : (rows : List ℕ) (u v : ℕ) (ts : List ℕ) → length ts ≡ 1024 → EdgeCounted rows u v 0 ts ts
+unfolding tiedIn leavesIn
+edge-none rows u v ts size = record {
+  size = size;
+  tied = λ k h. omega (arith, ap (λ (b : Bool). bit (b && (inGroup rows u k && inGroup rows v k))) (le-ltb k (64 * 0) (omega arith)));
+  leaving = λ k h. omega (arith, ap (λ (b : Bool). bit (b && justOne (inGroup rows u k) (inGroup rows v k))) (le-ltb k (64 * 0) (omega arith)));
+}
+
+module _ (rows : List ℕ) (u v j : ℕ) where
+  abbrev here : ℕ
+  here = getD rows (u * 8 + j) 0
+
+  abbrev there : ℕ
+  there = getD rows (v * 8 + j) 0
+
+  -- the group of a bit of the j-th word, by its row
+  in-word : (x r : ℕ) → r < 64 → bitOf (getD rows (x * 8 + j) 0) r ≡ cell rows x (64 * j + r)
+  in-word x r h = sym (ap (cell rows x) (let e : 64 * j + r ≡ j * 64 + r = omega arith in e) ∙ cell-word rows x j r h)
+
+  tied-bit : (r : ℕ) → r < 64 → bitOf (bitAnd here there) r ≡ bit (inGroup rows u (64 * j + r) && inGroup rows v (64 * j + r))
+  tied-bit r h =
+      bitOf-and here there r ∙ ap₂ min (in-word u r h) (in-word v r h)
+      ∙ both-bits (cell rows u (64 * j + r)) (cell rows v (64 * j + r)) (bitAt-lt rows (u * 512 + (64 * j + r))) (bitAt-lt rows (v * 512 + (64 * j + r)))
+
+  leaving-bit : (r : ℕ) → r < 64 → bitOf (bitXor here there) r ≡ bit (justOne (inGroup rows u (64 * j + r)) (inGroup rows v (64 * j + r)))
+  leaving-bit r h =
+      bitOf-xor here there r ∙ ap₂ differ (in-word u r h) (in-word v r h)
+      ∙ one-bit (cell rows u (64 * j + r)) (cell rows v (64 * j + r)) (bitAt-lt rows (u * 512 + (64 * j + r))) (bitAt-lt rows (v * 512 + (64 * j + r)))
+
+  pub edge-more : (ts₀ ts ts₁ ts₂ : List ℕ) → j < 8 → EdgeCounted rows u v j ts₀ ts
+      → Raised ts (64 * j) (bitAnd here there) ts₁ → Raised ts₁ (512 + 64 * j) (bitXor here there) ts₂ → EdgeCounted rows u v (j + 1) ts₀ ts₂
+  unfolding tiedIn leavesIn
+  edge-more ts₀ ts ts₁ ts₂ h c p q = record {
+    size = q .size ∙ p .size ∙ c .size;
+    tied = λ k l. omega (
+      arith,
+      q .counts k,
+      p .counts k,
+      c .tied k l,
+      bitFor-before (512 + 64 * j) (bitXor here there) k (omega arith),
+      word-more (λ x. inGroup rows u x && inGroup rows v x) j (bitAnd here there) k tied-bit,
+    );
+    leaving = λ k l. omega (
+      arith,
+      q .counts (512 + k),
+      p .counts (512 + k),
+      c .leaving k l,
+      bitFor-past (64 * j) (bitAnd here there) (512 + k) (omega arith),
+      bitFor-later (64 * j) (bitXor here there) k,
+      word-more (λ x. justOne (inGroup rows u x) (inGroup rows v x)) j (bitXor here there) k leaving-bit,
+    );
+  }
+
+-- what one edge leaves still has room
+pub edge-room : (rows : List ℕ) (u v words : ℕ) (ts₀ ts : List ℕ) → Room ts₀ → EdgeCounted rows u v words ts₀ ts → (i : ℕ) → i < 1024 → getD ts i 0 ≤ 4097
+edge-room rows u v words ts₀ ts room c i h = pick (decLt i 512)
+  where
+    pick : Dec (i < 512) → getD ts i 0 ≤ 4097
+    pick (yes l) = omega (arith, c .tied i l, room .tied i l, bit-le (tiedIn rows words u v i))
+    pick (no l) =
+        let k : ℕ = i - 512 in
+        let e : i ≡ 512 + k = omega arith in
+        let low : k < 512 = omega arith in
+        rw e (omega (arith, c .leaving k low, room .leaving k low, bit-le (leavesIn rows words u v k)))
+
+-- ---- all edges
+
+pub edges-none : (rows part : List ℕ) (words : ℕ) → EdgesCounted rows part 0 words (replicate 1024 0)
+edges-none rows part words = record {
+  size = length-replicate {A = ℕ} 1024 0;
+  tied = λ k h. getD-replicate 1024 k 0 0 (omega arith) ∙ sym (count-none (λ e. tiedIn rows words (endA part e) (endB part e) k));
+  leaving = λ k h. getD-replicate 1024 (512 + k) 0 0 (omega arith) ∙ sym (count-none (λ e. leavesIn rows words (endA part e) (endB part e) k));
+}
+
+count-next : (n : ℕ) (f : ℕ → Bool) → count (n + 1) f ≡ count n f + bit (f n)
+unfolding count
+count-next n f = ap (λ (k : ℕ). count k f) (add-one n) ∙ omega arith
+
+pub edges-more : (rows part : List ℕ) (e words : ℕ) (ts ts′ : List ℕ) → EdgesCounted rows part e words ts
+    → EdgeCounted rows (endA part e) (endB part e) words ts ts′ → EdgesCounted rows part (e + 1) words ts′
+edges-more rows part e words ts ts′ c d = record {
+  size = d .size;
+  tied = λ k h. omega (arith, d .tied k h, c .tied k h, count-next e (λ i. tiedIn rows words (endA part i) (endB part i) k));
+  leaving = λ k h. omega (arith, d .leaving k h, c .leaving k h, count-next e (λ i. leavesIn rows words (endA part i) (endB part i) k));
+}
+
+pub edges-room : (rows part : List ℕ) (e words : ℕ) (ts : List ℕ) → e ≤ 4096 → EdgesCounted rows part e words ts → Room ts
+edges-room rows part e words ts h c = record {
+  size = c .size;
+  tied = λ k l. omega (arith, c .tied k l, count-le e (λ i. tiedIn rows words (endA part i) (endB part i) k));
+  leaving = λ k l. omega (arith, c .leaving k l, count-le e (λ i. leavesIn rows words (endA part i) (endB part i) k));
+}
+
+-- by the rows of the first groups
+module _ (rows part starts members : List ℕ) (m words groups : ℕ) (few : groups ≤ 512) (wide : groups ≤ 64 * words)
+    (table : Table rows (λ v k. ltb k groups && contains v (membersOf starts members k))) (ends : Ends part m) where
+  in-group : (v k : ℕ) → v < 512 → k < groups → inGroup rows v k ≡ contains v (membersOf starts members k)
+  in-group v k h l =
+      ap (λ (x : ℕ). eqb x 1) (table .bits v k h (omega arith)) ∙ bit-test (ltb k groups && contains v (membersOf starts members k))
+      ∙ ap (λ (b : Bool). b && contains v (membersOf starts members k)) (lt-ltb k groups l)
+
+  pub groups-counted : (ts : List ℕ) → EdgesCounted rows part m words ts → GroupsCounted part m starts members groups ts
+  unfolding tiedIn leavesIn
+  groups-counted ts c = record {
+    size = c .size;
+    tied = λ k h.
+        c .tied k (omega arith)
+        ∙ count-cong m (λ e. tiedIn rows words (endA part e) (endB part e) k) _
+        (λ e l. ap₂ _&&_ (lt-ltb k (64 * words) (omega arith)) (ap₂ _&&_ (in-group (endA part e) k (ends .low e l .0) h) (in-group (endB part e) k (ends .low e l .1) h)));
+    leaving = λ k h.
+        c .leaving k (omega arith)
+        ∙ count-cong m (λ e. leavesIn rows words (endA part e) (endB part e) k) _
+        (λ e l. ap₂ _&&_ (lt-ltb k (64 * words) (omega arith)) (ap₂ justOne (in-group (endA part e) k (ends .low e l .0) h) (in-group (endB part e) k (ends .low e l .1) h)));
+  }

@@ -1,0 +1,147 @@
+-- `reporting::counts::add_bits` meets its contract. The invariant: what a place holds, with the bit that the rest of the word has for it, is what it held with
+-- its bit of the word. A turn adds 1 for the lowest set bit and clears it; the measure is the sum of the bits left.
+use Prim.Native.Nat.{ℕ, _+_, _*_, _%_, _^_, _<_}
+use native.Mathlib.Omega.{arith}
+use mathlib.Core.Path.{_≡_, refl, ap, _∙_}
+use lib.ListN.{length, getD, length-set}
+use lib.Bits.{bitAnd, bitXor, xor-lt, and-lt}
+use lib.Count.{trailingZeros}
+use lib.Pow.{pow-lt}
+use Rattle.sets.specs.Below.{sum}
+use Rattle.sets.specs.Bits.{bitOf}
+use Rattle.sets.proofs.Bits.{shl-one, bitOf-clear-same, bitOf-clear-other, sum-drop}
+use Rattle.planner.proofs.Lowest.{lowest}
+use Rattle.reporting.specs.Held.{bitFor}
+use Rattle.reporting.proofs.Tallying.{without, bitFor-le, bitFor-at, raised-more, raised-done}
+use Rattle.reporting.proofs.counts.add_bits.Statement.{statement}
+use Rattle.reporting.proofs.counts.add_bits.Tie as tie
+
+abbrev Inv-loop : tie.InvT-loop
+Inv-loop word base counts₀ w₀ counts w =
+    (w < 2 ^ 64) × (length counts ≡ length counts₀) × ((i : ℕ) → getD counts i 0 + bitFor base w i ≡ getD counts₀ i 0 + bitFor base word i)
+
+abbrev μ-loop : tie.MeasureT-loop
+μ-loop word base counts₀ w₀ counts w = sum 64 (bitOf w)
+
+loop-holds : tie.Need-loop-holds Inv-loop μ-loop
+loop-holds c = (omega arith, refl, (λ i. refl))
+
+-- the place of the lowest set bit
+abbrev lowestOf : tie.In-loop Inv-loop μ-loop → ℕ
+lowestOf c = trailingZeros 64 (c .before .loop .w)
+
+first : (c : tie.In-loop Inv-loop μ-loop) → (lowestOf c < 64) × (bitOf (c .before .loop .w) (lowestOf c) ≡ 1)
+first c =
+    let r = lowest 64 (c .before .loop .w) (omega arith) (c .before .loop .inv .0) in
+    (r .0, r .1 .here)
+
+-- the place is in the table, and has room
+room : (c : tie.In-loop Inv-loop μ-loop) → c .before .before .args .base + lowestOf c < length (c .before .loop .counts)
+room c = omega (arith, first c .0, c .before .loop .inv .1, c .before .before .pre .0)
+
+least : (c : tie.In-loop Inv-loop μ-loop) → getD (c .before .loop .counts) (c .before .before .args .base + lowestOf c) 0 < 4294967295
+least c =
+    let a = c .before .before .args in
+    let i : ℕ = a .base + lowestOf c in
+    let f = first c in
+    omega (
+      arith,
+      c .before .loop .inv .2 i,
+      c .before .before .pre .1 (lowestOf c) (f .0),
+      bitFor-le (a .base) (a .word) i,
+      bitFor-at (a .base) (c .before .loop .w) (lowestOf c) (f .0),
+      f .1,
+    )
+
+cast-i : tie.Need-cast-i Inv-loop μ-loop
+cast-i c = omega (arith, first c .0)
+
+add-i : tie.Need-add-i Inv-loop μ-loop
+add-i c = omega (arith, room c, c .before .loop .inv .1, c .before .before .good)
+
+mul-counts : tie.Need-mul-counts Inv-loop μ-loop
+mul-counts c = omega (arith, room c, c .before .loop .inv .1, c .before .before .good)
+
+slice-read-counts : tie.Need-slice-read-counts Inv-loop μ-loop
+slice-read-counts c = room (c .before)
+
+add-counts : tie.Need-add-counts Inv-loop μ-loop
+add-counts c = omega (arith, least (c .before))
+
+mul-counts-2 : tie.Need-mul-counts-2 Inv-loop μ-loop
+mul-counts-2 c = omega (arith, room (c .before), c .before .before .loop .inv .1, c .before .before .before .good)
+
+slice-write-counts : tie.Need-slice-write-counts Inv-loop μ-loop
+slice-write-counts c = room (c .before)
+
+cast-w : tie.Need-cast-w Inv-loop μ-loop
+cast-w c = omega (arith, first (c .before) .0)
+
+shl-w : tie.Need-shl-w Inv-loop μ-loop
+shl-w c = first (c .before) .0
+
+-- the word with the bit cleared, as the code makes it
+abbrev cleared : ℕ → ℕ → ℕ
+cleared w t = bitXor w (bitAnd w (1 * 2 ^ t % 2 ^ 64))
+
+cleared-without : (w t : ℕ) → t < 64 → cleared w t ≡ without w t
+cleared-without w t h = ap (λ (x : ℕ). bitXor w (bitAnd w x)) (shl-one t h)
+
+cleared-lt : (w t : ℕ) → t < 64 → w < 2 ^ 64 → cleared w t < 2 ^ 64
+cleared-lt w t h l = rw (shl-one t h) (xor-lt 64 w (bitAnd w (2 ^ t)) l (and-lt 64 w (2 ^ t) l (pow-lt h)))
+
+loop-less : tie.Need-loop-less Inv-loop μ-loop
+loop-less c =
+    let w : ℕ = c .before .before .loop .w in
+    let t : ℕ = trailingZeros 64 w in
+    let f = first (c .before) in
+    omega (
+      arith,
+      ap (λ (x : ℕ). sum 64 (bitOf x)) (cleared-without w t (f .0)),
+      sum-drop (bitOf w) (bitOf (without w t)) t 64 (f .0) (f .1) (bitOf-clear-same w t) (bitOf-clear-other w t),
+    )
+
+loop-again : tie.Need-loop-again Inv-loop μ-loop
+loop-again c =
+    let l = c .before .before .loop in
+    let a = c .before .before .before .args in
+    let t : ℕ = trailingZeros 64 (l .w) in
+    let f = first (c .before) in (
+      cleared-lt (l .w) t (f .0) (l .inv .0),
+      length-set (l .counts) (a .base + t) _ ∙ l .inv .1,
+      (λ i. rw (cleared-without (l .w) t (f .0)) (raised-more (l .counts) (a .base) (l .w) t (f .0) (f .1) (room (c .before)) i) ∙ l .inv .2 i),
+    )
+
+same-length : tie.Need-same-length Inv-loop μ-loop
+same-length c = c .before .loop .inv .1
+
+returns : tie.Need-returns Inv-loop μ-loop
+returns c =
+    let l = c .before .loop in
+    let a = c .before .before .args in
+    let none : l .w ≡ 0 = omega arith in
+    record {
+      size = l .inv .1;
+      counts = λ i. omega (arith, l .inv .2 i, ap (λ (x : ℕ). bitFor (a .base) x i) none, raised-done (a .base) i);
+    }
+
+pub add-bits-spec : {M : Type 1} → statement M
+add-bits-spec =
+    tie.close
+    (tie.spec
+    Inv-loop
+    μ-loop
+    loop-holds
+    cast-i
+    add-i
+    mul-counts
+    slice-read-counts
+    add-counts
+    mul-counts-2
+    slice-write-counts
+    cast-w
+    shl-w
+    loop-less
+    loop-again
+    same-length
+    returns)

@@ -1,0 +1,127 @@
+-- `reporting::counts::count_edge` meets its contract. After j steps the edge is counted for the groups of the first j words. The measure is the count of words
+-- left.
+use native.Mathlib.Omega.{arith}
+use Prim.Native.Nat.{ℕ, _+_, _*_, _-_, _≤_, _<_}
+use mathlib.Core.Path.{_≡_, sym, _∙_, subst}
+use denote.Ref.{now}
+use lib.ListN.{getD}
+use Rattle.reporting.specs.Held.{EdgeCounted}
+use Rattle.reporting.proofs.Tallying.{raised-le, edge-none, edge-more, edge-room}
+use Rattle.reporting.proofs.counts.count_edge.Statement.{statement}
+use Rattle.reporting.proofs.counts.count_edge.Tie as tie
+
+abbrev Inv-loop : tie.InvT-loop
+Inv-loop rows u v words counts₀ j₀ counts j = (j ≤ words) × EdgeCounted rows u v j counts₀ counts
+
+abbrev μ-loop : tie.MeasureT-loop
+μ-loop rows u v words counts₀ j₀ counts j = words - j
+
+loop-holds : tie.Need-loop-holds Inv-loop μ-loop
+loop-holds c =
+    let start = c .before .before in
+    let a = start .args in
+    (omega arith, edge-none (now (a .rows)) (a .u) (a .v) (now (a .counts)) (start .pre .1 .1 .1 .1 .size))
+
+mul-a : tie.Need-mul-a Inv-loop μ-loop
+mul-a c = omega arith
+
+add-a : tie.Need-add-a Inv-loop μ-loop
+add-a c = omega arith
+
+mul-a-2 : tie.Need-mul-a-2 Inv-loop μ-loop
+mul-a-2 c = omega arith
+
+shared-slice-read-a : tie.Need-shared-slice-read-a Inv-loop μ-loop
+shared-slice-read-a c = omega arith
+
+mul-b : tie.Need-mul-b Inv-loop μ-loop
+mul-b c = omega arith
+
+add-b : tie.Need-add-b Inv-loop μ-loop
+add-b c = omega arith
+
+mul-b-2 : tie.Need-mul-b-2 Inv-loop μ-loop
+mul-b-2 c = omega arith
+
+shared-slice-read-b : tie.Need-shared-slice-read-b Inv-loop μ-loop
+shared-slice-read-b c = omega arith
+
+mul-add-bits : tie.Need-mul-add-bits Inv-loop μ-loop
+mul-add-bits c = omega arith
+
+-- before a word is counted, no count is above 4,097
+low : (c : tie.At-loop Inv-loop μ-loop) (i : ℕ) → i < 1024 → getD (c .loop .counts) i 0 ≤ 4097
+low c =
+    let start = c .before .before .before in
+    let a = start .args in
+    edge-room (now (a .rows)) (a .u) (a .v) (c .loop .j) (now (a .counts)) (c .loop .counts) (start .pre .1 .1 .1 .1) (c .loop .inv .1)
+
+add-bits-requires : tie.Need-add-bits-requires Inv-loop μ-loop
+add-bits-requires c κs =
+    let at-loop = c .before .before .before .before in
+    (omega (arith, at-loop .loop .inv .1 .size), (λ k h. omega (arith, low at-loop (64 * at-loop .loop .j + k) (omega arith))))
+
+mul-add-bits-2 : tie.Need-mul-add-bits-2 Inv-loop μ-loop
+mul-add-bits-2 c = omega arith
+
+add-add-bits : tie.Need-add-add-bits Inv-loop μ-loop
+add-add-bits c = omega arith
+
+add-bits-requires-2 : tie.Need-add-bits-requires-2 Inv-loop μ-loop
+add-bits-requires-2 c κs =
+    let at-loop = c .before .before .before .before .before .before .before .before in
+    let raised = c .before .before .before .add-bits .ensures in
+    let j : ℕ = at-loop .loop .j in (
+      omega (arith, raised .size, at-loop .loop .inv .1 .size),
+      (λ k h. omega (arith, raised-le raised (512 + 64 * j + k), low at-loop (512 + 64 * j + k) (omega arith))),
+    )
+
+add-j : tie.Need-add-j Inv-loop μ-loop
+add-j c = omega arith
+
+loop-less : tie.Need-loop-less Inv-loop μ-loop
+loop-less c = omega arith
+
+loop-again : tie.Need-loop-again Inv-loop μ-loop
+loop-again c =
+    let at-loop = c .before .before .before .before .before .before .before .before .before .before .before in
+    let a = at-loop .before .before .before .args in (
+      omega arith,
+      edge-more (now (a .rows)) (a .u) (a .v) (at-loop .loop .j) (now (a .counts)) (at-loop .loop .counts) _ _ (omega arith) (at-loop .loop .inv .1)
+          (c .before .before .before .before .before .before .add-bits .ensures) (c .before .before .add-bits2 .ensures),
+    )
+
+same-length : tie.Need-same-length Inv-loop μ-loop
+same-length c = c .before .loop .inv .1 .size ∙ sym (c .before .before .before .before .pre .1 .1 .1 .1 .size)
+
+returns : tie.Need-returns Inv-loop μ-loop
+returns c =
+    let a = c .before .before .before .before .args in
+    let e : c .before .loop .j ≡ a .words = omega arith in
+    subst (λ (n : ℕ). EdgeCounted (now (a .rows)) (a .u) (a .v) n (now (a .counts)) (c .before .loop .counts)) e (c .before .loop .inv .1)
+
+pub count-edge-spec : {M : Type 1} → statement M
+count-edge-spec =
+    tie.close
+    (tie.spec
+    Inv-loop
+    μ-loop
+    loop-holds
+    mul-a
+    add-a
+    mul-a-2
+    shared-slice-read-a
+    mul-b
+    add-b
+    mul-b-2
+    shared-slice-read-b
+    mul-add-bits
+    add-bits-requires
+    mul-add-bits-2
+    add-add-bits
+    add-bits-requires-2
+    add-j
+    loop-less
+    loop-again
+    same-length
+    returns)

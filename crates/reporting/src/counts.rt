@@ -1,0 +1,98 @@
+// The tied pairs and the leaving edges of every group of a plan, in one pass over the edges.
+//
+// Each handset has a row of eight words, with a bit for each group that it is in. An edge is tied in the groups that both its ends are in, and leaves
+// those that just one of them is in: the `and` and the `xor` of two rows. A table of 1,024 numbers holds the tied pairs of group k at k, and the edges
+// that leave it at 512 + k.
+ghost use Prim.Native.Nat.{ℕ, _+_, _*_, _≤_, _<_};
+ghost use mathlib.Core.Path.{_≡_};
+ghost use mathlib.Core.Bool.{_&&_};
+ghost use lib.Dec.{ltb};
+ghost use lib.ListN.{length, getD, replicate};
+ghost use Rattle.community.specs.Network.{contains};
+ghost use Rattle.planner.specs.Held.{Table};
+ghost use Rattle.lookup.specs.Lookup.{membersOf};
+ghost use Rattle.reporting.specs.Held.{Joined, Raised, Room, Ends, EdgeCounted, EdgesCounted, GroupsCounted};
+
+// Adds group k to the rows of the handsets in the list.
+fn mark_members(rows: &mut [u64], list: &[u16], k: usize)
+    requires { ⌜ (length (now rows) ≡ 4096) × (k < 512) ⌝ }
+    ensures { λ _. ⌜ Joined (now (rows .entry)) (now (list .entry)) k (now (rows .exit)) ⌝ }
+{
+    let mut i: usize = 0;
+    while i < list.len() {
+        sets::mark(rows, crate::wide(list[i]) * 512 + k);
+        i += 1;
+    }
+}
+
+// Fills empty rows: row v gets the groups, of the first `groups`, that v is in.
+fn mark_groups<'a>(rows: &mut [u64], starts: &'a [u32], members: &'a [u16], groups: usize)
+    requires { ⌜ (groups ≤ 512) × (now rows ≡ replicate 4096 0) ⌝ }
+    ensures { λ _. ⌜ Table (now (rows .exit)) (λ (v k : ℕ). ltb k groups && contains v (membersOf (now (starts .entry)) (now (members .entry)) k)) ⌝ }
+{
+    let mut k: usize = 0;
+    while k < groups {
+        mark_members(rows, lookup::members(starts, members, k), k);
+        k += 1;
+    }
+}
+
+// Adds 1 at base + k for each set bit k of the word, and leaves the other places alone.
+fn add_bits(word: u64, base: usize, counts: &mut [u32])
+    requires { ⌜ (base + 64 ≤ length (now counts)) × ((k : ℕ) → k < 64 → getD (now counts) (base + k) 0 < 4294967295) ⌝ }
+    ensures { λ _. ⌜ Raised (now (counts .entry)) base word (now (counts .exit)) ⌝ }
+{
+    let mut w = word;
+    while w != 0 {
+        let k = u64::trailing_zeros(w);
+        let i = base + k as usize;
+        counts[i] = counts[i] + 1;
+        w = w ^ (w & (1u64 << k));
+    }
+}
+
+// Counts the edge between u and v, for the groups of the first `words` words of the rows.
+fn count_edge(rows: &[u64], u: usize, v: usize, words: usize, counts: &mut [u32])
+    requires { ⌜ (length (now rows) ≡ 4096) × ((u < 512) × ((v < 512) × ((words ≤ 8) × Room (now counts)))) ⌝ }
+    ensures { λ _. ⌜ EdgeCounted (now (rows .entry)) u v words (now (counts .entry)) (now (counts .exit)) ⌝ }
+{
+    let mut j: usize = 0;
+    while j < words {
+        let a = rows[u * 8 + j];
+        let b = rows[v * 8 + j];
+        add_bits(a & b, 64 * j, counts);
+        add_bits(a ^ b, 512 + 64 * j, counts);
+        j += 1;
+    }
+}
+
+// Counts each of the first m edges, for the groups of the first `words` words of the rows.
+fn count_edges(rows: &[u64], edges: &[u8], m: usize, words: usize, counts: &mut [u32])
+    requires { ⌜ (length (now rows) ≡ 4096) × ((words ≤ 8) × (Ends (now edges) m × (now counts ≡ replicate 1024 0))) ⌝ }
+    ensures { λ _. ⌜ EdgesCounted (now (rows .entry)) (now (edges .entry)) m words (now (counts .exit)) ⌝ }
+{
+    let mut k: usize = 0;
+    while k < m {
+        let u = crate::wide(fields::read2(edges, 4 * k));
+        let v = crate::wide(fields::read2(edges, 4 * k + 2));
+        count_edge(rows, u, v, words, counts);
+        k += 1;
+    }
+}
+
+// Counts the tied pairs and the leaving edges of each of the first `groups` groups, over the first m edge records of an image.
+pub(crate) fn count_groups<'a>(
+    edges: &'a [u8],
+    m: usize,
+    starts: &'a [u32],
+    members: &'a [u16],
+    groups: usize,
+    counts: &mut [u32],
+)
+    requires { ⌜ (groups ≤ 512) × (Ends (now edges) m × (now counts ≡ replicate 1024 0)) ⌝ }
+    ensures { λ _. ⌜ GroupsCounted (now (edges .entry)) m (now (starts .entry)) (now (members .entry)) groups (now (counts .exit)) ⌝ }
+{
+    let mut rows = [0u64; 4096];
+    mark_groups(&mut rows, starts, members, groups);
+    count_edges(&rows, edges, m, (groups + 63) / 64, counts);
+}
