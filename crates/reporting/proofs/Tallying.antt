@@ -87,14 +87,12 @@ joined-more rows₀ rows l k i size h q held = record {
 
 pub rows-none : (f : ℕ → ℕ → Bool) → Table (replicate 4096 0) (λ v j. ltb j 0 && f v j)
 rows-none f = record {
-  size = length-replicate {A = ℕ} 4096 0;
   bits = λ v j h l. bitAt-zeros 4096 (v * 512 + j) ∙ sym (ap (λ (b : Bool). bit (b && f v j)) (le-ltb j 0 (omega arith)));
 }
 
 pub rows-more : (f : ℕ → ℕ → Bool) (rows rows′ l : List ℕ) (k : ℕ) → ((v : ℕ) → contains v l ≡ f v k)
     → Table rows (λ v j. ltb j k && f v j) → Joined rows l k rows′ → Table rows′ (λ v j. ltb j (k + 1) && f v j)
 rows-more f rows rows′ l k same t g = record {
-  size = g .size ∙ t .size;
   bits = λ v j h q.
       g .bits v j h q
       ∙ ap₂ (λ (x : ℕ) (b : Bool). bit (eqb x 1 || (eqb j k && b))) (t .bits v j h q) (same v)

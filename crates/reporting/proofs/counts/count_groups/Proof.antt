@@ -22,7 +22,7 @@ count-edges-requires : tie.Need-count-edges-requires
 count-edges-requires c κs =
     let marked = c .before .before .before in
     let pre = marked .before .before .before .before .before .before .pre in
-    (marked .mark-groups .ensures .size, (omega arith, (pre .1 .0, pre .1 .1)))
+    (marked .mark-groups .kept .0, (omega arith, (pre .1 .0, pre .1 .1)))
 
 same-length : tie.Need-same-length
 same-length c = omega arith

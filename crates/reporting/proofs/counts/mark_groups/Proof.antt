@@ -14,7 +14,7 @@ use Rattle.reporting.proofs.counts.mark_groups.Statement.{statement}
 use Rattle.reporting.proofs.counts.mark_groups.Tie as tie
 
 abbrev Inv-loop : tie.InvT-loop
-Inv-loop rows₀ starts members groups k₀ rows k = (k ≤ groups) × Table rows (λ v j. ltb j k && contains v (membersOf starts members j))
+Inv-loop rows₀ starts members groups k₀ rows k = (k ≤ groups) × (length rows ≡ 4096) × Table rows (λ v j. ltb j k && contains v (membersOf starts members j))
 
 abbrev μ-loop : tie.MeasureT-loop
 μ-loop rows₀ starts members groups k₀ rows k = groups - k
@@ -23,13 +23,13 @@ loop-holds : tie.Need-loop-holds Inv-loop μ-loop
 loop-holds c =
     let start = c .before .before .before in
     let a = start .args in
-    (omega arith, rw (start .pre .1) (rows-none (λ v j. contains v (membersOf (now (a .starts)) (now (a .members)) j))))
+    (omega arith, ap length (start .pre .1) ∙ length-replicate {A = ℕ} 4096 0, rw (start .pre .1) (rows-none (λ v j. contains v (membersOf (now (a .starts)) (now (a .members)) j))))
 
 members-requires : tie.Need-members-requires Inv-loop μ-loop
 members-requires c κs = tt
 
 mark-members-requires : tie.Need-mark-members-requires Inv-loop μ-loop
-mark-members-requires c κs = (c .before .before .before .loop .inv .1 .size, omega arith)
+mark-members-requires c κs = (c .before .before .before .loop .inv .1, omega arith)
 
 add-k : tie.Need-add-k Inv-loop μ-loop
 add-k c = omega arith
@@ -43,18 +43,19 @@ loop-again c =
     let l = at-loop .loop in
     let a = at-loop .before .before .before .before .args in (
       omega arith,
+      c .before .before .mark-members .kept .0 ∙ l .inv .1,
       rows-more (λ v j. contains v (membersOf (now (a .starts)) (now (a .members)) j)) (l .rows) _ _ (l .k)
-          (λ v. ap (contains v) (c .before .before .before .members .ensures)) (l .inv .1) (c .before .before .mark-members .ensures),
+          (λ v. ap (contains v) (c .before .before .before .members .ensures)) (l .inv .2) (c .before .before .mark-members .ensures),
     )
 
 same-length : tie.Need-same-length Inv-loop μ-loop
-same-length c = c .before .loop .inv .1 .size ∙ sym (ap length (c .before .before .before .before .before .pre .1) ∙ length-replicate {A = ℕ} 4096 0)
+same-length c = c .before .loop .inv .1 ∙ sym (ap length (c .before .before .before .before .before .pre .1) ∙ length-replicate {A = ℕ} 4096 0)
 
 returns : tie.Need-returns Inv-loop μ-loop
 returns c =
     let a = c .before .before .before .before .before .args in
     let e : c .before .loop .k ≡ a .groups = omega arith in
-    subst (λ (n : ℕ). Table (c .before .loop .rows) (λ v k. ltb k n && contains v (membersOf (now (a .starts)) (now (a .members)) k))) e (c .before .loop .inv .1)
+    subst (λ (n : ℕ). Table (c .before .loop .rows) (λ v k. ltb k n && contains v (membersOf (now (a .starts)) (now (a .members)) k))) e (c .before .loop .inv .2)
 
 pub mark-groups-spec : {M : Type 1} → statement M
 mark-groups-spec =
