@@ -2,11 +2,10 @@
 -- found are its communities, so the counts, the tables and the roles are those of the definitions.
 use Prim.Native.Nat.{ℕ, zero, suc, _≤_, _<_}
 use native.Mathlib.Omega.{arith}
-use native.Mathlib.Decide.{ℕ-discrete}
 use mathlib.Core.Path.{_≡_, refl, sym, ap, ap₂, _∙_, subst}
 use mathlib.Core.Bool.{Bool, true, false, _&&_, cond}
 use mathlib.Core.List.{List}
-use lib.Dec.{T, ltb, eqb, lt→ltb, ltb→lt, not-T}
+use lib.Dec.{ltb, eqb, lt→ltb, ltb→lt, not-T}
 use lib.ListN.{length}
 use Rattle.sets.specs.Below.{bit}
 use Rattle.sets.specs.Bits.{bitAt}
@@ -19,10 +18,9 @@ use Rattle.image.specs.declared.Refusal.{Refusal}
 use Rattle.image.specs.declared.Opened.{Opened}
 use Rattle.image.specs.declared.Opened.the-variants as O
 use Rattle.image.proofs.Acceptance.{opened, accepted, accepted-fits}
-use Rattle.community.specs.Network.{Network, isCore, role, neighbourhoodSize, communityNumber, membershipCount, borderOf}
+use Rattle.community.specs.Network.{isCore, role, neighbourhoodSize, communityNumber, membershipCount, borderOf}
 use Rattle.community.specs.Tables.{startTable, memberTable}
 use Rattle.community.specs.Site.{network}
-use Rattle.community.specs.declared.Role.{Role}
 use Rattle.community.specs.declared.Role.the-variants.{Core, Border}
 use Rattle.community.specs.declared.Standing.{Standing}
 use Rattle.planner.specs.Plan.{PlanCall, CoreWords, communitiesOf, planOf, planFor, planned, byRoom, startsAfter, membersAfter, tableFor, over, coreFor, knownOf, knownFor, standing, refusal}
@@ -31,7 +29,6 @@ use Rattle.planner.specs.Held.{SetOf, coreIn, Survey, Found, rowsOf, rol
 use Rattle.planner.specs.Groups.{GroupsFound}
 use Rattle.planner.specs.declared.Planned.{Planned}
 use Rattle.planner.specs.declared.Planned.the-variants as P
-use Rattle.planner.specs.declared.Known.{Known}
 use Rattle.planner.specs.declared.Known.the-variants as K
 use Rattle.planner.proofs.Listing.{grouped-rows}
 

@@ -6,26 +6,30 @@
 --     linked-none, linked-more     the table of no edge, and of one edge more; linked-fault: its cell is set before only where the edge is a loop or a repeat
 --     added-no, added-yes          what adding the edges tells, where an edge is at fault and where none is
 --     dropped-none, dropped-more   a table without no edge, and without one edge more
---     selves-none, selves-more     each handset with itself; passed-none, passed-on: a set of those that pass a test
-use Prim.Native.Nat.{ℕ, zero, suc, _+_, _*_, _-_, _≤_, _<_}
+--     selves-none, selves-more     each handset with itself; word-none, -yes, -no, filled-none, -more: a word and a set of those that pass a test
+use Prim.Native.Nat.{ℕ, zero, suc, _+_, _*_, _-_, _/_, _%_, _^_, _≤_, _<_}
 use native.Mathlib.Omega.{arith}
+use native.Mathlib.Nat.{mod-lt, zero-lt-suc, zero-mul}
 use native.Mathlib.Numerals.{add-one}
 use native.Mathlib.Decide.{ℕ-discrete}
 use mathlib.Core.Path.{_≡_, refl, sym, ap, ap₂, _∙_, subst}
 use mathlib.Core.Logic.{_⊎_, inl, inr, ⊎-elim}
-use mathlib.Core.Bool.{Bool, true, false, _&&_, _||_, not, cond, and-true, or-false}
+use mathlib.Core.Bool.{Bool, true, false, _&&_, _||_, not, and-true, or-false}
 use mathlib.Core.List.{List}
 use lib.Dec.{T, ltb, eqb, ltb→lt, lt→ltb, eqb→eq, eqb-refl, T-not, not-T}
-use lib.ListN.{length, getD, length-replicate}
+use lib.Bits.{bitOr, or-zero-r}
+use lib.ListN.{length, getD, set, length-set, length-replicate}
+use lib.Seq.{getD-set-same, getD-set-other}
 use Rattle.sets.specs.Below.{any, bit}
-use Rattle.sets.specs.Bits.{bitAt, cell, withBit, withoutBit}
-use Rattle.sets.proofs.Tests.{and-make, and-left, and-right, or-left, or-right, or-cases, decide, T-true, T-false, T-ext, any-make, any-cong, eqb-of, eqb-not}
+use Rattle.sets.specs.Bits.{bitOf, bitAt, cell, withBit, withoutBit}
+use Rattle.sets.proofs.Tests.{and-make, and-left, and-right, or-left, or-right, or-cases, T-true, T-false, T-ext, any-make, any-cong, eqb-of, eqb-not}
 use Rattle.sets.proofs.Counting.{bit-true, bit-false}
-use Rattle.sets.proofs.Bits.{bitAt-set-same, bitAt-set-other, bitAt-clear-same, bitAt-clear-other, length-withBit, length-withoutBit, bitAt-lt, bitAt-zeros, zeros}
+use Rattle.sets.proofs.Bits.{bitOf-set-same, bitOf-set-other, shl-one, word-bit, bitAt-set-same, bitAt-set-other, bitAt-clear-same, bitAt-clear-other, length-withBit, length-withoutBit, bitAt-lt, bitAt-zeros, zeros}
 use Rattle.image.specs.Image.{endA, endB, joins}
 use Rattle.image.specs.Questions.{badEnd, isLoop, repeatsEarlier}
 use Rattle.community.proofs.Site.{joins-comm}
-use Rattle.planner.specs.Held.{Empty, SetOf, Table, Counted, linked, faulty, Added, Dropped}
+use Rattle.planner.specs.Held.{Empty, WordOf, SetOf, Table, Counted, linked, faulty, Added, Dropped}
+use Rattle.planner.proofs.Lowest.{bitOf-none}
 use Rattle.planner.proofs.Rows.{empty-bit}
 
 -- ---- the ends of an edge, either way round
@@ -278,32 +282,58 @@ pub selves-new : (ws : List ℕ) (k : ℕ) → k < 512 → Table ws (λ u v. ltb
 selves-new ws k h t =
     t .bits k k h h ∙ bit-false (ltb k k && eqb k k) (not-T (ltb k k && eqb k k) (λ x. omega (arith, ltb→lt k k (and-left (ltb k k) (eqb k k) x))))
 
--- ---- a set of those below k that pass a test
-pub passed-none : (f : ℕ → Bool) → SetOf (zeros 8) (λ u. ltb u 0 && f u)
-passed-none f = record { size = length-replicate {A = ℕ} 8 0; bits = λ u h. bitAt-zeros 8 u ∙ ap bit (sym (none-below u (f u))) }
+-- ---- a word and a set of those below k that pass a test
+pub word-none : (f : ℕ → Bool) → WordOf 0 (λ i. ltb i 0 && f i)
+word-none f = record { bits = λ i h. bitOf-none i ∙ ap bit (sym (none-below i (f i))) }
 
-passed-yes : (ws : List ℕ) (f : ℕ → Bool) (k : ℕ) → k < 512 → T (f k) → SetOf ws (λ u. ltb u k && f u) → SetOf (withBit ws k) (λ u. ltb u (k + 1) && f u)
-passed-yes ws f k hk y t = record { size = length-withBit ws k ∙ t .size; bits = λ u h. go u h (ℕ-discrete u k) }
+-- one number more, and its bit as the code makes it
+module _ (w : ℕ) (f : ℕ → Bool) (k : ℕ) (hk : k < 64) (t : WordOf w (λ i. ltb i k && f i)) where
+  pub word-yes : T (f k) → WordOf (bitOr w (1 * 2 ^ k % 2 ^ 64)) (λ i. ltb i (k + 1) && f i)
+  word-yes y = record { bits = λ i h. ap (λ (x : ℕ). bitOf (bitOr w x) i) (shl-one k hk) ∙ go i h (ℕ-discrete i k) }
+    where
+      go : (i : ℕ) → i < 64 → Dec (i ≡ k) → bitOf (bitOr w (2 ^ k)) i ≡ bit (ltb i (k + 1) && f i)
+      go i h (yes e) =
+          ap (bitOf (bitOr w (2 ^ k))) e ∙ bitOf-set-same w k
+          ∙ sym (bit-true (ltb i (k + 1) && f i) (and-make (ltb i (k + 1)) (f i) (next-self k i e) (rw e y)))
+      go i h (no d) = bitOf-set-other w k i d ∙ t .bits i h ∙ ap (λ (x : Bool). bit (x && f i)) (sym (next-other k i d))
+
+  pub word-no : T (not (f k)) → WordOf (bitOr w (0 * 2 ^ k % 2 ^ 64)) (λ i. ltb i (k + 1) && f i)
+  word-no n = record {
+    bits = λ i h.
+        ap (λ (x : ℕ). bitOf (bitOr w x) i) (ap (λ (x : ℕ). x % 2 ^ 64) (zero-mul (2 ^ k)))
+        ∙ ap (λ (x : ℕ). bitOf x i) (or-zero-r w) ∙ t .bits i h ∙ go i (ℕ-discrete i k);
+  }
+    where
+      go : (i : ℕ) → Dec (i ≡ k) → bit (ltb i k && f i) ≡ bit (ltb i (k + 1) && f i)
+      go i (no d) = ap (λ (x : Bool). bit (x && f i)) (sym (next-other k i d))
+      go i (yes e) =
+          ap bit (T-ext (ltb i k && f i) (ltb i (k + 1) && f i)
+          (λ x. absurd (omega (arith, ltb→lt i k (and-left (ltb i k) (f i) x))))
+          (λ x. absurd (T-not (f k) n (rw (← e) (and-right (ltb i (k + 1)) (f i) x)))))
+
+-- the first j words of a set are filled, and the others are empty
+pub filled-none : (f : ℕ → Bool) → SetOf (zeros 8) (λ u. ltb u (0 * 64) && f u)
+filled-none f = record { size = length-replicate {A = ℕ} 8 0; bits = λ u h. bitAt-zeros 8 u ∙ ap bit (sym (none-below u (f u))) }
+
+other-word : (ws : List ℕ) (j w u : ℕ) → (u / 64 ≡ j → ⊥) → bitAt (set ws j w) u ≡ bitAt ws u
+unfolding bitAt
+other-word ws j w u d = ap (λ (x : ℕ). bitOf x (u % 64)) (getD-set-other ws j (u / 64) w 0 d)
+
+pub filled-more : (ws : List ℕ) (w : ℕ) (f : ℕ → Bool) (j : ℕ) → j < 8 → WordOf w (λ k. f (64 * j + k)) → SetOf ws (λ u. ltb u (j * 64) && f u)
+    → SetOf (set ws j w) (λ u. ltb u ((j + 1) * 64) && f u)
+filled-more ws w f j hj t s = record { size = length-set ws j w ∙ s .size; bits = λ u h. go u h (ℕ-discrete (u / 64) j) }
   where
-    go : (u : ℕ) → u < 512 → Dec (u ≡ k) → bitAt (withBit ws k) u ≡ bit (ltb u (k + 1) && f u)
+    go : (u : ℕ) → u < 512 → Dec (u / 64 ≡ j) → bitAt (set ws j w) u ≡ bit (ltb u ((j + 1) * 64) && f u)
     go u h (yes e) =
-        ap (bitAt (withBit ws k)) e ∙ bitAt-set-same ws k (omega (arith, t .size))
-        ∙ sym (bit-true (ltb u (k + 1) && f u) (and-make (ltb u (k + 1)) (f u) (next-self k u e) (rw e y)))
-    go u h (no d) = bitAt-set-other ws k u d ∙ t .bits u h ∙ ap (λ (x : Bool). bit (x && f u)) (sym (next-other k u d))
-
-passed-no : (ws : List ℕ) (f : ℕ → Bool) (k : ℕ) → T (not (f k)) → SetOf ws (λ u. ltb u k && f u) → SetOf ws (λ u. ltb u (k + 1) && f u)
-passed-no ws f k n t = record { size = t .size; bits = λ u h. t .bits u h ∙ go u (ℕ-discrete u k) }
-  where
-    go : (u : ℕ) → Dec (u ≡ k) → bit (ltb u k && f u) ≡ bit (ltb u (k + 1) && f u)
-    go u (no d) = ap (λ (x : Bool). bit (x && f u)) (sym (next-other k u d))
-    go u (yes e) =
-        ap bit (T-ext (ltb u k && f u) (ltb u (k + 1) && f u)
-        (λ x. absurd (omega (arith, ltb→lt u k (and-left (ltb u k) (f u) x))))
-        (λ x. absurd (T-not (f k) n (rw (← e) (and-right (ltb u (k + 1)) (f u) x)))))
-
-pub passed-on : (ws : List ℕ) (f : ℕ → Bool) (k : ℕ) → k < 512 → SetOf ws (λ u. ltb u k && f u) → SetOf (cond (f k) (withBit ws k) ws) (λ u. ltb u (k + 1) && f u)
-passed-on ws f k h t =
-    ⊎-elim
-    (λ y. rw (T-true (f k) y) (passed-yes ws f k h y t))
-    (λ z. rw (T-false (f k) z) (passed-no ws f k z t))
-    (decide (f k))
+        let i : j * 64 + u % 64 ≡ u = omega arith in
+        let i′ : 64 * j + u % 64 ≡ u = omega arith in
+        let l : u % 64 < 64 = mod-lt u (zero-lt-suc 63) in
+        ap (bitAt (set ws j w)) (sym i) ∙ word-bit (set ws j w) j (u % 64) l
+        ∙ ap (λ (x : ℕ). bitOf x (u % 64)) (getD-set-same ws j w 0 (omega (arith, s .size)))
+        ∙ t .bits (u % 64) l ∙ ap (λ (x : ℕ). bit (f x)) i′
+        ∙ ap (λ (b : Bool). bit (b && f u)) (sym (T-true (ltb u ((j + 1) * 64)) (lt→ltb u ((j + 1) * 64) (omega arith))))
+    go u h (no d) =
+        other-word ws j w u d ∙ s .bits u h
+        ∙ ap (λ (b : Bool). bit (b && f u)) (T-ext (ltb u (j * 64)) (ltb u ((j + 1) * 64))
+        (λ x. lt→ltb u ((j + 1) * 64) (omega (arith, ltb→lt u (j * 64) x)))
+        (λ x. lt→ltb u (j * 64) (omega (arith, ltb→lt u ((j + 1) * 64) x, d))))

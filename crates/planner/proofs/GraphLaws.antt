@@ -25,7 +25,7 @@ use Rattle.sets.specs.Bits.{bitAt, cell}
 use Rattle.sets.proofs.Tests.{and-make, and-left, and-right, or-left, or-right, or-cases, decide, T-true, T-false, T-ext, any-make, any-take, any-none, none-any, not-any, eqb-comm}
 use Rattle.sets.proofs.Counting.{bit-false, count-cong, count-sum, count-wide, count-at, sum-cong}
 use Rattle.fields.specs.Fields.{coreSize}
-use Rattle.image.specs.Image.{handsetCount, edgeCount, imageLength, limitSquared, epsilonNum, epsilonDen, muField, mu, handsetRecords, edgeRecords, gap, xAt, yAt, distanceAt, distanceSquared, endA, endB, joins, adjacent, within, neighbour}
+use Rattle.image.specs.Image.{handsetCount, edgeCount, imageLength, limitSquared, epsilonNum, epsilonDen, muField, mu, handsetRecords, edgeRecords, xAt, yAt, distanceAt, distanceSquared, endA, endB, joins, adjacent, within, neighbour}
 use Rattle.image.specs.Questions.{Accepted, headerOf, outOfLimits, badEnd, isLoop, repeatsEarlier}
 use Rattle.image.specs.declared.Header.{Header}
 use Rattle.image.proofs.Acceptance.{Fits, Checked, checked-fits, ends-below, x-limits, y-limits}

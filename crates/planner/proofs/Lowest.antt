@@ -5,7 +5,7 @@
 --     bitOf-none     0 has no bit set
 --     cleared w t    w with bit t cleared, as the code makes it; cleared-is: that is `without`
 --     cleared-lt, cleared-le, cleared-same, cleared-other, cleared-falls     it fits, has no other bit than w, not bit t, and one bit less
-use Prim.Native.Nat.{ℕ, zero, suc, _+_, _*_, _/_, _%_, _^_, _≤_, _<_}
+use Prim.Native.Nat.{ℕ, zero, suc, _*_, _/_, _%_, _^_, _≤_, _<_}
 use mathlib.Core.Path.{_≡_, refl, sym, ap, _∙_, subst}
 use native.Mathlib.Omega.{arith}
 use native.Mathlib.Numerals.{add-one}

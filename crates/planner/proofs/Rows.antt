@@ -4,17 +4,17 @@
 --     counted-none, counted-add     the sizes of an empty table, and with a bit more
 --     row-bit, counted-out          a row's size is at least any of its bits, and without it
 --     row-most                      no size is above 512
---     one-is, zero-is               a bit as the test for it tells
+--     zero-is                       a bit that the test for it tells to be 0
 --     common-more, common-few       the marks that two rows have in common, counted a word at a time, and no further than there are any
 use Prim.Native.Nat.{ℕ, zero, suc, _+_, _*_, _-_, _/_, _%_, _^_, _≤_, _<_, min}
 use native.Mathlib.Omega.{arith}
 use native.Mathlib.Decide.{ℕ-discrete}
 use mathlib.Core.Path.{_≡_, refl, sym, ap, ap₂, _∙_, subst}
-use mathlib.Core.Bool.{Bool, true, false, not}
+use mathlib.Core.Bool.{Bool, false, not}
 use mathlib.Core.List.{List}
 use lib.Bits.{bitAnd, and-lt}
 use lib.Count.{ones}
-use lib.Dec.{T, eqb, eqb→eq, T-not}
+use lib.Dec.{T, eqb, T-not}
 use lib.ListN.{length, getD, set}
 use lib.Seq.{getD-set-same, getD-set-other}
 use Rattle.sets.specs.Below.{sum}
@@ -109,10 +109,7 @@ pub row-most : {ws sizes : List ℕ} → Counted ws sizes → (u : ℕ) → u < 
 row-most {ws} {sizes} c u h =
     omega (arith, c .rows u h, sum-le 512 (λ v. cell ws u v) (λ v. 1) (λ v l. omega (arith, bitAt-lt ws (u * 512 + v))), sum-const 512 1)
 
--- a bit as the test for it tells
-pub one-is : (x : ℕ) → eqb x 1 ≡ true → x ≡ 1
-one-is x e = eqb→eq x 1 (subst (λ (b : Bool). T b) (sym e) tt)
-
+-- a bit that the test for it tells to be 0
 pub zero-is : (x : ℕ) → x < 2 → eqb x 1 ≡ false → x ≡ 0
 zero-is x h e = let d : x ≡ 1 → ⊥ = λ p. T-not (eqb x 1) (subst (λ (b : Bool). T (not b)) (sym e) tt) (eqb-of x 1 p) in omega (arith, d)
 

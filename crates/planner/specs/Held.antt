@@ -1,7 +1,7 @@
 -- What the planner's working tables hold, for the contracts inside the crate.
 --
 --     Empty ws                each word is 0
---     SetOf ws f              eight words hold the v below 512 that pass f
+--     WordOf w f              the word holds the k below 64 that pass f; SetOf ws f: eight words hold the v below 512 that do
 --     Table ws f              rows of eight words hold the relation f between numbers below 512; a row past the last is empty
 --     Counted ws sizes        the sizes are those of the rows
 --     Room ws sizes u         u has a row in the table and a place among the sizes
@@ -26,16 +26,19 @@ use mathlib.Core.List.{List, [], _∷_, _++_}
 use lib.Dec.{T, leb, ltb, eqb}
 use lib.ListN.{length, getD}
 use Rattle.sets.specs.Below.{any, bit, select, sum}
-use Rattle.sets.specs.Bits.{bitAt, cell}
+use Rattle.sets.specs.Bits.{bitOf, bitAt, cell}
 use Rattle.image.specs.Image.{handsetCount, edgeCount, handsetRecords, edgeRecords, gap, xAt, yAt, endA, endB, joins, within}
 use Rattle.image.specs.Questions.{outOfLimits, badEnd, isLoop, repeatsEarlier, Accepted}
-use Rattle.community.specs.Network.{Network, neighbourhoodSize, similar, isCore, reachable, leaders, communityNumber, membershipCount, borderOf}
+use Rattle.community.specs.Network.{Network, similar, isCore, reachable, leaders, communityNumber, membershipCount, borderOf}
 use Rattle.community.specs.Site.{network}
 use Rattle.community.specs.declared.Role.{Role}
 use Rattle.community.specs.declared.Role.the-variants.{Core}
 
 pub record Empty (ws : List ℕ) : Type 0 where
   pub zeros : (i : ℕ) → getD ws i 0 ≡ 0
+
+pub record WordOf (w : ℕ) (f : ℕ → Bool) : Type 0 where
+  pub bits : (k : ℕ) → k < 64 → bitOf w k ≡ bit (f k)
 
 pub record SetOf (ws : List ℕ) (f : ℕ → Bool) : Type 0 where
   pub size : length ws ≡ 8

@@ -5,7 +5,7 @@
 // time they are listed first, by a loop that does not branch on the test, so that the processor has nothing to guess. The tables are lent, with room
 // for the site's handsets and edges, so that the caller clears no more than the site needs.
 ghost use mathlib.Core.Path.{_≡_};
-ghost use mathlib.Core.Bool.{_&&_, not, cond};
+ghost use mathlib.Core.Bool.{_&&_, not};
 ghost use Prim.Native.Nat.{ℕ, _+_, _*_, _-_, _≤_, _<_, min};
 ghost use lib.Dec.{leb, ltb, eqb};
 ghost use lib.ListN.{length, getD, replicate};
@@ -14,7 +14,7 @@ ghost use Rattle.sets.specs.Bits.{cell, withBit, withoutBit};
 ghost use Rattle.image.specs.Image.{handsetRecords, edgeRecords, xAt, yAt, gap, endA, endB};
 ghost use Rattle.image.specs.Questions.{Accepted, openHeader, headerOf};
 ghost use Rattle.community.specs.Site.{network};
-ghost use Rattle.planner.specs.Held.{Empty, SetOf, Table, Counted, Room, Stands, linked, Added, Positions, Placed, apart, NetworkRead, Picks, Dropped, NearKept, enough, Survey};
+ghost use Rattle.planner.specs.Held.{Empty, WordOf, SetOf, Table, Counted, Room, Stands, linked, Added, Positions, Placed, apart, NetworkRead, Picks, Dropped, NearKept, enough, Survey};
 use image::Header;
 use image::Opened;
 
@@ -285,13 +285,20 @@ fn list_unlike<'a>(
     list_unlike_words(edges, table, sizes, 1, h.p, h.q, count, list)
 }
 
-// Adds u to a set of eight words or leaves it as it is, without a branch.
-fn mark_if(set: &mut [u64], u: usize, yes: bool)
-    requires { ⌜ (u < 512) × (length (now set) ≡ 8) ⌝ }
-    ensures { λ _. ⌜ now (set .exit) ≡ cond yes (withBit (now (set .entry)) u) (now (set .entry)) ⌝ }
+// The handsets from `base` on whose size is at least mu, as a word: 64 of them, or as many as there are below n. It is made without a branch.
+fn core_word(sizes: &[u32], base: usize, n: usize, mu: u32) -> u64
+    requires { ⌜ (n ≤ length (now sizes)) × (n ≤ 512) × (base < n) ⌝ }
+    ensures { λ r. ⌜ WordOf r (λ k. ltb (base + k) n && leb mu (getD (now (sizes .entry)) (base + k) 0)) ⌝ }
 {
-    let one = if yes { 1u64 } else { 0u64 };
-    set[u / 64] = set[u / 64] | (one << (u % 64));
+    let end = if n - base < 64 { n - base } else { 64 };
+    let mut word: u64 = 0;
+    let mut k: usize = 0;
+    while k < end {
+        let one = if mu <= sizes[base + k] { 1u64 } else { 0u64 };
+        word = word | (one << k);
+        k += 1;
+    }
+    word
 }
 
 // Fills the empty set `cores` with the handsets below n whose size is at least mu.
@@ -299,10 +306,10 @@ fn mark_cores(sizes: &[u32], n: usize, mu: u32, cores: &mut [u64])
     requires { ⌜ (n ≤ length (now sizes)) × (n ≤ 512) × (now cores ≡ replicate 8 0) ⌝ }
     ensures { λ _. ⌜ SetOf (now (cores .exit)) (λ u. ltb u n && leb mu (getD (now (sizes .entry)) u 0)) ⌝ }
 {
-    let mut u = 0;
-    while u < n {
-        mark_if(cores, u, mu <= sizes[u]);
-        u += 1;
+    let mut j: usize = 0;
+    while 64 * j < n {
+        cores[j] = core_word(sizes, 64 * j, n, mu);
+        j += 1;
     }
 }
 

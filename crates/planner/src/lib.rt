@@ -80,7 +80,15 @@ fn plan_small(image: &[u8], h: Header, starts: &mut [u32], members: &mut [u16]) 
     let mut table = [0u64; 512];
     let mut sizes = [0u32; 64];
     plan_in(
-        image, h, &mut xs, &mut ys, &mut list, &mut table, &mut sizes, starts, members,
+        image,
+        h,
+        &mut xs,
+        &mut ys,
+        &mut list,
+        &mut table,
+        &mut sizes,
+        starts,
+        members,
     )
 }
 
@@ -95,7 +103,15 @@ fn plan_middle(image: &[u8], h: Header, starts: &mut [u32], members: &mut [u16])
     let mut table = [0u64; 2048];
     let mut sizes = [0u32; 256];
     plan_in(
-        image, h, &mut xs, &mut ys, &mut list, &mut table, &mut sizes, starts, members,
+        image,
+        h,
+        &mut xs,
+        &mut ys,
+        &mut list,
+        &mut table,
+        &mut sizes,
+        starts,
+        members,
     )
 }
 
@@ -110,7 +126,15 @@ fn plan_full(image: &[u8], h: Header, starts: &mut [u32], members: &mut [u16]) -
     let mut table = [0u64; 4096];
     let mut sizes = [0u32; 512];
     plan_in(
-        image, h, &mut xs, &mut ys, &mut list, &mut table, &mut sizes, starts, members,
+        image,
+        h,
+        &mut xs,
+        &mut ys,
+        &mut list,
+        &mut table,
+        &mut sizes,
+        starts,
+        members,
     )
 }
 
@@ -181,11 +205,17 @@ pub fn role(image: &[u8], v: usize) -> Known
             place: 0,
         });
     }
-    let near = graph::keep_near(
-        image, h, &xs, &ys, &mut list, &mut table, &mut sizes,
-    );
+    let near = graph::keep_near(image, h, &xs, &ys, &mut list, &mut table, &mut sizes);
     let neighbours = sizes[v];
-    graph::keep_similar(image, h, near, &mut list, &mut table, &mut sizes, &mut cores);
+    graph::keep_similar(
+        image,
+        h,
+        near,
+        &mut list,
+        &mut table,
+        &mut sizes,
+        &mut cores,
+    );
     let count = groups::find_groups(&mut table, &cores, h.n as usize);
     let role = role_in(&cores, &table, count, v);
     Known::Handset(Standing { neighbours, role })

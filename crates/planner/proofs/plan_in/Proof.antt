@@ -8,7 +8,7 @@ use Rattle.image.specs.declared.Header.{Header}
 use Rattle.image.specs.declared.Opened.the-variants as O
 use Rattle.image.proofs.Acceptance.{header-yes, accepted-fits}
 use Rattle.planner.proofs.Calls.{plan-refused, cores-refused, refused-of, found-of, plan-found, cores-found}
-use Rattle.planner.proofs.GraphLaws.{Read, header-is, is-yes, keep-ready, cores-end, similar-end}
+use Rattle.planner.proofs.GraphLaws.{is-yes, keep-ready, cores-end, similar-end}
 use native.Mathlib.Omega.{arith}
 use Rattle.planner.proofs.plan_in.Statement.{statement}
 use Rattle.planner.proofs.plan_in.Tie as tie

@@ -1,12 +1,11 @@
 -- `planner::role` meets its contract: a header or a site that is refused ends the call, and of an accepted one the sizes are those of the neighbourhoods
 -- and the rows found are its communities.
-use Prim.Native.Nat.{_≤_, _<_}
+use Prim.Native.Nat.{_<_}
 use mathlib.Core.Path.{_≡_, refl, sym, ap, _∙_, subst}
 use mathlib.Core.Bool.{Bool}
 use lib.Dec.{T}
 use Rattle.image.specs.Image.{handsetCount}
-use Rattle.image.specs.Questions.{openOf, refusalOf, Accepted, headerOf}
-use Rattle.image.specs.declared.Header.{Header}
+use Rattle.image.specs.Questions.{openOf, refusalOf, Accepted}
 use Rattle.image.specs.declared.Opened.the-variants as O
 use Rattle.image.proofs.Acceptance.{Fits, header-no, header-yes, checked-fits}
 use Rattle.planner.proofs.Rows.{empty-zeros}
@@ -143,8 +142,7 @@ keep-similar-requires : tie.Need-keep-similar-requires
 keep-similar-requires c κs =
     let a = c .before .before .before .before .before .before .before .before .before .before .before .before .before .before .before .before .before .before .before .before .before .before .before .before .before .before .before .before .before .before .args in
     let p = header-yes (a .image .now) _ (sym (c .before .before .before .before .before .before .before .before .before .before .before .before .before .before .before .before .before .before .before .before .before .before .before .before .before .before .before .before .open-header .ensures) ∙ c .before .before .before .before .before .before .before .before .before .before .before .before .before .before .before .before .before .before .before .before .before .before .before .before .before .before .header .given .1) in
-    let f = subst Fits (sym (p .1)) (checked-fits (a .image .now) (p .0)) in
-    (
+    let f = subst Fits (sym (p .1)) (checked-fits (a .image .now) (p .0)) in (
       fine (c .before .before .before .before .before .before .before .before .before .before .before .before .before),
       p .1,
       omega (arith, f .m-limit, c .before .before .before .before .before .before .before .keep-near .kept .1 .1 .1 .1 .0),

@@ -1,5 +1,5 @@
 -- `planner::role_in` meets its contract, by the cases of a core, a border and an outlier.
-use mathlib.Core.Path.{_≡_, refl, sym, ap, _∙_}
+use mathlib.Core.Path.{sym, ap, _∙_}
 use Rattle.planner.proofs.Calls.{role-core, role-other, border-some}
 use Rattle.community.specs.Network.{borderOf}
 use borrow.Author.Needs.{needs}

@@ -1,7 +1,6 @@
 -- `planner::graph::add` meets its contract: the word written is the one with the bit, and the row's size goes up by it.
 use Prim.Native.Nat.{ℕ, _*_, _+_, _/_, _%_, _^_}
 use mathlib.Core.Path.{_≡_, ap}
-use mathlib.Core.List.{List}
 use lib.Bits.{bitOr}
 use lib.ListN.{getD, set}
 use native.Mathlib.Nat.{mod-lt, zero-lt-suc}

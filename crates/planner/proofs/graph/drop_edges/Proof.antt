@@ -1,12 +1,10 @@
 -- `planner::graph::drop_edges` meets its contract. After i edges the table is that without the first i edges of the list, with its sizes. The measure is
 -- what is left of the list.
-use Prim.Native.Nat.{ℕ, _+_, _*_, _-_, _≤_, _<_}
+use Prim.Native.Nat.{ℕ, _+_, _*_, _-_, _≤_}
 use mathlib.Core.Path.{_≡_, refl, sym, ap, ap₂, _∙_, subst}
 use mathlib.Core.List.{List}
 use lib.ListN.{length, getD}
 use Rattle.sets.specs.Bits.{withoutBit}
-use Rattle.sets.proofs.Bits.{length-withoutBit}
-use Rattle.image.specs.Image.{endA, endB}
 use Rattle.planner.specs.Held.{Counted, Dropped, Room}
 use Rattle.planner.proofs.Edges.{dropped-none, dropped-more}
 use native.Mathlib.Omega.{arith}
@@ -45,8 +43,7 @@ ends c =
     let l = c .before .before .before .before .loop in
     let p = c .before .end-a .ensures in
     let q = c .end-b .ensures in
-    let t = l .inv .2 .size in
-    (
+    let t = l .inv .2 .size in (
       (omega (arith, b .1 .0, p), omega (arith, b .1 .1, p, t), omega (arith, b .1 .2, p, l .inv .1)),
       (omega (arith, b .2 .0, q), omega (arith, b .2 .1, q, t), omega (arith, b .2 .2, q, l .inv .1)),
     )

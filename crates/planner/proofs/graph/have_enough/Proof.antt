@@ -1,7 +1,7 @@
 -- `planner::graph::have_enough` meets its contract: behind those words the rows have nothing in common, and the marks that they have are tested against the
 -- two sizes.
 use Prim.Native.Nat.{ℕ, _*_}
-use mathlib.Core.Path.{_≡_, _∙_, ap}
+use mathlib.Core.Path.{_∙_, ap}
 use lib.Dec.{leb}
 use lib.ListN.{getD}
 use Rattle.planner.proofs.Rows.{common-few}

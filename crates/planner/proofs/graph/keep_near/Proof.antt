@@ -1,7 +1,6 @@
 -- `planner::graph::keep_near` meets its contract. The positions are those of the image, so the edges listed as too long are just those whose ends are not
 -- within gamma; without them the table of all edges is that of the neighbour relation.
 use Prim.Native.Nat.{ℕ, _≤_}
-use mathlib.Core.Path.{_≡_, refl, _∙_}
 use mathlib.Core.List.{List}
 use lib.ListN.{length}
 use Rattle.planner.proofs.GraphLaws.{Read, header-is, checked-of, edgePart-length, length-ready, list-room, behind, behind-length, behind-picks, near-kept}
@@ -36,8 +35,7 @@ part-edges-end c = let r = facts (c .before .before .before .before .before .bef
 list-by-length-requires : tie.Need-list-by-length-requires
 list-by-length-requires c κs =
     let s = c .before .before .before .before .before .before .before .before .before .before in
-    let a = s .args in
-    (
+    let a = s .args in (
       facts s .fits .m-limit,
       s .pre .0 .2,
       omega (arith, edgePart-length (a .image .now) (a .h) (facts s)),

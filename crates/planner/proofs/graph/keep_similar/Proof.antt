@@ -1,11 +1,10 @@
 -- `planner::graph::keep_similar` meets its contract. The edges listed are just those of the neighbour table whose ends are not similar; without them the
 -- table is that of the similarity relation, and its sizes tell the cores.
 use Prim.Native.Nat.{ℕ, _≤_}
-use mathlib.Core.Path.{_≡_, refl, _∙_}
 use mathlib.Core.List.{List}
 use lib.ListN.{length}
 use Rattle.planner.proofs.Rows.{row-most}
-use Rattle.planner.proofs.GraphLaws.{Read, header-is, checked-of, edgePart-length, list-room, listed-all, rows-end, unlike, unlike-length, unlike-all, survey-made}
+use Rattle.planner.proofs.GraphLaws.{Read, header-is, checked-of, list-room, listed-all, rows-end, unlike, unlike-length, unlike-all, survey-made}
 use native.Mathlib.Omega.{arith}
 use Rattle.planner.proofs.graph.keep_similar.Statement.{statement}
 use Rattle.planner.proofs.graph.keep_similar.Tie as tie
@@ -41,8 +40,10 @@ list-unlike-requires c κs =
     let r = facts s in
     let k = s .pre .5 in (
       (omega (arith, k .most, r .m-is, r .fits .m-limit), omega (arith, k .most, r .m-is, s .pre .2), r .fits .n-limit, omega (arith, r .fits .p-q, r .fits .q-limit), r .fits .q-limit),
-      (list-room (a .image .now) (a .h) (s .pre .0) (s .pre .1) (a .table .now) (a .sizes .now) (s .pre .3) (s .pre .4) (a .list .now) (listed-all (a .image .now) (a .h) (s .pre .0) (s .pre .1) k),
-      (λ u l. row-most (k .counted) u l, rows-end (a .image .now) (a .h) (s .pre .0) (s .pre .1) k)),
+      (
+        list-room (a .image .now) (a .h) (s .pre .0) (s .pre .1) (a .table .now) (a .sizes .now) (s .pre .3) (s .pre .4) (a .list .now) (listed-all (a .image .now) (a .h) (s .pre .0) (s .pre .1) k),
+        (λ u l. row-most (k .counted) u l, rows-end (a .image .now) (a .h) (s .pre .0) (s .pre .1) k),
+      ),
     )
 
 -- the list after the call, which is as long as it was

@@ -3,7 +3,7 @@
 use Prim.Native.Nat.{ℕ, _+_, _-_, _≤_, _<_}
 use mathlib.Core.Path.{_≡_, refl, ap₂, _∙_, subst}
 use mathlib.Core.Logic.{⊎-elim}
-use mathlib.Core.Bool.{Bool, not}
+use mathlib.Core.Bool.{not}
 use lib.Dec.{T, leb, le→leb, leb→le, not-T}
 use lib.ListN.{length, getD, set, length-set}
 use Rattle.image.specs.Image.{endA, endB}
@@ -71,6 +71,10 @@ add-k c = record { fits = omega (arith, c .before .before .before .before .befor
 loop-less : tie.Need-loop-less Inv-loop μ-loop
 loop-less c = omega (arith, c .before .before .before .before .loop-test .taken)
 
+-- a length that is not within the limit
+far : (d limit : ℕ) → limit < d → T (not (leb d limit))
+far d limit h = not-T (leb d limit) (λ t. omega (arith, leb→le d limit t))
+
 loop-again : tie.Need-loop-again Inv-loop μ-loop
 loop-again c =
     let l = c .before .before .before .before .before .loop in
@@ -82,7 +86,7 @@ loop-again c =
     let room : a .m ≤ length (l .list) = omega (arith, s .pre .1, l .inv .2) in
     let lists = ⊎-elim
     (λ w. split-yes (l .list) (l .inv .0) h room (l .inv .3) (l .inv .4) (c .if1 .c) (subst (λ (x : ℕ). T (leb x (a .limit))) d (le→leb (c .before .squared-distance .result) (a .limit) (omega (arith, w .0 .taken)))) (w .1))
-    (λ w. split-no (l .list) (l .inv .0) h room (l .inv .3) (l .inv .4) (c .if1 .c) (subst (λ (x : ℕ). T (not (leb x (a .limit)))) d (not-T (leb (c .before .squared-distance .result) (a .limit)) (λ t. omega (arith, leb→le (c .before .squared-distance .result) (a .limit) t, w .0 .left)))) (w .1))
+    (λ w. split-no (l .list) (l .inv .0) h room (l .inv .3) (l .inv .4) (c .if1 .c) (subst (λ (x : ℕ). T (not (leb x (a .limit)))) d (far (c .before .squared-distance .result) (a .limit) (w .0 .left))) (w .1))
     (c .if1 .came) in (
       ⊎-elim (λ w. omega (arith, w .1, l .inv .0)) (λ w. omega (arith, w .1, l .inv .0)) (c .if1 .came),
       omega arith,

@@ -1,5 +1,4 @@
 -- `planner::graph::list_unlike` meets its contract: a row without numbers from n on has none behind as many words as n needs.
-use mathlib.Core.Path.{_≡_}
 use native.Mathlib.Omega.{arith}
 use Rattle.planner.proofs.graph.list_unlike.Statement.{statement}
 use Rattle.planner.proofs.graph.list_unlike.Tie as tie

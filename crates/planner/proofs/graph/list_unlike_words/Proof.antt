@@ -121,8 +121,7 @@ returns : tie.Need-returns Inv-loop μ-loop
 returns c =
     let l = c .before .loop in
     let a = c .before .before .before .before .before .before .args in
-    let e : l .i ≡ a .count = omega (arith, l .inv .1, c .loop-test .left) in
-    (
+    let e : l .i ≡ a .count = omega (arith, l .inv .1, c .loop-test .left) in (
       omega (arith, l .inv .0, e),
       subst (λ (n : ℕ). Picks (λ x. getD (l .list) x 0) (l .c) (λ x. getD (a .list .now) x 0) n (λ k. not (enough (a .table .now) (a .sizes .now) (a .p) (a .q) (endA (a .edges .now) k) (endB (a .edges .now) k)))) e (l .inv .4),
     )

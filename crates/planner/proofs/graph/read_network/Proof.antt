@@ -5,7 +5,6 @@ use mathlib.Core.Path.{_≡_}
 use Rattle.image.specs.Questions.{headerOf}
 use Rattle.image.proofs.Acceptance.{Checked, header-yes}
 use Rattle.planner.proofs.GraphLaws.{Read, header-is, edgePart-length, handsetPart-length, positions-told, edges-told, not-read, network-read}
-use borrow.Author.Needs.{needs}
 use Rattle.planner.proofs.graph.read_network.Statement.{statement}
 use Rattle.planner.proofs.graph.read_network.Tie as tie
 

@@ -1,6 +1,6 @@
 -- `planner::groups::collect` meets its contract. The set has the row of each number taken out of todo, and nothing else but u, so when no number
 -- of the set is left in todo the set is closed. The measure is the number of numbers in todo.
-use Prim.Native.Nat.{ℕ, _≤_, _<_}
+use Prim.Native.Nat.{ℕ}
 use mathlib.Core.Path.{_≡_, refl, sym, _∙_, subst}
 use mathlib.Core.List.{List}
 use lib.ListN.{length}

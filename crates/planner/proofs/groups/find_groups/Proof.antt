@@ -1,7 +1,7 @@
 -- `planner::groups::find_groups` meets its contract. The rows written are the communities of the leaders below the cores that are left, whose own rows are
 -- as they were; the smallest core left is the next leader, and its closure over the cores left is its community. The measure is the number of cores left.
 use mathlib.Core.Path.{_≡_, refl, sym, ap, _∙_}
-use Prim.Native.Nat.{ℕ, _+_, _*_, _<_}
+use Prim.Native.Nat.{_+_, _*_, _<_}
 use native.Mathlib.Omega.{arith}
 use lib.ListN.{length}
 use Rattle.sets.specs.Below.{sum}

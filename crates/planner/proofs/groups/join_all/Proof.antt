@@ -1,6 +1,6 @@
 -- `planner::groups::join_all` meets its contract. The rows of the bits that are no longer in w are added to the set, and nothing else: a turn adds the row of
 -- the lowest set bit and clears the bit. The measure is how many bits are left.
-use Prim.Native.Nat.{ℕ, _+_, _*_, _<_}
+use Prim.Native.Nat.{_<_}
 use mathlib.Core.Path.{_≡_, sym, _∙_}
 use lib.Count.{trailingZeros}
 use Rattle.sets.specs.Below.{sum}

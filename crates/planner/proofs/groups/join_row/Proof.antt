@@ -1,5 +1,4 @@
 -- `planner::groups::join_row` meets its contract: a row without numbers from n on is empty behind as many words as n needs.
-use mathlib.Core.Path.{_≡_}
 use native.Mathlib.Omega.{arith}
 use Rattle.planner.proofs.groups.join_row.Statement.{statement}
 use Rattle.planner.proofs.groups.join_row.Tie as tie

@@ -92,8 +92,7 @@ loop-again : tie.Need-loop-again Inv-loop μ-loop
 loop-again c =
     let a = c .before .before .before .before .before .before .before .before .before .before .before .before .args in
     let l = c .before .before .before .before .before .before .before .before .loop in
-    let h = low (c .before .before .before .before .before .before .before) in
-    (
+    let h = low (c .before .before .before .before .before .before .before) in (
       omega (arith, h),
       sweeping-on (a .table .now) (a .todo .now) (a .set .now) (l .todo) (l .set) (l .j) (l .inv .1) h (c .before .before .join-all .last .1 .1 .1 .0) (c .before .before .join-all .ensures),
     )

@@ -1,18 +1,15 @@
 -- `reporting::counts::add_bits` meets its contract. The invariant: what a place holds, with the bit that the rest of the word has for it, is what it held with
 -- its bit of the word. A turn adds 1 for the lowest set bit and clears it; the measure is the sum of the bits left.
-use Prim.Native.Nat.{ℕ, _+_, _*_, _%_, _^_, _<_}
+use Prim.Native.Nat.{ℕ, _+_, _^_, _<_}
 use native.Mathlib.Omega.{arith}
 use mathlib.Core.Path.{_≡_, refl, ap, _∙_}
 use lib.ListN.{length, getD, length-set}
-use lib.Bits.{bitAnd, bitXor, xor-lt, and-lt}
 use lib.Count.{trailingZeros}
-use lib.Pow.{pow-lt}
 use Rattle.sets.specs.Below.{sum}
 use Rattle.sets.specs.Bits.{bitOf}
-use Rattle.sets.proofs.Bits.{shl-one, bitOf-clear-same, bitOf-clear-other, sum-drop}
-use Rattle.planner.proofs.Lowest.{lowest}
+use Rattle.planner.proofs.Lowest.{lowest, cleared-is, cleared-lt, cleared-falls}
 use Rattle.reporting.specs.Held.{bitFor}
-use Rattle.reporting.proofs.Tallying.{without, bitFor-le, bitFor-at, raised-more, raised-done}
+use Rattle.reporting.proofs.Tallying.{bitFor-le, bitFor-at, raised-more, raised-done}
 use Rattle.reporting.proofs.counts.add_bits.Statement.{statement}
 use Rattle.reporting.proofs.counts.add_bits.Tie as tie
 
@@ -80,26 +77,8 @@ cast-w c = omega (arith, first (c .before) .0)
 shl-w : tie.Need-shl-w Inv-loop μ-loop
 shl-w c = first (c .before) .0
 
--- the word with the bit cleared, as the code makes it
-abbrev cleared : ℕ → ℕ → ℕ
-cleared w t = bitXor w (bitAnd w (1 * 2 ^ t % 2 ^ 64))
-
-cleared-without : (w t : ℕ) → t < 64 → cleared w t ≡ without w t
-cleared-without w t h = ap (λ (x : ℕ). bitXor w (bitAnd w x)) (shl-one t h)
-
-cleared-lt : (w t : ℕ) → t < 64 → w < 2 ^ 64 → cleared w t < 2 ^ 64
-cleared-lt w t h l = rw (shl-one t h) (xor-lt 64 w (bitAnd w (2 ^ t)) l (and-lt 64 w (2 ^ t) l (pow-lt h)))
-
 loop-less : tie.Need-loop-less Inv-loop μ-loop
-loop-less c =
-    let w : ℕ = c .before .before .loop .w in
-    let t : ℕ = trailingZeros 64 w in
-    let f = first (c .before) in
-    omega (
-      arith,
-      ap (λ (x : ℕ). sum 64 (bitOf x)) (cleared-without w t (f .0)),
-      sum-drop (bitOf w) (bitOf (without w t)) t 64 (f .0) (f .1) (bitOf-clear-same w t) (bitOf-clear-other w t),
-    )
+loop-less c = let f = first (c .before) in cleared-falls (c .before .before .loop .w) (lowestOf (c .before)) (f .0) (f .1)
 
 loop-again : tie.Need-loop-again Inv-loop μ-loop
 loop-again c =
@@ -109,7 +88,7 @@ loop-again c =
     let f = first (c .before) in (
       cleared-lt (l .w) t (f .0) (l .inv .0),
       length-set (l .counts) (a .base + t) _ ∙ l .inv .1,
-      (λ i. rw (cleared-without (l .w) t (f .0)) (raised-more (l .counts) (a .base) (l .w) t (f .0) (f .1) (room (c .before)) i) ∙ l .inv .2 i),
+      (λ i. rw (cleared-is (l .w) t (f .0)) (raised-more (l .counts) (a .base) (l .w) t (f .0) (f .1) (room (c .before)) i) ∙ l .inv .2 i),
     )
 
 same-length : tie.Need-same-length Inv-loop μ-loop
