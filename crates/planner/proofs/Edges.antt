@@ -24,12 +24,11 @@ use Rattle.sets.specs.Below.{any, bit}
 use Rattle.sets.specs.Bits.{bitOf, bitAt, cell, withBit, withoutBit}
 use Rattle.sets.proofs.Tests.{and-make, and-left, and-right, or-left, or-right, or-cases, T-true, T-false, T-ext, any-make, any-cong, eqb-of, eqb-not}
 use Rattle.sets.proofs.Counting.{bit-true, bit-false}
-use Rattle.sets.proofs.Bits.{bitOf-set-same, bitOf-set-other, shl-one, word-bit, bitAt-set-same, bitAt-set-other, bitAt-clear-same, bitAt-clear-other, length-withBit, length-withoutBit, bitAt-lt, bitAt-zeros, zeros}
+use Rattle.sets.proofs.Bits.{bitOf-none, bitOf-set-same, bitOf-set-other, shl-one, word-bit, bitAt-set-same, bitAt-set-other, bitAt-clear-same, bitAt-clear-other, length-withBit, length-withoutBit, bitAt-lt, bitAt-zeros, zeros}
 use Rattle.image.specs.Image.{endA, endB, joins}
 use Rattle.image.specs.Questions.{badEnd, isLoop, repeatsEarlier}
 use Rattle.community.proofs.Site.{joins-comm}
 use Rattle.planner.specs.Held.{Empty, WordOf, SetOf, Table, Counted, linked, faulty, Added, Dropped}
-use Rattle.planner.proofs.Lowest.{bitOf-none}
 use Rattle.planner.proofs.Rows.{empty-bit}
 
 -- ---- the ends of an edge, either way round

@@ -4,13 +4,13 @@
 --     closure-reachable        what is collected from a leader over the cores left is what is reachable from it
 --     Finding                  the loop of find_groups: the rows found so far, for every network with the given tables; u is the smallest core left, and
 --                              rows are written only before it
-use Prim.Native.Nat.{ℕ, zero, suc, _+_, _*_, _-_, _≤_, _<_}
+use Prim.Native.Nat.{ℕ, suc, _+_, _*_, _-_, _≤_, _<_}
 use native.Mathlib.Omega.{arith}
 use native.Mathlib.Decide.{ℕ-discrete, decLt}
 use mathlib.Core.Path.{_≡_, refl, sym, ap, _∙_}
 use mathlib.Core.Bool.{Bool, true, false}
 use mathlib.Core.List.{List, [], _∷_, _++_}
-use lib.Dec.{T, ltb, not-T, lt→ltb, ltb→lt}
+use lib.Dec.{T, ltb, lt→ltb, ltb→lt}
 use lib.ListN.{length, getD, length-append, List·getD-append}
 use lib.Seq.{getD-at}
 use Rattle.sets.specs.Below.{bit, select, sum}
@@ -18,7 +18,7 @@ use Rattle.sets.specs.Bits.{bitAt, cell}
 use Rattle.sets.proofs.Bits.{bitAt-lt, zeros, bitAt-zeros, sum-split}
 use Rattle.sets.proofs.Tests.{and-make, and-left, and-right}
 use Rattle.sets.proofs.Counting.{bit-true, sum-cong, sum-le, sum-zero, sum-const}
-use Rattle.sets.proofs.Selecting.{select-yes, select-no}
+use Rattle.sets.proofs.Selecting.{select-yes, select-same}
 use Rattle.community.specs.Network.{Network, similar, isCore, Reachable, one, more, reachable, isLeader, leaders}
 use Rattle.community.proofs.Reachability.{Reachable-trans, from-below, to-below, reachable-sound, reachable-complete}
 use Rattle.community.specs.Network.{Sound}
@@ -82,20 +82,6 @@ core-take g v t = (ltb→lt v (g .n) (and-left (ltb v (g .n)) (isCore g v) t), a
 core-in : (g : Network) (v : ℕ) → v < g .n → T (isCore g v) → T (coreIn g v)
 unfolding coreIn
 core-in g v h t = and-make (ltb v (g .n)) (isCore g v) (lt→ltb v (g .n) h) t
-
--- ---- what is selected below a bound, where none passes between it and another
-
-select-between : (b d : ℕ) (f : ℕ → Bool) → ((v : ℕ) → b ≤ v → v < d + b → T (f v) → ⊥) → select (d + b) f ≡ select b f
-select-between b zero f h = ap (λ (x : ℕ). select x f) (let e : 0 + b ≡ b = omega arith in e)
-select-between b (suc d) f h =
-    ap (λ (x : ℕ). select x f) (let e : suc d + b ≡ suc (d + b) = omega arith in e)
-    ∙ select-no (d + b) f (not-T (f (d + b)) (h (d + b) (omega arith) (omega arith)))
-    ∙ select-between b d f (λ v l q. h v l (omega arith))
-
-select-same : (b c : ℕ) (f : ℕ → Bool) → b ≤ c → ((v : ℕ) → b ≤ v → v < c → T (f v) → ⊥) → select c f ≡ select b f
-select-same b c f h none =
-    let e : (c - b) + b ≡ c = omega arith in
-    ap (λ (x : ℕ). select x f) (sym e) ∙ select-between b (c - b) f (λ v l q. none v l (omega arith))
 
 -- ---- the communities found so far
 

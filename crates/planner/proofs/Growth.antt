@@ -20,9 +20,9 @@ use Rattle.sets.specs.Below.{sum}
 use Rattle.sets.specs.Bits.{bitOf, bitAt, cell, withBit}
 use Rattle.sets.proofs.Tests.{below}
 use Rattle.sets.proofs.Counting.{sum-le}
-use Rattle.sets.proofs.Bits.{bitOf-lt, bitAt-lt, bitOf-and, bitOf-or, bitOf-xor, word-bit, cell-word, zeros, bitAt-zeros, bitAt-set-same, bitAt-set-other}
+use Rattle.sets.proofs.Bits.{bitOf-none, bitOf-lt, bitAt-lt, bitOf-and, bitOf-or, bitOf-xor, word-bit, cell-word, zeros, bitAt-zeros, bitAt-set-same, bitAt-set-other}
 use Rattle.planner.specs.Groups.{FirstCommon, Joined, JoinedAll, Swept, Stored, Collected}
-use Rattle.planner.proofs.Lowest.{Lowest, bitOf-none, cleared, cleared-lt, cleared-le, cleared-other}
+use Rattle.planner.proofs.Lowest.{Lowest, cleared, cleared-lt, cleared-le, cleared-other}
 
 -- ---- the first word that two sets share a bit of
 

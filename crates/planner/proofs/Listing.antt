@@ -30,7 +30,7 @@ use Rattle.sets.specs.Bits.{bitOf, cell}
 use Rattle.sets.proofs.Tests.{T-ext, and-left, and-right, decide, below, eqb-of, eqb-not}
 use Rattle.sets.proofs.Counting.{count-le, count-sum, sum-cong}
 use Rattle.sets.proofs.Selecting.{select-yes, select-no, select-cong, length-select, mem-select, select-mem}
-use Rattle.sets.proofs.Bits.{bitOf-clear-same, bitOf-clear-other, bitAt-lt, cell-word}
+use Rattle.sets.proofs.Bits.{bitOf-none, bitOf-clear-same, bitOf-clear-other, bitAt-lt, cell-word}
 use Rattle.community.specs.Network.{Network, reachable, leaders, members, communities, contains, communityNumber, membershipCount}
 use Rattle.community.specs.Tables.{startsFrom, startTable, memberTable}
 use Rattle.community.proofs.Tables.{length-starts}
@@ -38,7 +38,7 @@ use Rattle.community.proofs.Communities.{leader, length-communities, community-
 use Rattle.community.proofs.Roles.{contains-mem, mem-contains}
 use Rattle.planner.specs.Held.{reachableIn, Grouped, rowMembers, rowsOf}
 use Rattle.planner.specs.Plan.{byRoom}
-use Rattle.planner.proofs.Lowest.{Lowest, bitOf-none}
+use Rattle.planner.proofs.Lowest.{Lowest}
 
 -- ---- what passes
 pub select-none : (n : ℕ) (f : ℕ → Bool) → ((v : ℕ) → v < n → T (not (f v))) → select n f ≡ []

@@ -2,7 +2,6 @@
 --
 --     Lowest w t     t is the place of the lowest set bit of w
 --     lowest         the number of trailing zeros of a word that is not 0 is that place
---     bitOf-none     0 has no bit set
 --     cleared w t    w with bit t cleared, as the code makes it; cleared-is: that is `without`
 --     cleared-lt, cleared-le, cleared-same, cleared-other, cleared-falls     it fits, has no other bit than w, not bit t, and one bit less
 use Prim.Native.Nat.{ℕ, zero, suc, _*_, _/_, _%_, _^_, _≤_, _<_}
@@ -10,7 +9,7 @@ use mathlib.Core.Path.{_≡_, refl, sym, ap, _∙_, subst}
 use native.Mathlib.Omega.{arith}
 use native.Mathlib.Numerals.{add-one}
 use native.Mathlib.Decide.{ℕ-discrete}
-use native.Mathlib.Nat.{mod-lt, zero-lt-suc, div-one, pow-suc, mul-comm, div-div-eq-div-mul, zero-div}
+use native.Mathlib.Nat.{mod-lt, zero-lt-suc, div-one, pow-suc, mul-comm, div-div-eq-div-mul}
 use lib.Arith.{lt-one}
 use lib.Pow.{shr-lt, pow-lt}
 use lib.Bits.{bitAnd, bitXor, xor-lt, and-lt}
@@ -31,10 +30,6 @@ bitOf-first w = ap (λ (x : ℕ). x % 2) (div-one w)
 bitOf-half : (w k : ℕ) → bitOf w (suc k) ≡ bitOf (w / 2) k
 unfolding bitOf
 bitOf-half w k = ap (λ (x : ℕ). w / x % 2) (pow-suc 2 k ∙ mul-comm (2 ^ k) 2) ∙ ap (λ (x : ℕ). x % 2) (sym (div-div-eq-div-mul w 2 (2 ^ k)))
-
-pub bitOf-none : (k : ℕ) → bitOf 0 k ≡ 0
-unfolding bitOf
-bitOf-none k = ap (λ (x : ℕ). x % 2) (zero-div (2 ^ k))
 
 lower-more : (w t : ℕ) → w % 2 ≡ 0 → Lowest (w / 2) t → (j : ℕ) → j < suc t → bitOf w j ≡ 0
 lower-more w t e l zero h = bitOf-first w ∙ e

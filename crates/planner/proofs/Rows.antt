@@ -21,9 +21,8 @@ use Rattle.sets.specs.Below.{sum}
 use Rattle.sets.specs.Bits.{bitOf, bitAt, cell, withBit, withoutBit}
 use Rattle.sets.proofs.Tests.{eqb-of}
 use Rattle.sets.proofs.Counting.{sum-cong, sum-le, sum-zero, sum-const}
-use Rattle.sets.proofs.Bits.{bitOf-and, bitAt-lt, bitAt-set-same, bitAt-set-other, bitAt-clear-same, bitAt-clear-other, cell-word, sum-word, sum-split, sum-drop, zeros}
+use Rattle.sets.proofs.Bits.{bitOf-none, bitOf-and, bitAt-lt, bitAt-set-same, bitAt-set-other, bitAt-clear-same, bitAt-clear-other, cell-word, sum-word, sum-split, sum-drop, zeros}
 use Rattle.planner.specs.Held.{Empty, Counted, Room}
-use Rattle.planner.proofs.Lowest.{bitOf-none}
 
 zeros-at : (n i : ℕ) → getD (zeros n) i 0 ≡ 0
 zeros-at zero i = refl

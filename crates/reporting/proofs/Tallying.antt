@@ -22,14 +22,13 @@ use lib.Seq.{getD-set-same, getD-set-other}
 use borrow.Author.Tests.{lt-ltb, le-ltb, le-leb, lt-leb, eq-eqb, ne-eqb}
 use Rattle.sets.specs.Below.{bit, count}
 use Rattle.sets.specs.Bits.{bitOf, bitAt, cell, withBit}
-use Rattle.sets.proofs.Bits.{bitOf-lt, bitOf-and, bitOf-xor, bitOf-clear-same, bitOf-clear-other, bitAt-lt, bitAt-set-same, bitAt-set-other, bitAt-zeros, cell-word, length-withBit}
+use Rattle.sets.proofs.Bits.{bitOf-none, bitOf-lt, bitOf-and, bitOf-xor, bitOf-clear-same, bitOf-clear-other, bitAt-lt, bitAt-set-same, bitAt-set-other, bitAt-zeros, cell-word, length-withBit}
 use Rattle.sets.proofs.Counting.{count-cong, count-le, count-none}
 use Rattle.sets.proofs.Tests.{three}
 use Rattle.image.specs.Image.{endA, endB}
 use Rattle.community.specs.Network.{contains}
 use Rattle.community.specs.Scores.{justOne}
 use Rattle.planner.specs.Held.{Table}
-use Rattle.planner.proofs.Lowest.{bitOf-none}
 use Rattle.lookup.specs.Lookup.{membersOf}
 use Rattle.scores.proofs.Entries.{bit-le}
 use Rattle.reporting.specs.Held.{inGroup, bitFor, tiedIn, leavesIn, Joined, Raised, Room, Ends, EdgeCounted, EdgesCounted, GroupsCounted}

@@ -1,6 +1,6 @@
 -- Bits of words and of lists of words: how `and`, `or` and `xor` act on them, one bit set or cleared, and the ones of a word as a sum of bits.
 --
---     bitOf-and, bitOf-or, bitOf-xor      an operation on words works bit by bit
+--     bitOf-and, bitOf-or, bitOf-xor      an operation on words works bit by bit; bitOf-none: 0 has no bit set
 --     bitAt-set-same, bitAt-set-other     the words with bit i set; shl-one: how the code makes 2 ^ k
 --     bitAt-clear-same, bitAt-clear-other the words with bit i cleared
 --     ones-sum, ones-and                  the ones of a word, and of the `and` of two
@@ -40,6 +40,10 @@ module _ (op f : ℕ → ℕ → ℕ)
   op-bit a b k =
       ap (λ (x : ℕ). x % 2) (shr a b k) ∙ ap (λ (x : ℕ). x % 2) (step (a / 2 ^ k) (b / 2 ^ k))
       ∙ digits-mod (op (a / 2 ^ k / 2) (b / 2 ^ k / 2)) (small (a / 2 ^ k % 2) (b / 2 ^ k % 2) (mod-lt (a / 2 ^ k) two-pos) (mod-lt (b / 2 ^ k) two-pos))
+
+pub bitOf-none : (k : ℕ) → bitOf 0 k ≡ 0
+unfolding bitOf
+bitOf-none k = ap (λ (x : ℕ). x % 2) (zero-div (2 ^ k))
 
 pub bitOf-and : (a b k : ℕ) → bitOf (bitAnd a b) k ≡ min (bitOf a k) (bitOf b k)
 bitOf-and = op-bit bitAnd min and-step and-shr (λ x y h l. omega (arith, min-le-left x y))

@@ -1,12 +1,12 @@
 -- Laws of `select`: its members are what passes, ascending, as many as `count` says. And of a list's places.
-use Prim.Native.Nat.{ℕ, zero, suc, _+_, _≤_, _<_}
+use Prim.Native.Nat.{ℕ, zero, suc, _+_, _-_, _≤_, _<_}
 use native.Mathlib.Omega.{arith}
 use native.Mathlib.Numerals.{add-one}
 use mathlib.Core.Path.{_≡_, refl, sym, ap, ap₂, _∙_, subst}
 use mathlib.Core.Logic.{_⊎_, inl, inr, ⊎-elim}
 use mathlib.Core.Bool.{Bool, true, false, not, cond}
 use mathlib.Core.List.{List, [], _∷_, _++_, map, append-nil, List·Memᴰ, List·Memᴰ·head, List·Memᴰ·tail, List·Memᴰ·not-nil, List·Memᴰ·cases-cons, List·Memᴰ·append-cases, List·Memᴰ·eq-of-singleton, Memᴰ·append-left, Memᴰ·append-right, Memᴰ·cast}
-use lib.Dec.{T}
+use lib.Dec.{T, not-T}
 use lib.ListN.{length, getD, length-append, List·getD-append}
 use lib.Seq.{getD-at}
 use Rattle.sets.specs.Below.{count, select, bit}
@@ -20,6 +20,19 @@ select-yes n f t = ap (λ (b : Bool). select n f ++ cond b (n ∷ []) []) (T-tru
 pub select-no : (n : ℕ) (f : ℕ → Bool) → T (not (f n)) → select (suc n) f ≡ select n f
 unfolding select
 select-no n f t = ap (λ (b : Bool). select n f ++ cond b (n ∷ []) []) (T-false (f n) t) ∙ append-nil (select n f)
+
+-- nothing is added where none passes between two bounds
+select-between : (b d : ℕ) (f : ℕ → Bool) → ((v : ℕ) → b ≤ v → v < d + b → T (f v) → ⊥) → select (d + b) f ≡ select b f
+select-between b zero f h = ap (λ (x : ℕ). select x f) (let e : 0 + b ≡ b = omega arith in e)
+select-between b (suc d) f h =
+    ap (λ (x : ℕ). select x f) (let e : suc d + b ≡ suc (d + b) = omega arith in e)
+    ∙ select-no (d + b) f (not-T (f (d + b)) (h (d + b) (omega arith) (omega arith)))
+    ∙ select-between b d f (λ v l q. h v l (omega arith))
+
+pub select-same : (b c : ℕ) (f : ℕ → Bool) → b ≤ c → ((v : ℕ) → b ≤ v → v < c → T (f v) → ⊥) → select c f ≡ select b f
+select-same b c f h none =
+    let e : (c - b) + b ≡ c = omega arith in
+    ap (λ (x : ℕ). select x f) (sym e) ∙ select-between b (c - b) f (λ v l q. none v l (omega arith))
 
 pub select-cong : (n : ℕ) (f g : ℕ → Bool) → ((v : ℕ) → v < n → f v ≡ g v) → select n f ≡ select n g
 unfolding select

@@ -2,10 +2,12 @@
 // it writes nothing and still counts, so the same functions measure a text and write it. Positions stop at 2^63, which no buffer reaches.
 //
 // Every contract is the record Wrote of specs/Text; runs of writes are joined by the law `chain` of proofs/Writing.
-ghost use Prim.Native.Nat.{min};
+ghost use Prim.Native.Nat.{_<_, min};
 ghost use mathlib.Core.Path.{_≡_};
 ghost use mathlib.Core.List.{[], _∷_};
-ghost use Rattle.text.specs.Text.{Wrote, digitsOf, decimal, numbers, membersOf};
+ghost use lib.Dec.{eqb};
+ghost use lib.ListN.{getD};
+ghost use Rattle.text.specs.Text.{Wrote, digitsOf, decimal, numbers, membersOf, Skips};
 
 // Writes one byte.
 pub fn put(text: &mut [u8], at: usize, byte: u8) -> usize
@@ -95,7 +97,26 @@ pub fn put_numbers(text: &mut [u8], at: usize, table: &[u16]) -> usize
     next
 }
 
-// Writes each member below 512 of a set of bits after a space, ascending; a number past the last word is in no set.
+// Whether word j of a set is empty, or not there.
+fn is_empty(set: &[u64], j: usize) -> bool
+    ensures { λ r. ⌜ r ≡ eqb (getD (now (set .entry)) j 0) 0 ⌝ }
+{
+    if j < set.len() { set[j] == 0 } else { true }
+}
+
+// The number to look at after v: the next one, or the next word's first where v is the first of an empty word.
+fn after(set: &[u64], v: usize) -> usize
+    requires { ⌜ v < 512 ⌝ }
+    ensures { λ r. ⌜ Skips (now (set .entry)) v r ⌝ }
+{
+    if (v % 64 == 0) & is_empty(set, v / 64) {
+        v + 64
+    } else {
+        v + 1
+    }
+}
+
+// Writes each member below 512 of a set of bits after a space, ascending; a number past the last word is in no set. Empty words are skipped.
 pub fn put_members(text: &mut [u8], at: usize, set: &[u64]) -> usize
     ensures { λ r. ⌜ Wrote (now (text .entry)) at (numbers (membersOf (now (set .entry)))) (now (text .exit)) r ⌝ }
 {
@@ -105,7 +126,7 @@ pub fn put_members(text: &mut [u8], at: usize, set: &[u64]) -> usize
         if sets::has(set, v) {
             next = put_number(text, next, v as u64);
         }
-        v += 1;
+        v = after(set, v);
     }
     next
 }
