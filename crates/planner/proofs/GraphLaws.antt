@@ -7,7 +7,7 @@
 --     accept, position-fault, edge-fault     the image is accepted exactly when no position and no edge is at fault
 --     near-size, near-common       the counts of the neighbour table are those of the network; enough-is: and the test by them is the definition's
 --     cores-set                    the cores by the sizes of the similarity table
---     list-room, part-room         an edge of a list stands in the part, and its ends have rows
+--     list-ends, list-room         an edge of a list stands in the part, and its ends are handsets and have rows
 --     near-kept, survey-made       the two steps that drop edges; near-sizes: the sizes after the first
 --     cores-end, similar-end       no core and no similar handset from n on
 use Prim.Native.Nat.{ℕ, _+_, _*_, _-_, _≤_, _<_, min}
@@ -436,6 +436,13 @@ module _ (s : List ℕ) (h : Header) (ok : Accepted s) (e : h ≡ headerOf s) wh
   part-ends : (k : ℕ) → k < h .m → (endA (edgePart s h) k < handsetCount s) × (endB (edgePart s h) k < handsetCount s)
   part-ends k l =
       subst (λ (part : List ℕ). (endA part k < handsetCount s) × (endB part k < handsetCount s)) (sym (edgePart-is s h e)) (ends-below s ok k (omega (arith, l, read .m-is)))
+
+  -- so those of an edge of a list are
+  pub list-ends : (list : List ℕ) {c : ℕ} {test : ℕ → Bool} → Picks (λ j. getD list j 0) c (λ k. k) (h .m) test
+      → (i : ℕ) → i < c → (endA (edgePart s h) (getD list i 0) < h .n) × (endB (edgePart s h) (getD list i 0) < h .n)
+  list-ends list p i l =
+      let b = part-ends (getD list i 0) (picks-below (h .m) (λ j q. q) p i l) in
+      (omega (arith, b .0, read .n-is), omega (arith, b .1, read .n-is))
 
   -- an edge stands in the part, and its ends have rows in tables with room for the handsets
   module _ (ws sizes : List ℕ) (rows : 8 * h .n ≤ length ws) (places : h .n ≤ length sizes) where

@@ -330,6 +330,22 @@ module _ (n : ℕ) (alike cores : List ℕ) where
           sum-less 512 (bitAt todo) (bitAt left) u h (λ v l. omega (arith, col .rest v l))
           (omega (arith, col .rest u h, col .start, finding-left h))
 
+      -- what is collected are numbers below n, if the rows of the cores left have no others
+      pub finding-within : ((x v : ℕ) → x < 512 → n ≤ v → v < 512 → bitAt todo x ≡ 1 → cell rows x v ≡ 0) → (v : ℕ) → n ≤ v → v < 512 → bitAt set v ≡ 0
+      finding-within none v l q = go (ℕ-discrete (bitAt set v) 1)
+        where
+          start : Dec (u < n) → T (ltb u n)
+          start (yes b) = lt→ltb u n b
+          start (no d) = absurd (omega (arith, finding-left h, now .end u (omega (arith, d)) h))
+
+          step : (x w : ℕ) → x < 512 → w < 512 → bitAt todo x ≡ 1 → cell rows x w ≡ 1 → Dec (w < n) → T (ltb w n)
+          step x w hx hw t e (yes b) = lt→ltb w n b
+          step x w hx hw t e (no d) = absurd (omega (arith, e, none x w hx (omega (arith, d)) hw t))
+
+          go : Dec (bitAt set v ≡ 1) → bitAt set v ≡ 0
+          go (yes e) = absurd (omega (arith, l, ltb→lt v n (here .least (λ w. ltb w n) (start (decLt u n)) (λ x w hx hw f t o. step x w hx hw t o (decLt w n)) v q e)))
+          go (no d) = omega (arith, d, bitAt-lt set v)
+
       pub finding-on : (after : List ℕ) (u′ : ℕ) → length left ≡ 8 → Stored rows k set after → FirstCommon left left u′ → Finding n alike cores after left (k + 1) u′
       finding-on after u′ size st first = record {
         behind = next (decLt u′ 512);

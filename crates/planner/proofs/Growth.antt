@@ -1,6 +1,6 @@
 -- How the closure of a number grows, a sweep at a time, and how a row is added to a set or stored in a table, a word at a time.
 --
---     Joining, Storing      the loops of join_words and of store_row: the words before j are done
+--     Joining, Storing      the loops of join_words and of store_words: the words before j are done
 --     Adding                the loop of join_all: the rows of the bits that are no longer in w are added
 --     Sweeping              the loop of sweep: the words before j are gone through
 --     Growing               the loop of collect: the set has the rows of the numbers taken out of todo; w is one still to be taken out, or 512
@@ -146,16 +146,20 @@ module _ (rows₀ : List ℕ) (k : ℕ) (s : List ℕ) where
             ∙ ap (λ (x : ℕ). getD s x 0) (sym e)
         pick i q (no n) = getD-set-other rows (k * 8 + j) (k * 8 + i) w 0 (λ e. n (omega arith)) ∙ now .done i (omega arith)
 
-    pub storing-end : 8 ≤ j → Stored rows₀ k s rows
+    pub storing-end : ((v : ℕ) → j * 64 ≤ v → v < 512 → cell rows k v ≡ bitAt s v) → Stored rows₀ k s rows
     unfolding bitAt
-    storing-end h = record {
+    storing-end rest = record {
       size = now .size;
-      row = λ v l. cell-at rows k v l ∙ ap (λ (x : ℕ). bitOf x (v % 64)) (now .done (v / 64) (omega arith));
+      row = λ v l. pick v l (decLt (v / 64) j);
       others = λ i v l n.
           cell-at rows i v l
           ∙ ap (λ (x : ℕ). bitOf x (v % 64)) (now .others (i * 8 + v / 64) (λ e. n (omega arith)))
           ∙ sym (cell-at rows₀ i v l);
     }
+      where
+        pick : (v : ℕ) → v < 512 → Dec (v / 64 < j) → cell rows k v ≡ bitAt s v
+        pick v l (yes h) = cell-at rows k v l ∙ ap (λ (x : ℕ). bitOf x (v % 64)) (now .done (v / 64) h)
+        pick v l (no d) = rest v (omega (arith, d)) l
 
 -- ---- the rows of a word's bits are added
 

@@ -1,4 +1,5 @@
 pub mod Picking
+pub mod Laid
 pub mod Rows
 pub mod Lowest
 pub mod Growth

@@ -6,6 +6,7 @@
 --     row-most                      no size is above 512
 --     zero-is                       a bit that the test for it tells to be 0
 --     common-more, common-few       the marks that two rows have in common, counted a word at a time, and no further than there are any
+--     sum-few                       a sum of which nothing is left from some number on
 use Prim.Native.Nat.{ℕ, zero, suc, _+_, _*_, _-_, _/_, _%_, _^_, _≤_, _<_, min}
 use native.Mathlib.Omega.{arith}
 use native.Mathlib.Decide.{ℕ-discrete}
@@ -120,18 +121,18 @@ common-more ws u v j h l =
     (and-lt 64 (getD ws (u * 8 + j) 0) (getD ws (v * 8 + j) 0) h l)
     (λ k q. ap₂ min (cell-word ws u j k q) (cell-word ws v j k q) ∙ sym (bitOf-and (getD ws (u * 8 + j) 0) (getD ws (v * 8 + j) 0) k))
 
--- a row without numbers from n on has nothing in common behind as many words as n needs
-pub common-few : (ws : List ℕ) (u v n words : ℕ) → n ≤ words * 64 → words ≤ 8 → ((w : ℕ) → n ≤ w → w < 512 → cell ws u w ≡ 0)
-    → sum (words * 64) (λ w. min (cell ws u w) (cell ws v w)) ≡ sum 512 (λ w. min (cell ws u w) (cell ws v w))
-common-few ws u v n words h l z =
-    let rest : words * 64 + (512 - words * 64) ≡ 512 = omega arith in
-    sym (ap (λ (k : ℕ). sum k (λ w. min (cell ws u w) (cell ws v w))) (sym rest)
-    ∙ sum-split (words * 64) (512 - words * 64) (λ w. min (cell ws u w) (cell ws v w))
-    ∙ ap (λ (x : ℕ). sum (words * 64) (λ w. min (cell ws u w) (cell ws v w)) + x)
-    (sum-cong (512 - words * 64) (λ k. min (cell ws u (words * 64 + k)) (cell ws v (words * 64 + k))) (λ k. 0)
-    (λ k q. omega (arith, z (words * 64 + k) (omega arith) (omega arith)))
-    ∙ sum-zero (512 - words * 64))
-    ∙ plus-zero (sum (words * 64) (λ w. min (cell ws u w) (cell ws v w))))
+-- a sum of which nothing is left from k on
+pub sum-few : (f : ℕ → ℕ) (k : ℕ) → k ≤ 512 → ((w : ℕ) → k ≤ w → w < 512 → f w ≡ 0) → sum k f ≡ sum 512 f
+sum-few f k h z =
+    let rest : k + (512 - k) ≡ 512 = omega arith in
+    sym (ap (λ (n : ℕ). sum n f) (sym rest) ∙ sum-split k (512 - k) f
+    ∙ ap (λ (x : ℕ). sum k f + x) (sum-cong (512 - k) (λ i. f (k + i)) (λ i. 0) (λ i q. z (k + i) (omega arith) (omega arith)) ∙ sum-zero (512 - k))
+    ∙ plus-zero (sum k f))
   where
     plus-zero : (x : ℕ) → x + 0 ≡ x
     plus-zero x = omega arith
+
+-- a row without numbers behind its first few words has nothing in common there
+pub common-few : (ws : List ℕ) (u v words : ℕ) → words ≤ 8 → ((w : ℕ) → words * 64 ≤ w → w < 512 → cell ws u w ≡ 0)
+    → sum (words * 64) (λ w. min (cell ws u w) (cell ws v w)) ≡ sum 512 (λ w. min (cell ws u w) (cell ws v w))
+common-few ws u v words l z = sum-few (λ w. min (cell ws u w) (cell ws v w)) (words * 64) (omega arith) (λ w p q. omega (arith, z w p q))

@@ -1,9 +1,9 @@
-// The network of a site: the size of each neighbourhood, who is similar to whom, and who is a core. A table has a row of eight 64-bit words for
-// each handset, one bit a handset, and the size of each row stands beside it; only the edges are gone through, never the pairs of handsets.
+// The network of a site: the size of each neighbourhood, who is similar to whom, and who is a core. A table has a row of words for each handset, one
+// bit a handset, and the size of each row stands beside it; only the edges are gone through, never the pairs of handsets.
 //
 // First every edge is added, which checks it too. Then the edges that are too long are dropped, and then those whose ends are not similar: each
 // time they are listed first, by a loop that does not branch on the test, so that the processor has nothing to guess. The tables are lent, with room
-// for the site's handsets and edges, so that the caller clears no more than the site needs.
+// for the site's handsets and edges, so that the caller clears no more than the site needs. `layout` says how many words a row has.
 ghost use mathlib.Core.Path.{_≡_};
 ghost use mathlib.Core.Bool.{_&&_, not};
 ghost use Prim.Native.Nat.{ℕ, _+_, _*_, _-_, _≤_, _<_, min};
@@ -14,7 +14,9 @@ ghost use Rattle.sets.specs.Bits.{cell, withBit, withoutBit};
 ghost use Rattle.image.specs.Image.{handsetRecords, edgeRecords, xAt, yAt, gap, endA, endB};
 ghost use Rattle.image.specs.Questions.{Accepted, openHeader, headerOf};
 ghost use Rattle.community.specs.Site.{network};
-ghost use Rattle.planner.specs.Held.{Empty, WordOf, SetOf, Table, Counted, Room, Stands, linked, Added, Positions, Placed, apart, NetworkRead, Picks, Dropped, NearKept, enough, Survey};
+ghost use Rattle.planner.specs.Held.{laid, rowWords, Fit, Empty, WordOf, SetOf, Table, Counted, Room, Stands, linked, Added, Positions, Placed, apart, NetworkRead, Picks, Dropped, NearKept, enough, Survey};
+use crate::layout::first_word;
+use crate::layout::word_of;
 use image::Header;
 use image::Opened;
 
@@ -35,55 +37,63 @@ fn end_b(edges: &[u8], k: usize) -> usize
 }
 
 // Whether v is in row u.
-fn has(table: &[u64], u: usize, v: usize) -> bool
-    requires { ⌜ (u < 512) × (v < 512) × (u * 8 + 8 ≤ length (now table)) ⌝ }
-    ensures { λ r. ⌜ r ≡ eqb (cell (now (table .entry)) u v) 1 ⌝ }
+fn has(table: &[u64], u: usize, v: usize, words: usize) -> bool
+    requires { ⌜ (u < 512) × (Fit words v) × (u * 8 + 8 ≤ length (laid words (now table))) ⌝ }
+    ensures { λ r. ⌜ r ≡ eqb (cell (laid words (now (table .entry))) u v) 1 ⌝ }
 {
-    let i = u * 512 + v;
-    (table[i / 64] >> (i % 64)) % 2 == 1
+    let w = table[word_of(u, v, words)];
+    (w >> ((u * 512 + v) % 64)) % 2 == 1
 }
 
 // Adds v to row u, which does not have it.
-fn add(table: &mut [u64], sizes: &mut [u32], u: usize, v: usize)
-    requires { ⌜ (Room (now table) (now sizes) u) × (v < 512) × (Counted (now table) (now sizes)) × (cell (now table) u v ≡ 0) ⌝ }
-    ensures added { λ _. ⌜ now (table .exit) ≡ withBit (now (table .entry)) (u * 512 + v) ⌝ }
-    ensures counted { λ _. ⌜ Counted (now (table .exit)) (now (sizes .exit)) ⌝ }
+fn add(table: &mut [u64], sizes: &mut [u32], u: usize, v: usize, words: usize)
+    requires { ⌜ (Room (laid words (now table)) (now sizes) u) × (Fit words v) × (Counted (laid words (now table)) (now sizes)) × (cell (laid words (now table)) u v ≡ 0) ⌝ }
+    ensures added { λ _. ⌜ laid words (now (table .exit)) ≡ withBit (laid words (now (table .entry))) (u * 512 + v) ⌝ }
+    ensures counted { λ _. ⌜ Counted (laid words (now (table .exit))) (now (sizes .exit)) ⌝ }
 {
-    let i = u * 512 + v;
-    table[i / 64] = table[i / 64] | (1u64 << (i % 64));
+    let i = word_of(u, v, words);
+    table[i] = table[i] | (1u64 << ((u * 512 + v) % 64));
     sizes[u] = sizes[u] + 1;
 }
 
 // Takes v out of row u, if it is in it.
-fn take_out(table: &mut [u64], sizes: &mut [u32], u: usize, v: usize)
-    requires { ⌜ (Room (now table) (now sizes) u) × (v < 512) × (Counted (now table) (now sizes)) ⌝ }
-    ensures taken { λ _. ⌜ now (table .exit) ≡ withoutBit (now (table .entry)) (u * 512 + v) ⌝ }
-    ensures counted { λ _. ⌜ Counted (now (table .exit)) (now (sizes .exit)) ⌝ }
+fn take_out(table: &mut [u64], sizes: &mut [u32], u: usize, v: usize, words: usize)
+    requires { ⌜ (Room (laid words (now table)) (now sizes) u) × (Fit words v) × (Counted (laid words (now table)) (now sizes)) ⌝ }
+    ensures taken { λ _. ⌜ laid words (now (table .exit)) ≡ withoutBit (laid words (now (table .entry))) (u * 512 + v) ⌝ }
+    ensures counted { λ _. ⌜ Counted (laid words (now (table .exit))) (now (sizes .exit)) ⌝ }
 {
-    let i = u * 512 + v;
-    let w = table[i / 64];
-    table[i / 64] = w ^ (w & (1u64 << (i % 64)));
-    sizes[u] = sizes[u] - ((w >> (i % 64)) % 2) as u32;
+    let i = word_of(u, v, words);
+    let k = (u * 512 + v) % 64;
+    let w = table[i];
+    table[i] = w ^ (w & (1u64 << k));
+    sizes[u] = sizes[u] - ((w >> k) % 2) as u32;
 }
 
 // Adds each of the first n handsets to its own row of an empty table.
-fn add_selves(table: &mut [u64], sizes: &mut [u32], n: usize)
-    requires { ⌜ (n ≤ 512) × (8 * n ≤ length (now table)) × (n ≤ length (now sizes)) × (Empty (now table)) × (Empty (now sizes)) ⌝ }
-    ensures added { λ _. ⌜ Table (now (table .exit)) (λ u v. ltb u n && eqb u v) ⌝ }
-    ensures counted { λ _. ⌜ Counted (now (table .exit)) (now (sizes .exit)) ⌝ }
+fn add_selves(table: &mut [u64], sizes: &mut [u32], n: usize, words: usize)
+    requires { ⌜ (n ≤ 512) × (8 * n ≤ length (laid words (now table))) × (n ≤ length (now sizes)) × (Empty (laid words (now table))) × (Empty (now sizes)) × ((v : ℕ) → v < n → Fit words v) ⌝ }
+    ensures added { λ _. ⌜ Table (laid words (now (table .exit))) (λ u v. ltb u n && eqb u v) ⌝ }
+    ensures counted { λ _. ⌜ Counted (laid words (now (table .exit))) (now (sizes .exit)) ⌝ }
 {
     let mut u = 0;
     while u < n {
-        add(table, sizes, u, u);
+        add(table, sizes, u, u, words);
         u += 1;
     }
 }
 
 // Adds the ends of each edge to each other's rows. Stops with a no at an edge that has an end that is no handset, that goes from a handset to itself,
 // or that joins what an earlier one joins: the row has that end already.
-fn add_edges(edges: &[u8], n: usize, m: usize, table: &mut [u64], sizes: &mut [u32]) -> bool
-    requires { ⌜ (n ≤ 512) × (m ≤ 4096) × (4 * m ≤ length (now edges)) × (8 * n ≤ length (now table)) × (n ≤ length (now sizes)) × (Table (now table) (λ u v. ltb u n && eqb u v)) × (Counted (now table) (now sizes)) ⌝ }
-    ensures { λ r. ⌜ Added (now (edges .entry)) n m r (now (table .exit)) (now (sizes .exit)) ⌝ }
+fn add_edges(
+    edges: &[u8],
+    n: usize,
+    m: usize,
+    table: &mut [u64],
+    sizes: &mut [u32],
+    words: usize,
+) -> bool
+    requires { ⌜ (n ≤ 512) × (m ≤ 4096) × (4 * m ≤ length (now edges)) × (8 * n ≤ length (laid words (now table))) × (n ≤ length (now sizes)) × (Table (laid words (now table)) (λ u v. ltb u n && eqb u v)) × (Counted (laid words (now table)) (now sizes)) × ((v : ℕ) → v < n → Fit words v) ⌝ }
+    ensures { λ r. ⌜ Added (now (edges .entry)) n m r (laid words (now (table .exit))) (now (sizes .exit)) ⌝ }
 {
     let mut k: usize = 0;
     while k < m {
@@ -92,14 +102,30 @@ fn add_edges(edges: &[u8], n: usize, m: usize, table: &mut [u64], sizes: &mut [u
         if !((u < n) & (v < n)) {
             return false;
         }
-        if has(table, u, v) {
+        if has(table, u, v, words) {
             return false;
         }
-        add(table, sizes, u, v);
-        add(table, sizes, v, u);
+        add(table, sizes, u, v, words);
+        add(table, sizes, v, u, words);
         k += 1;
     }
     true
+}
+
+// Adds each handset and each edge to an empty table. Stops with a no as adding the edges does.
+fn add_all(
+    edges: &[u8],
+    n: usize,
+    m: usize,
+    table: &mut [u64],
+    sizes: &mut [u32],
+    words: usize,
+) -> bool
+    requires { ⌜ (n ≤ 512) × (m ≤ 4096) × (4 * m ≤ length (now edges)) × (8 * n ≤ length (laid words (now table))) × (n ≤ length (now sizes)) × (Empty (now table)) × (Empty (now sizes)) × ((v : ℕ) → v < n → Fit words v) ⌝ }
+    ensures { λ r. ⌜ Added (now (edges .entry)) n m r (laid words (now (table .exit))) (now (sizes .exit)) ⌝ }
+{
+    add_selves(table, sizes, n, words);
+    add_edges(edges, n, m, table, sizes, words)
 }
 
 // Reads the position of each handset into two tables. Stops with a no at one that is out of its limits.
@@ -168,32 +194,53 @@ fn list_by_length<'a>(
     c
 }
 
-// Drops the edges of a list: takes the ends of each out of each other's rows.
-fn drop_edges<'a>(edges: &'a [u8], list: &'a [u16], table: &mut [u64], sizes: &mut [u32])
-    requires { ⌜ (length (now list) ≤ 4096) × (Counted (now table) (now sizes)) × ((i : ℕ) → i < length (now list) → (Stands (now edges) (getD (now list) i 0)) × (Room (now table) (now sizes) (endA (now edges) (getD (now list) i 0))) × (Room (now table) (now sizes) (endB (now edges) (getD (now list) i 0)))) ⌝ }
-    ensures dropped { λ _. ⌜ Dropped (now (edges .entry)) (now (list .entry)) (length (now (list .entry))) (now (table .entry)) (now (table .exit)) ⌝ }
-    ensures counted { λ _. ⌜ Counted (now (table .exit)) (now (sizes .exit)) ⌝ }
+// Drops the edges of a list: takes the ends of each out of each other's rows, in a table whose rows have so many words.
+fn drop_words<'a>(
+    edges: &'a [u8],
+    list: &'a [u16],
+    table: &mut [u64],
+    sizes: &mut [u32],
+    words: usize,
+)
+    requires { ⌜ (length (now list) ≤ 4096) × (Counted (laid words (now table)) (now sizes)) × ((i : ℕ) → i < length (now list) → (Stands (now edges) (getD (now list) i 0)) × (Room (laid words (now table)) (now sizes) (endA (now edges) (getD (now list) i 0))) × (Room (laid words (now table)) (now sizes) (endB (now edges) (getD (now list) i 0)))) × ((i : ℕ) → i < length (now list) → (Fit words (endA (now edges) (getD (now list) i 0))) × (Fit words (endB (now edges) (getD (now list) i 0)))) ⌝ }
+    ensures dropped { λ _. ⌜ Dropped (now (edges .entry)) (now (list .entry)) (length (now (list .entry))) (laid words (now (table .entry))) (laid words (now (table .exit))) ⌝ }
+    ensures counted { λ _. ⌜ Counted (laid words (now (table .exit))) (now (sizes .exit)) ⌝ }
 {
     let mut i: usize = 0;
     while i < list.len() {
         let k = list[i] as usize;
         let u = end_a(edges, k);
         let v = end_b(edges, k);
-        take_out(table, sizes, u, v);
-        take_out(table, sizes, v, u);
+        take_out(table, sizes, u, v, words);
+        take_out(table, sizes, v, u, words);
         i += 1;
     }
 }
 
+// The same in a table for n handsets.
+fn drop_edges<'a>(edges: &'a [u8], list: &'a [u16], table: &mut [u64], sizes: &mut [u32], n: usize)
+    requires { ⌜ (length (now list) ≤ 4096) × (Counted (laid (rowWords n) (now table)) (now sizes)) × ((i : ℕ) → i < length (now list) → (Stands (now edges) (getD (now list) i 0)) × (Room (laid (rowWords n) (now table)) (now sizes) (endA (now edges) (getD (now list) i 0))) × (Room (laid (rowWords n) (now table)) (now sizes) (endB (now edges) (getD (now list) i 0)))) × ((i : ℕ) → i < length (now list) → (endA (now edges) (getD (now list) i 0) < n) × (endB (now edges) (getD (now list) i 0) < n)) ⌝ }
+    ensures dropped { λ _. ⌜ Dropped (now (edges .entry)) (now (list .entry)) (length (now (list .entry))) (laid (rowWords n) (now (table .entry))) (laid (rowWords n) (now (table .exit))) ⌝ }
+    ensures counted { λ _. ⌜ Counted (laid (rowWords n) (now (table .exit))) (now (sizes .exit)) ⌝ }
+{
+    if n <= 64 {
+        drop_words(edges, list, table, sizes, 1);
+        return;
+    }
+    drop_words(edges, list, table, sizes, 8);
+}
+
 // How many are marked in both rows u and v, in their first few words.
 fn common_words(table: &[u64], u: usize, v: usize, words: usize) -> u32
-    requires { ⌜ (u < 512) × (v < 512) × (u * 8 + 8 ≤ length (now table)) × (v * 8 + 8 ≤ length (now table)) × (words ≤ 8) ⌝ }
-    ensures { λ r. ⌜ (r ≡ sum (words * 64) (λ w. min (cell (now (table .entry)) u w) (cell (now (table .entry)) v w))) × (r ≤ 512) ⌝ }
+    requires { ⌜ (u < 512) × (v < 512) × (u * 8 + 8 ≤ length (laid words (now table))) × (v * 8 + 8 ≤ length (laid words (now table))) × (words ≤ 8) ⌝ }
+    ensures { λ r. ⌜ (r ≡ sum (words * 64) (λ w. min (cell (laid words (now (table .entry))) u w) (cell (laid words (now (table .entry))) v w))) × (r ≤ 512) ⌝ }
 {
+    let a = first_word(u, words);
+    let b = first_word(v, words);
     let mut n: u32 = 0;
     let mut j: usize = 0;
     while j < words {
-        n += u64::count_ones(table[u * 8 + j] & table[v * 8 + j]);
+        n += u64::count_ones(table[a + j] & table[b + j]);
         j += 1;
     }
     n
@@ -217,9 +264,9 @@ fn have_enough<'a>(
     p: u16,
     q: u16,
 ) -> bool
-    requires { ⌜ (Room (now table) (now sizes) u) × (Room (now table) (now sizes) v) × (words ≤ 8) × ((w : ℕ) → words * 64 ≤ w → w < 512 → cell (now table) u w ≡ 0) ⌝ }
+    requires { ⌜ (Room (laid words (now table)) (now sizes) u) × (Room (laid words (now table)) (now sizes) v) × (words ≤ 8) × ((w : ℕ) → words * 64 ≤ w → w < 512 → cell (laid words (now table)) u w ≡ 0) ⌝ }
     requires { ⌜ (getD (now sizes) u 0 ≤ 512) × (getD (now sizes) v 0 ≤ 512) × (p ≤ 1000) × (q ≤ 1000) ⌝ }
-    ensures { λ r. ⌜ r ≡ enough (now (table .entry)) (now (sizes .entry)) p q u v ⌝ }
+    ensures { λ r. ⌜ r ≡ enough (laid words (now (table .entry))) (now (sizes .entry)) p q u v ⌝ }
 {
     let c = common_words(table, u, v, words) as u64;
     meets_epsilon(c, sizes[u] as u64, sizes[v] as u64, p as u64, q as u64)
@@ -238,10 +285,10 @@ fn list_unlike_words<'a>(
     list: &mut [u16],
 ) -> usize
     requires { ⌜ (count ≤ 4096) × (count ≤ length (now list)) × (words ≤ 8) × (p ≤ 1000) × (q ≤ 1000) ⌝ }
-    requires { ⌜ ((i : ℕ) → i < count → (Stands (now edges) (getD (now list) i 0)) × (Room (now table) (now sizes) (endA (now edges) (getD (now list) i 0))) × (Room (now table) (now sizes) (endB (now edges) (getD (now list) i 0)))) ⌝ }
-    requires { ⌜ ((u : ℕ) → u < 512 → getD (now sizes) u 0 ≤ 512) × ((u w : ℕ) → u < 512 → words * 64 ≤ w → w < 512 → cell (now table) u w ≡ 0) ⌝ }
+    requires { ⌜ ((i : ℕ) → i < count → (Stands (now edges) (getD (now list) i 0)) × (Room (laid words (now table)) (now sizes) (endA (now edges) (getD (now list) i 0))) × (Room (laid words (now table)) (now sizes) (endB (now edges) (getD (now list) i 0)))) ⌝ }
+    requires { ⌜ ((u : ℕ) → u < 512 → getD (now sizes) u 0 ≤ 512) × ((u w : ℕ) → u < 512 → words * 64 ≤ w → w < 512 → cell (laid words (now table)) u w ≡ 0) ⌝ }
     ensures most { λ r. ⌜ r ≤ count ⌝ }
-    ensures listed { λ r. ⌜ Picks (λ j. getD (now (list .exit)) j 0) r (λ i. getD (now (list .entry)) i 0) count (λ k. not (enough (now (table .entry)) (now (sizes .entry)) p q (endA (now (edges .entry)) k) (endB (now (edges .entry)) k))) ⌝ }
+    ensures listed { λ r. ⌜ Picks (λ j. getD (now (list .exit)) j 0) r (λ i. getD (now (list .entry)) i 0) count (λ k. not (enough (laid words (now (table .entry))) (now (sizes .entry)) p q (endA (now (edges .entry)) k) (endB (now (edges .entry)) k))) ⌝ }
 {
     let mut c: usize = 0;
     let mut i: usize = 0;
@@ -268,10 +315,10 @@ fn list_unlike<'a>(
     list: &mut [u16],
 ) -> usize
     requires { ⌜ (count ≤ 4096) × (count ≤ length (now list)) × (h .n ≤ 512) × (h .p ≤ 1000) × (h .q ≤ 1000) ⌝ }
-    requires { ⌜ ((i : ℕ) → i < count → (Stands (now edges) (getD (now list) i 0)) × (Room (now table) (now sizes) (endA (now edges) (getD (now list) i 0))) × (Room (now table) (now sizes) (endB (now edges) (getD (now list) i 0)))) ⌝ }
-    requires { ⌜ ((u : ℕ) → u < 512 → getD (now sizes) u 0 ≤ 512) × ((u w : ℕ) → u < 512 → h .n ≤ w → w < 512 → cell (now table) u w ≡ 0) ⌝ }
+    requires { ⌜ ((i : ℕ) → i < count → (Stands (now edges) (getD (now list) i 0)) × (Room (laid (rowWords (h .n)) (now table)) (now sizes) (endA (now edges) (getD (now list) i 0))) × (Room (laid (rowWords (h .n)) (now table)) (now sizes) (endB (now edges) (getD (now list) i 0)))) ⌝ }
+    requires { ⌜ ((u : ℕ) → u < 512 → getD (now sizes) u 0 ≤ 512) × ((u w : ℕ) → u < 512 → h .n ≤ w → w < 512 → cell (laid (rowWords (h .n)) (now table)) u w ≡ 0) ⌝ }
     ensures most { λ r. ⌜ r ≤ count ⌝ }
-    ensures listed { λ r. ⌜ Picks (λ j. getD (now (list .exit)) j 0) r (λ i. getD (now (list .entry)) i 0) count (λ k. not (enough (now (table .entry)) (now (sizes .entry)) (h .p) (h .q) (endA (now (edges .entry)) k) (endB (now (edges .entry)) k))) ⌝ }
+    ensures listed { λ r. ⌜ Picks (λ j. getD (now (list .exit)) j 0) r (λ i. getD (now (list .entry)) i 0) count (λ k. not (enough (laid (rowWords (h .n)) (now (table .entry))) (now (sizes .entry)) (h .p) (h .q) (endA (now (edges .entry)) k) (endB (now (edges .entry)) k))) ⌝ }
 {
     if 256 < h.n {
         return list_unlike_words(edges, table, sizes, 8, h.p, h.q, count, list);
@@ -324,8 +371,8 @@ pub(crate) fn read_network(
     sizes: &mut [u32],
 ) -> bool
     requires { ⌜ (openHeader (now image) ≡ Opened.Site h) × (h .n ≤ length (now xs)) × (h .n ≤ length (now ys)) ⌝ }
-    requires { ⌜ (8 * h .n ≤ length (now table)) × (h .n ≤ length (now sizes)) × (Empty (now table)) × (Empty (now sizes)) ⌝ }
-    ensures { λ r. ⌜ NetworkRead (now (image .entry)) r (now (xs .exit)) (now (ys .exit)) (now (table .exit)) (now (sizes .exit)) ⌝ }
+    requires { ⌜ (8 * h .n ≤ length (laid (rowWords (h .n)) (now table))) × (h .n ≤ length (now sizes)) × (Empty (now table)) × (Empty (now sizes)) ⌝ }
+    ensures { λ r. ⌜ NetworkRead (now (image .entry)) r (now (xs .exit)) (now (ys .exit)) (laid (rowWords (h .n)) (now (table .exit))) (now (sizes .exit)) ⌝ }
 {
     let n = h.n as usize;
     let m = h.m as usize;
@@ -336,8 +383,10 @@ pub(crate) fn read_network(
     if !read_positions(&image[from..to], n, xs, ys) {
         return false;
     }
-    add_selves(table, sizes, n);
-    add_edges(&image[a..b], n, m, table, sizes)
+    if n <= 64 {
+        return add_all(&image[a..b], n, m, table, sizes, 1);
+    }
+    add_all(&image[a..b], n, m, table, sizes, 8)
 }
 
 // Drops the edges that are too long from the table of all edges of an accepted site, which leaves its neighbour relation. Lists the others, and gives
@@ -353,15 +402,15 @@ pub(crate) fn keep_near<'a>(
 ) -> usize
     requires { ⌜ (Accepted (now image)) × (h ≡ headerOf (now image)) × (h .m ≤ length (now list)) × (h .n ≤ length (now xs)) × (h .n ≤ length (now ys)) ⌝ }
     requires { ⌜ ((v : ℕ) → v < h .n → (getD (now xs) v 0 ≡ xAt (handsetRecords (now image)) v) × (getD (now ys) v 0 ≡ yAt (handsetRecords (now image)) v)) ⌝ }
-    requires { ⌜ (8 * h .n ≤ length (now table)) × (h .n ≤ length (now sizes)) × (Table (now table) (linked (h .n) (edgeRecords (now image)) (h .m))) × (Counted (now table) (now sizes)) ⌝ }
-    ensures { λ r. ⌜ NearKept (now (image .entry)) r (now (list .exit)) (now (table .exit)) (now (sizes .exit)) ⌝ }
+    requires { ⌜ (8 * h .n ≤ length (laid (rowWords (h .n)) (now table))) × (h .n ≤ length (now sizes)) × (Table (laid (rowWords (h .n)) (now table)) (linked (h .n) (edgeRecords (now image)) (h .m))) × (Counted (laid (rowWords (h .n)) (now table)) (now sizes)) ⌝ }
+    ensures { λ r. ⌜ NearKept (now (image .entry)) r (now (list .exit)) (laid (rowWords (h .n)) (now (table .exit))) (now (sizes .exit)) ⌝ }
 {
     let m = h.m as usize;
     let a = h.edges as usize;
     let b = a + 4 * m;
     let edges = &image[a..b];
     let count = list_by_length(edges, m, h.limit, xs, ys, list);
-    drop_edges(edges, &list[count..m], table, sizes);
+    drop_edges(edges, &list[count..m], table, sizes, h.n as usize);
     count
 }
 
@@ -375,13 +424,13 @@ pub(crate) fn keep_similar(
     sizes: &mut [u32],
     cores: &mut [u64],
 )
-    requires { ⌜ (Accepted (now image)) × (h ≡ headerOf (now image)) × (h .m ≤ length (now list)) × (8 * h .n ≤ length (now table)) × (h .n ≤ length (now sizes)) × (NearKept (now image) count (now list) (now table) (now sizes)) × (now cores ≡ replicate 8 0) ⌝ }
-    ensures { λ _. ⌜ Survey (network (now (image .entry))) (now (table .exit)) (now (cores .exit)) ⌝ }
+    requires { ⌜ (Accepted (now image)) × (h ≡ headerOf (now image)) × (h .m ≤ length (now list)) × (8 * h .n ≤ length (laid (rowWords (h .n)) (now table))) × (h .n ≤ length (now sizes)) × (NearKept (now image) count (now list) (laid (rowWords (h .n)) (now table)) (now sizes)) × (now cores ≡ replicate 8 0) ⌝ }
+    ensures { λ _. ⌜ Survey (network (now (image .entry))) (laid (rowWords (h .n)) (now (table .exit))) (now (cores .exit)) ⌝ }
 {
     let a = h.edges as usize;
     let b = a + 4 * (h.m as usize);
     let edges = &image[a..b];
     let unlike = list_unlike(edges, table, sizes, h, count, list);
-    drop_edges(edges, &list[0..unlike], table, sizes);
+    drop_edges(edges, &list[0..unlike], table, sizes, h.n as usize);
     mark_cores(sizes, h.n as usize, fields::core_size(h.mu) as u32, cores);
 }

@@ -1,11 +1,14 @@
 // The communities of a network, from its similarity table and its set of cores: each is what is reachable from its smallest core.
 //
-// Sets are eight words; a table has a row of eight words for each handset. Everything goes a word at a time, over no more words than the site's
-// n handsets need, and each core's row is or'ed once.
+// Sets are eight words; a table has a row for each handset, of as many words as `layout` says. Everything goes a word at a time, over no more words than
+// the site's n handsets need, and each core's row is or'ed once.
+use crate::layout::first_word;
 ghost use Prim.Native.Nat.{ℕ, _+_, _*_, _≤_, _<_};
 ghost use mathlib.Core.Path.{_≡_};
+ghost use mathlib.Core.Logic.{_⊎_};
 ghost use lib.ListN.{length};
 ghost use Rattle.sets.specs.Bits.{bitOf, bitAt, cell};
+ghost use Rattle.planner.specs.Held.{laid, rowWords};
 ghost use Rattle.planner.specs.Groups.{FirstCommon, Joined, JoinedAll, Swept, Stored, Collected, GroupsFound};
 
 // The first number in both sets, or 512 where there is none.
@@ -26,10 +29,10 @@ pub(crate) fn first_common(a: &[u64], b: &[u64]) -> usize
 
 // Adds the first few words of row u of the table, behind which the row is empty, to the set.
 fn join_words(table: &[u64], u: usize, set: &mut [u64], words: usize)
-    requires { ⌜ (u < 512) × (u * 8 + 8 ≤ length (now table)) × (length (now set) ≡ 8) × (words ≤ 8) × ((v : ℕ) → words * 64 ≤ v → v < 512 → cell (now table) u v ≡ 0) ⌝ }
-    ensures { λ _. ⌜ Joined (now (table .entry)) u (now (set .entry)) (now (set .exit)) ⌝ }
+    requires { ⌜ (u < 512) × (u * 8 + 8 ≤ length (laid words (now table))) × (length (now set) ≡ 8) × (words ≤ 8) × ((v : ℕ) → words * 64 ≤ v → v < 512 → cell (laid words (now table)) u v ≡ 0) ⌝ }
+    ensures { λ _. ⌜ Joined (laid words (now (table .entry))) u (now (set .entry)) (now (set .exit)) ⌝ }
 {
-    let first = u * 8;
+    let first = first_word(u, words);
     let mut j: usize = 0;
     while j < words {
         set[j] = set[j] | table[first + j];
@@ -39,8 +42,8 @@ fn join_words(table: &[u64], u: usize, set: &mut [u64], words: usize)
 
 // Adds row u of the table, which has no number from n on, to the set. Each count of words is a case of its own, so that it is compiled without a loop.
 fn join_row(table: &[u64], u: usize, set: &mut [u64], n: usize)
-    requires { ⌜ (u < 512) × (u * 8 + 8 ≤ length (now table)) × (length (now set) ≡ 8) × (n ≤ 512) × ((v : ℕ) → n ≤ v → v < 512 → cell (now table) u v ≡ 0) ⌝ }
-    ensures { λ _. ⌜ Joined (now (table .entry)) u (now (set .entry)) (now (set .exit)) ⌝ }
+    requires { ⌜ (u < 512) × (u * 8 + 8 ≤ length (laid (rowWords n) (now table))) × (length (now set) ≡ 8) × (n ≤ 512) × ((v : ℕ) → n ≤ v → v < 512 → cell (laid (rowWords n) (now table)) u v ≡ 0) ⌝ }
+    ensures { λ _. ⌜ Joined (laid (rowWords n) (now (table .entry))) u (now (set .entry)) (now (set .exit)) ⌝ }
 {
     if 256 < n {
         join_words(table, u, set, 8);
@@ -59,8 +62,8 @@ fn join_row(table: &[u64], u: usize, set: &mut [u64], n: usize)
 
 // Adds row base + k of the table to the set, for each set bit k of the word.
 fn join_all(table: &[u64], word: u64, base: usize, set: &mut [u64], n: usize)
-    requires { ⌜ (base + 64 ≤ 512) × (length (now set) ≡ 8) × (n ≤ 512) × ((k : ℕ) → k < 64 → bitOf word k ≡ 1 → ((base + k) * 8 + 8 ≤ length (now table)) × ((v : ℕ) → n ≤ v → v < 512 → cell (now table) (base + k) v ≡ 0)) ⌝ }
-    ensures { λ _. ⌜ JoinedAll (now (table .entry)) word base (now (set .entry)) (now (set .exit)) ⌝ }
+    requires { ⌜ (base + 64 ≤ 512) × (length (now set) ≡ 8) × (n ≤ 512) × ((k : ℕ) → k < 64 → bitOf word k ≡ 1 → ((base + k) * 8 + 8 ≤ length (laid (rowWords n) (now table))) × ((v : ℕ) → n ≤ v → v < 512 → cell (laid (rowWords n) (now table)) (base + k) v ≡ 0)) ⌝ }
+    ensures { λ _. ⌜ JoinedAll (laid (rowWords n) (now (table .entry))) word base (now (set .entry)) (now (set .exit)) ⌝ }
 {
     let mut w = word;
     while w != 0 {
@@ -73,8 +76,8 @@ fn join_all(table: &[u64], word: u64, base: usize, set: &mut [u64], n: usize)
 // Takes each number of the set out of todo and adds its row to the set, a word at a time. A number that comes into a word that has been gone through
 // is left for the next time.
 fn sweep(table: &[u64], todo: &mut [u64], set: &mut [u64], n: usize)
-    requires { ⌜ (length (now todo) ≡ 8) × (length (now set) ≡ 8) × (n ≤ 512) × (8 * n ≤ length (now table)) × ((v : ℕ) → n ≤ v → v < 512 → bitAt (now todo) v ≡ 0) × ((x v : ℕ) → x < 512 → n ≤ v → v < 512 → bitAt (now todo) x ≡ 1 → cell (now table) x v ≡ 0) ⌝ }
-    ensures { λ _. ⌜ Swept (now (table .entry)) (now (todo .entry)) (now (set .entry)) (now (todo .exit)) (now (set .exit)) ⌝ }
+    requires { ⌜ (length (now todo) ≡ 8) × (length (now set) ≡ 8) × (n ≤ 512) × (8 * n ≤ length (laid (rowWords n) (now table))) × ((v : ℕ) → n ≤ v → v < 512 → bitAt (now todo) v ≡ 0) × ((x v : ℕ) → x < 512 → n ≤ v → v < 512 → bitAt (now todo) x ≡ 1 → cell (laid (rowWords n) (now table)) x v ≡ 0) ⌝ }
+    ensures { λ _. ⌜ Swept (laid (rowWords n) (now (table .entry))) (now (todo .entry)) (now (set .entry)) (now (todo .exit)) (now (set .exit)) ⌝ }
 {
     let mut j: usize = 0;
     while 64 * j < n {
@@ -85,24 +88,36 @@ fn sweep(table: &[u64], todo: &mut [u64], set: &mut [u64], n: usize)
     }
 }
 
-// Makes the set row k of the table.
-fn store_row(rows: &mut [u64], k: usize, set: &[u64])
-    requires { ⌜ (k * 8 + 8 ≤ length (now rows)) × (length (now set) ≡ 8) ⌝ }
-    ensures { λ _. ⌜ Stored (now (rows .entry)) k (now (set .entry)) (now (rows .exit)) ⌝ }
+// Makes the first few words of the set row k of the table.
+fn store_words(rows: &mut [u64], k: usize, set: &[u64], words: usize)
+    requires { ⌜ (k < 512) × (k * 8 + 8 ≤ length (laid words (now rows))) × (length (now set) ≡ 8) × ((words ≡ 1) ⊎ (words ≡ 8)) × ((v : ℕ) → words * 64 ≤ v → v < 512 → bitAt (now set) v ≡ 0) ⌝ }
+    ensures { λ _. ⌜ Stored (laid words (now (rows .entry))) k (now (set .entry)) (laid words (now (rows .exit))) ⌝ }
 {
-    let first = k * 8;
+    let first = first_word(k, words);
     let mut j: usize = 0;
-    while j < 8 {
+    while j < words {
         rows[first + j] = set[j];
         j += 1;
     }
 }
 
+// Makes the set, which has no number from n on, row k of the table.
+fn store_row(rows: &mut [u64], k: usize, set: &[u64], n: usize)
+    requires { ⌜ (k < 512) × (k * 8 + 8 ≤ length (laid (rowWords n) (now rows))) × (length (now set) ≡ 8) × ((v : ℕ) → n ≤ v → v < 512 → bitAt (now set) v ≡ 0) ⌝ }
+    ensures { λ _. ⌜ Stored (laid (rowWords n) (now (rows .entry))) k (now (set .entry)) (laid (rowWords n) (now (rows .exit))) ⌝ }
+{
+    if n <= 64 {
+        store_words(rows, k, set, 1);
+        return;
+    }
+    store_words(rows, k, set, 8);
+}
+
 // The closure of u, a number of todo: the row of u, of each number of todo in that row, and so on. Takes out of todo whatever it comes by,
 // so that no row is added twice.
 fn collect(alike: &[u64], todo: &mut [u64], u: usize, n: usize) -> [u64; 8]
-    requires { ⌜ (u < 512) × (length (now todo) ≡ 8) × (bitAt (now todo) u ≡ 1) × (n ≤ 512) × (8 * n ≤ length (now alike)) × ((v : ℕ) → n ≤ v → v < 512 → bitAt (now todo) v ≡ 0) × ((x v : ℕ) → x < 512 → n ≤ v → v < 512 → bitAt (now todo) x ≡ 1 → cell (now alike) x v ≡ 0) ⌝ }
-    ensures { λ r. ⌜ Collected (now (alike .entry)) (now (todo .entry)) u (now (todo .exit)) r ⌝ }
+    requires { ⌜ (u < 512) × (length (now todo) ≡ 8) × (bitAt (now todo) u ≡ 1) × (n ≤ 512) × (8 * n ≤ length (laid (rowWords n) (now alike))) × ((v : ℕ) → n ≤ v → v < 512 → bitAt (now todo) v ≡ 0) × ((x v : ℕ) → x < 512 → n ≤ v → v < 512 → bitAt (now todo) x ≡ 1 → cell (laid (rowWords n) (now alike)) x v ≡ 0) ⌝ }
+    ensures { λ r. ⌜ Collected (laid (rowWords n) (now (alike .entry))) (now (todo .entry)) u (now (todo .exit)) r ⌝ }
 {
     let mut set = [0u64; 8];
     sets::mark(&mut set, u);
@@ -117,16 +132,16 @@ fn collect(alike: &[u64], todo: &mut [u64], u: usize, n: usize) -> [u64; 8]
 // Makes the first rows of the similarity table the communities, by their smallest cores, and gives their number. Row k is written when the community
 // of the k-th smallest core is known: by then no core up to that one is left, so no row is lost that is still to be added.
 pub(crate) fn find_groups(table: &mut [u64], cores: &[u64], n: usize) -> usize
-    requires { ⌜ (length (now cores) ≡ 8) × (n ≤ 512) × (8 * n ≤ length (now table)) × ((v : ℕ) → n ≤ v → v < 512 → bitAt (now cores) v ≡ 0) × ((u v : ℕ) → u < 512 → n ≤ v → v < 512 → cell (now table) u v ≡ 0) ⌝ }
-    ensures { λ r. ⌜ GroupsFound (now (table .entry)) (now (cores .entry)) (now (table .exit)) r ⌝ }
+    requires { ⌜ (length (now cores) ≡ 8) × (n ≤ 512) × (8 * n ≤ length (laid (rowWords n) (now table))) × ((v : ℕ) → n ≤ v → v < 512 → bitAt (now cores) v ≡ 0) × ((u v : ℕ) → u < 512 → n ≤ v → v < 512 → cell (laid (rowWords n) (now table)) u v ≡ 0) ⌝ }
+    ensures { λ r. ⌜ GroupsFound (laid (rowWords n) (now (table .entry))) (now (cores .entry)) (laid (rowWords n) (now (table .exit))) r ⌝ }
 {
     let mut todo = [0u64; 8];
-    join_row(cores, 0, &mut todo, n);
+    join_words(cores, 0, &mut todo, 8);
     let mut k: usize = 0;
     let mut u = first_common(&todo, &todo);
     while u < 512 {
         let set = collect(table, &mut todo, u, n);
-        store_row(table, k, &set);
+        store_row(table, k, &set, n);
         k += 1;
         u = first_common(&todo, &todo);
     }

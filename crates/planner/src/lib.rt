@@ -1,11 +1,12 @@
 // The planner: the communities of a site, written into two lent tables, and the role of each handset.
 //
-// `graph` reads the network, its similarity relation and its cores, `groups` finds the communities as rows of bits, `tables` counts and writes them.
-// The calls work everything out on the stack, and write only when nothing is left to refuse. The edges are checked while they are read; where one is
-// at fault, the reader is asked for the image's refusal. A plan's working tables have one of three sizes, so that a small site is not kept waiting
-// until tables for 512 handsets are cleared.
+// `graph` reads the network, its similarity relation and its cores, `groups` finds the communities as rows of bits, `tables` counts and writes them;
+// `layout` says how the rows are laid out. The calls work everything out on the stack, and write only when nothing is left to refuse. The edges are
+// checked while they are read; where one is at fault, the reader is asked for the image's refusal. A plan's working tables have one of three sizes, so
+// that a small site is not kept waiting until tables for 512 handsets are cleared.
 mod graph;
 mod groups;
+mod layout;
 mod tables;
 
 ghost use mathlib.Core.Path.{_≡_};
@@ -13,7 +14,7 @@ ghost use Prim.Native.Nat.{_*_, _<_, _≤_};
 ghost use lib.ListN.{length};
 ghost use Rattle.image.specs.Questions.{openHeader};
 ghost use Rattle.planner.specs.Plan.{PlanCall, CoreWords, knownOf};
-ghost use Rattle.planner.specs.Held.{Empty, roleFor};
+ghost use Rattle.planner.specs.Held.{laid, rowWords, Empty, roleFor};
 use community::Role;
 use community::Standing;
 use image::Header;
@@ -52,7 +53,7 @@ fn plan_in(
     members: &mut [u16],
 ) -> Outcome
     requires { ⌜ (openHeader (now image) ≡ Opened.Site h) × (h .n ≤ length (now xs)) × (h .n ≤ length (now ys)) × (h .m ≤ length (now list)) ⌝ }
-    requires { ⌜ (8 * h .n ≤ length (now table)) × (h .n ≤ length (now sizes)) × (Empty (now table)) × (Empty (now sizes)) ⌝ }
+    requires { ⌜ (8 * h .n ≤ length (laid (rowWords (h .n)) (now table))) × (h .n ≤ length (now sizes)) × (Empty (now table)) × (Empty (now sizes)) ⌝ }
     ensures { λ r. ⌜ (PlanCall (now (image .entry)) (now (starts .entry)) (now (members .entry)) (r .answer) (now (starts .exit)) (now (members .exit))) × (CoreWords (now (image .entry)) (r .cores)) ⌝ }
 {
     let mut cores = [0u64; 8];
@@ -65,7 +66,7 @@ fn plan_in(
     let near = graph::keep_near(image, h, xs, ys, list, table, sizes);
     graph::keep_similar(image, h, near, list, table, sizes, &mut cores);
     let count = groups::find_groups(table, &cores, h.n as usize);
-    let answer = tables::make_plan(table, count, starts, members);
+    let answer = tables::make_plan(table, count, starts, members, h.n as usize);
     Outcome { answer, cores }
 }
 
@@ -77,7 +78,7 @@ fn plan_small(image: &[u8], h: Header, starts: &mut [u32], members: &mut [u16]) 
     let mut xs = [0u64; 64];
     let mut ys = [0u64; 64];
     let mut list = [0u16; 512];
-    let mut table = [0u64; 512];
+    let mut table = [0u64; 64];
     let mut sizes = [0u32; 64];
     plan_in(
         image,
@@ -167,14 +168,14 @@ pub fn plan(image: &[u8], starts: &mut [u32], members: &mut [u16]) -> Planned
 }
 
 // The role of a handset, from the set of cores and the communities as rows.
-fn role_in(cores: &[u64], rows: &[u64], count: usize, v: usize) -> Role
-    requires { ⌜ (count ≤ 512) × (v < 512) ⌝ }
-    ensures { λ r. ⌜ r ≡ roleFor (now (cores .entry)) (now (rows .entry)) count v ⌝ }
+fn role_in(cores: &[u64], rows: &[u64], count: usize, v: usize, n: usize) -> Role
+    requires { ⌜ (count ≤ 512) × (v < 512) × (v < n) ⌝ }
+    ensures { λ r. ⌜ r ≡ roleFor (now (cores .entry)) (laid (rowWords n) (now (rows .entry))) count v ⌝ }
 {
     if sets::has(cores, v) {
-        return Role::Core(tables::first_containing(rows, count, v));
+        return Role::Core(tables::first_containing(rows, count, v, n));
     }
-    let times = tables::count_containing(rows, count, v);
+    let times = tables::count_containing(rows, count, v, n);
     if times == 0 {
         Role::Outlier
     } else {
@@ -217,6 +218,6 @@ pub fn role(image: &[u8], v: usize) -> Known
         &mut cores,
     );
     let count = groups::find_groups(&mut table, &cores, h.n as usize);
-    let role = role_in(&cores, &table, count, v);
+    let role = role_in(&cores, &table, count, v, h.n as usize);
     Known::Handset(Standing { neighbours, role })
 }

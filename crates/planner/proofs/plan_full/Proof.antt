@@ -1,6 +1,7 @@
 -- `planner::plan_full` meets its contract: its tables are empty and have room for what every header allows.
 use mathlib.Core.Path.{refl, sym, subst}
 use Rattle.image.proofs.Acceptance.{Fits, header-yes, checked-fits}
+use Rattle.planner.proofs.Laid.{laid-room}
 use Rattle.planner.proofs.Rows.{empty-zeros}
 use native.Mathlib.Omega.{arith}
 use Rattle.planner.proofs.plan_full.Statement.{statement}
@@ -29,7 +30,7 @@ slice-aggregate-plan-in-5 c = refl
 plan-in-requires : tie.Need-plan-in-requires
 plan-in-requires c κs =
     let s = c .before .before .before .before .before .before .before .before .before .before in
-    ((s .pre, facts s .n-limit, facts s .n-limit, facts s .m-limit), (omega (arith, facts s .n-limit), facts s .n-limit, empty-zeros 4096, empty-zeros 512))
+    ((s .pre, facts s .n-limit, facts s .n-limit, facts s .m-limit), (laid-room (s .args .h .n) _ (λ h. omega (arith, h)) (λ h. omega (arith, h, facts s .n-limit)), facts s .n-limit, empty-zeros 4096, empty-zeros 512))
 
 same-length : tie.Need-same-length
 same-length c = c .before .before .before .before .before .before .before .before .before .plan-in .kept .1 .1 .1 .1 .1 .1 .1 .0

@@ -7,6 +7,8 @@ use Rattle.image.specs.Questions.{openOf, refusalOf, Accepted, headerOf}
 use Rattle.image.specs.declared.Header.{Header}
 use Rattle.image.specs.declared.Opened.the-variants as O
 use Rattle.image.proofs.Acceptance.{header-yes, accepted-fits}
+use Rattle.planner.specs.Held.{rowWords}
+use Rattle.planner.proofs.Laid.{laid-length}
 use Rattle.planner.proofs.Calls.{plan-refused, cores-refused, refused-of, found-of, plan-found, cores-found}
 use Rattle.planner.proofs.GraphLaws.{is-yes, keep-ready, cores-end, similar-end}
 use native.Mathlib.Omega.{arith}
@@ -66,7 +68,7 @@ keep-near-requires c κs =
       (fine e, header s, s .pre .0 .3, omega (arith, s .pre .0 .1, c .before .before .before .before .before .before .before .before .before .before .before .before .before .before .read-network .kept .1 .1 .0), omega (arith, s .pre .0 .2, c .before .before .before .before .before .before .before .before .before .before .before .before .before .before .read-network .kept .1 .1 .1 .0)),
       (
         r .0,
-        (omega (arith, s .pre .1 .0, c .before .before .before .before .before .before .before .before .before .before .before .before .before .before .read-network .kept .1 .1 .1 .1 .0), omega (arith, s .pre .1 .1, c .before .before .before .before .before .before .before .before .before .before .before .before .before .before .read-network .kept .1 .1 .1 .1 .1 .0), r .1, n .counted (yes e)),
+        (omega (arith, s .pre .1 .0, laid-length (rowWords (a .h .n)) (c .before .before .before .before .before .before .before .before .before .before .before .before .before .before .read-network .last .1 .1 .1 .1 .0) (a .table .now) (c .before .before .before .before .before .before .before .before .before .before .before .before .before .before .read-network .kept .1 .1 .1 .1 .0)), omega (arith, s .pre .1 .1, c .before .before .before .before .before .before .before .before .before .before .before .before .before .before .read-network .kept .1 .1 .1 .1 .1 .0), r .1, n .counted (yes e)),
       ),
     )
 
@@ -80,7 +82,7 @@ keep-similar-requires c κs =
       fine e,
       header s,
       omega (arith, s .pre .0 .3, c .before .before .before .before .before .before .before .before .before .before .keep-near .kept .1 .1 .1 .1 .0),
-      omega (arith, s .pre .1 .0, c .before .before .before .before .before .before .before .before .before .before .before .before .before .before .before .before .before .before .before .before .before .before .before .before .before .read-network .kept .1 .1 .1 .1 .0, c .before .before .before .before .before .before .before .before .before .before .keep-near .kept .1 .1 .1 .1 .1 .0),
+      omega (arith, s .pre .1 .0, laid-length (rowWords (s .args .h .n)) (c .before .before .before .before .before .before .before .before .before .before .keep-near .last .1 .1 .1 .1 .1 .0) (s .args .table .now) (c .before .before .before .before .before .before .before .before .before .before .keep-near .kept .1 .1 .1 .1 .1 .0 ∙ c .before .before .before .before .before .before .before .before .before .before .before .before .before .before .before .before .before .before .before .before .before .before .before .before .before .read-network .kept .1 .1 .1 .1 .0)),
       omega (arith, s .pre .1 .1, c .before .before .before .before .before .before .before .before .before .before .before .before .before .before .before .before .before .before .before .before .before .before .before .before .before .read-network .kept .1 .1 .1 .1 .1 .0, c .before .before .before .before .before .before .before .before .before .before .keep-near .kept .1 .1 .1 .1 .1 .1 .0),
       c .before .before .before .before .before .before .before .before .before .before .keep-near .ensures,
       refl,
@@ -100,28 +102,31 @@ find-groups-requires c κs =
     let y = c .before .before .before .before .before .before .before .before .before .before .keep-similar .ensures in (
       y .core-set .size,
       limit s (fine e),
-      omega (arith, s .pre .1 .0, c .before .before .before .before .before .before .before .before .before .before .before .before .before .before .before .before .before .before .before .before .before .before .before .before .before .before .before .before .before .before .before .before .before .before .before .before .read-network .kept .1 .1 .1 .1 .0, c .before .before .before .before .before .before .before .before .before .before .before .before .before .before .before .before .before .before .before .before .before .keep-near .kept .1 .1 .1 .1 .1 .0, c .before .before .before .before .before .before .before .before .before .before .keep-similar .kept .1 .1 .1 .1 .0),
+      omega (arith, s .pre .1 .0, laid-length (rowWords (a .h .n)) (c .before .before .before .before .before .before .before .before .before .before .keep-similar .last .1 .1 .1 .1 .0) (a .table .now) (c .before .before .before .before .before .before .before .before .before .before .keep-similar .kept .1 .1 .1 .1 .0 ∙ c .before .before .before .before .before .before .before .before .before .before .before .before .before .before .before .before .before .before .before .before .before .keep-near .kept .1 .1 .1 .1 .1 .0 ∙ c .before .before .before .before .before .before .before .before .before .before .before .before .before .before .before .before .before .before .before .before .before .before .before .before .before .before .before .before .before .before .before .before .before .before .before .before .read-network .kept .1 .1 .1 .1 .0)),
       cores-end (a .image .now) (a .h) (fine e) (header s) y,
       similar-end (a .image .now) (a .h) (fine e) (header s) y,
     )
 
+cast-make-plan : tie.Need-cast-make-plan
+cast-make-plan c = omega arith
+
 make-plan-requires : tie.Need-make-plan-requires
-make-plan-requires c κs = let f = c .before .before .before .before .before .find-groups .ensures in (omega (arith, f .room, f .size), f .most)
+make-plan-requires c κs = let f = c .before .before .before .before .before .before .find-groups .ensures in (omega (arith, f .room, f .size), f .most)
 
 same-length-5 : tie.Need-same-length-5
-same-length-5 c = c .before .before .before .before .before .before .before .before .before .before .before .before .before .before .before .before .before .before .before .before .before .before .before .before .before .before .before .before .before .before .before .before .before .before .before .before .before .before .before .before .before .before .before .before .before .before .before .read-network .kept .1 .1 .0
+same-length-5 c = c .before .before .before .before .before .before .before .before .before .before .before .before .before .before .before .before .before .before .before .before .before .before .before .before .before .before .before .before .before .before .before .before .before .before .before .before .before .before .before .before .before .before .before .before .before .before .before .before .read-network .kept .1 .1 .0
 
 same-length-6 : tie.Need-same-length-6
-same-length-6 c = c .before .before .before .before .before .before .before .before .before .before .before .before .before .before .before .before .before .before .before .before .before .before .before .before .before .before .before .before .before .before .before .before .before .before .before .before .before .before .before .before .before .before .before .before .before .before .before .read-network .kept .1 .1 .1 .0
+same-length-6 c = c .before .before .before .before .before .before .before .before .before .before .before .before .before .before .before .before .before .before .before .before .before .before .before .before .before .before .before .before .before .before .before .before .before .before .before .before .before .before .before .before .before .before .before .before .before .before .before .before .read-network .kept .1 .1 .1 .0
 
 same-length-7 : tie.Need-same-length-7
-same-length-7 c = c .before .before .before .before .before .before .before .before .before .before .before .before .before .before .before .before .before .before .before .before .before .keep-similar .kept .1 .1 .1 .0 ∙ c .before .before .before .before .before .before .before .before .before .before .before .before .before .before .before .before .before .before .before .before .before .before .before .before .before .before .before .before .before .before .before .before .keep-near .kept .1 .1 .1 .1 .0
+same-length-7 c = c .before .before .before .before .before .before .before .before .before .before .before .before .before .before .before .before .before .before .before .before .before .before .keep-similar .kept .1 .1 .1 .0 ∙ c .before .before .before .before .before .before .before .before .before .before .before .before .before .before .before .before .before .before .before .before .before .before .before .before .before .before .before .before .before .before .before .before .before .keep-near .kept .1 .1 .1 .1 .0
 
 same-length-8 : tie.Need-same-length-8
-same-length-8 c = c .before .before .before .before .before .before .before .before .before .before .find-groups .kept .0 ∙ c .before .before .before .before .before .before .before .before .before .before .before .before .before .before .before .before .before .before .before .before .before .keep-similar .kept .1 .1 .1 .1 .0 ∙ c .before .before .before .before .before .before .before .before .before .before .before .before .before .before .before .before .before .before .before .before .before .before .before .before .before .before .before .before .before .before .before .before .keep-near .kept .1 .1 .1 .1 .1 .0 ∙ c .before .before .before .before .before .before .before .before .before .before .before .before .before .before .before .before .before .before .before .before .before .before .before .before .before .before .before .before .before .before .before .before .before .before .before .before .before .before .before .before .before .before .before .before .before .before .before .read-network .kept .1 .1 .1 .1 .0
+same-length-8 c = c .before .before .before .before .before .before .before .before .before .before .before .find-groups .kept .0 ∙ c .before .before .before .before .before .before .before .before .before .before .before .before .before .before .before .before .before .before .before .before .before .before .keep-similar .kept .1 .1 .1 .1 .0 ∙ c .before .before .before .before .before .before .before .before .before .before .before .before .before .before .before .before .before .before .before .before .before .before .before .before .before .before .before .before .before .before .before .before .before .keep-near .kept .1 .1 .1 .1 .1 .0 ∙ c .before .before .before .before .before .before .before .before .before .before .before .before .before .before .before .before .before .before .before .before .before .before .before .before .before .before .before .before .before .before .before .before .before .before .before .before .before .before .before .before .before .before .before .before .before .before .before .before .read-network .kept .1 .1 .1 .1 .0
 
 same-length-9 : tie.Need-same-length-9
-same-length-9 c = c .before .before .before .before .before .before .before .before .before .before .before .before .before .before .before .before .before .before .before .before .before .keep-similar .kept .1 .1 .1 .1 .1 .0 ∙ c .before .before .before .before .before .before .before .before .before .before .before .before .before .before .before .before .before .before .before .before .before .before .before .before .before .before .before .before .before .before .before .before .keep-near .kept .1 .1 .1 .1 .1 .1 .0 ∙ c .before .before .before .before .before .before .before .before .before .before .before .before .before .before .before .before .before .before .before .before .before .before .before .before .before .before .before .before .before .before .before .before .before .before .before .before .before .before .before .before .before .before .before .before .before .before .before .read-network .kept .1 .1 .1 .1 .1 .0
+same-length-9 c = c .before .before .before .before .before .before .before .before .before .before .before .before .before .before .before .before .before .before .before .before .before .before .keep-similar .kept .1 .1 .1 .1 .1 .0 ∙ c .before .before .before .before .before .before .before .before .before .before .before .before .before .before .before .before .before .before .before .before .before .before .before .before .before .before .before .before .before .before .before .before .before .keep-near .kept .1 .1 .1 .1 .1 .1 .0 ∙ c .before .before .before .before .before .before .before .before .before .before .before .before .before .before .before .before .before .before .before .before .before .before .before .before .before .before .before .before .before .before .before .before .before .before .before .before .before .before .before .before .before .before .before .before .before .before .before .before .read-network .kept .1 .1 .1 .1 .1 .0
 
 same-length-10 : tie.Need-same-length-10
 same-length-10 c = c .before .before .before .before .make-plan .kept .1 .1 .0
@@ -131,10 +136,10 @@ same-length-11 c = c .before .before .before .before .make-plan .kept .1 .1 .1 .
 
 returns-2 : tie.Need-returns-2
 returns-2 c =
-    let a = c .before .before .before .before .before .before .before .before .before .before .before .before .before .before .before .before .before .before .before .before .before .before .before .before .before .before .before .before .before .before .before .before .before .before .before .before .before .before .before .before .before .before .before .before .before .before .before .before .before .before .before .before .before .before .before .before .before .before .before .before .args in
-    let ok = fine (c .before .before .before .before .before .before .before .before .before .before .before .before .before .before .before .before .before .before .before .before .before .before .before .before .before .before .before .before .before .before .before .before .before .before .before .before .before .before) in
+    let a = c .before .before .before .before .before .before .before .before .before .before .before .before .before .before .before .before .before .before .before .before .before .before .before .before .before .before .before .before .before .before .before .before .before .before .before .before .before .before .before .before .before .before .before .before .before .before .before .before .before .before .before .before .before .before .before .before .before .before .before .before .before .args in
+    let ok = fine (c .before .before .before .before .before .before .before .before .before .before .before .before .before .before .before .before .before .before .before .before .before .before .before .before .before .before .before .before .before .before .before .before .before .before .before .before .before .before .before) in
     let m = c .before .before .before .before .make-plan .ensures in
-    let f = found-of (a .image .now) ok (c .before .before .before .before .before .before .before .before .before .before .before .before .before .before .before .before .before .before .before .before .before .keep-similar .ensures) (c .before .before .before .before .before .before .before .before .before .before .find-groups .ensures) in
+    let f = found-of (a .image .now) ok (c .before .before .before .before .before .before .before .before .before .before .before .before .before .before .before .before .before .before .before .before .before .before .keep-similar .ensures) (c .before .before .before .before .before .before .before .before .before .before .before .find-groups .ensures) in
     (plan-found (a .image .now) ok f (a .starts .now) (a .members .now) _ _ _ (m .0) (m .1 .0) (m .1 .1), cores-found (a .image .now) ok (f .core-set))
 
 pub plan-in-spec : {M : Type 1} → statement M
@@ -155,6 +160,7 @@ plan-in-spec =
     slice-aggregate-find-groups
     cast-find-groups
     find-groups-requires
+    cast-make-plan
     make-plan-requires
     same-length-5
     same-length-6

@@ -1,5 +1,6 @@
 -- `planner::plan_small` meets its contract: its tables are empty and have room for as many handsets and edges.
 use mathlib.Core.Path.{refl}
+use Rattle.planner.proofs.Laid.{laid-room}
 use Rattle.planner.proofs.Rows.{empty-zeros}
 use native.Mathlib.Omega.{arith}
 use Rattle.planner.proofs.plan_small.Statement.{statement}
@@ -23,7 +24,7 @@ slice-aggregate-plan-in-5 c = refl
 plan-in-requires : tie.Need-plan-in-requires
 plan-in-requires c κs =
     let s = c .before .before .before .before .before .before .before .before .before .before in
-    ((s .pre .0, s .pre .1, s .pre .1, s .pre .2), (omega (arith, s .pre .1), s .pre .1, empty-zeros 512, empty-zeros 64))
+    ((s .pre .0, s .pre .1, s .pre .1, s .pre .2), (laid-room (s .args .h .n) _ (λ h. omega (arith, h)) (λ h. omega (arith, h, s .pre .1)), s .pre .1, empty-zeros 64, empty-zeros 64))
 
 same-length : tie.Need-same-length
 same-length c = c .before .before .before .before .before .before .before .before .before .plan-in .kept .1 .1 .1 .1 .1 .1 .1 .0

@@ -8,6 +8,7 @@ use Rattle.image.specs.Image.{handsetCount}
 use Rattle.image.specs.Questions.{openOf, refusalOf, Accepted}
 use Rattle.image.specs.declared.Opened.the-variants as O
 use Rattle.image.proofs.Acceptance.{Fits, header-no, header-yes, checked-fits}
+use Rattle.planner.proofs.Laid.{laid-room}
 use Rattle.planner.proofs.Rows.{empty-zeros}
 use Rattle.planner.proofs.Calls.{known-refused, refused-of, known-past, known-found, found-of, role-found, handsets-most, below-handsets, past-handsets}
 use Rattle.planner.proofs.GraphLaws.{is-yes, keep-ready, near-sizes, cores-end, similar-end}
@@ -52,7 +53,7 @@ read-network-requires : tie.Need-read-network-requires
 read-network-requires c κs =
     let p = header-yes (c .before .before .before .before .before .before .before .before .before .args .image .now) _ (sym (c .before .before .before .before .before .before .before .open-header .ensures) ∙ c .before .before .before .before .before .header .given .1) in
     let f = subst Fits (sym (p .1)) (checked-fits (c .before .before .before .before .before .before .before .before .before .args .image .now) (p .0)) in
-    ((sym (c .before .before .before .before .before .before .before .open-header .ensures) ∙ c .before .before .before .before .before .header .given .1, f .n-limit, f .n-limit), (omega (arith, f .n-limit), f .n-limit, empty-zeros 4096, empty-zeros 512))
+    ((sym (c .before .before .before .before .before .before .before .open-header .ensures) ∙ c .before .before .before .before .before .header .given .1, f .n-limit, f .n-limit), (laid-room _ _ (λ h. omega (arith, h)) (λ h. omega (arith, h, f .n-limit)), f .n-limit, empty-zeros 4096, empty-zeros 512))
 
 open-requires : tie.Need-open-requires
 open-requires c κs = tt
@@ -117,7 +118,7 @@ keep-near-requires c κs =
     let n = c .before .before .before .before .before .before .before .before .before .before .before .before .read-network .ensures in
     let r = keep-ready (a .image .now) _ (p .1) (yes e) n in (
       (fine e, p .1, f .m-limit, omega (arith, f .n-limit, c .before .before .before .before .before .before .before .before .before .before .before .before .read-network .kept .1 .1 .0), omega (arith, f .n-limit, c .before .before .before .before .before .before .before .before .before .before .before .before .read-network .kept .1 .1 .1 .0)),
-      (r .0, (omega (arith, f .n-limit, c .before .before .before .before .before .before .before .before .before .before .before .before .read-network .kept .1 .1 .1 .1 .0), omega (arith, f .n-limit, c .before .before .before .before .before .before .before .before .before .before .before .before .read-network .kept .1 .1 .1 .1 .1 .0), r .1, n .counted (yes e))),
+      (r .0, (laid-room _ _ (λ h. omega (arith, h, c .before .before .before .before .before .before .before .before .before .before .before .before .read-network .kept .1 .1 .1 .1 .0)) (λ h. omega (arith, h, f .n-limit, c .before .before .before .before .before .before .before .before .before .before .before .before .read-network .kept .1 .1 .1 .1 .0)), omega (arith, f .n-limit, c .before .before .before .before .before .before .before .before .before .before .before .before .read-network .kept .1 .1 .1 .1 .1 .0), r .1, n .counted (yes e))),
     )
 
 mul-neighbours : tie.Need-mul-neighbours
@@ -146,7 +147,7 @@ keep-similar-requires c κs =
       fine (c .before .before .before .before .before .before .before .before .before .before .before .before .before),
       p .1,
       omega (arith, f .m-limit, c .before .before .before .before .before .before .before .keep-near .kept .1 .1 .1 .1 .0),
-      omega (arith, f .n-limit, c .before .before .before .before .before .before .before .keep-near .kept .1 .1 .1 .1 .1 .0 ∙ c .before .before .before .before .before .before .before .before .before .before .before .before .before .before .before .before .before .before .before .before .read-network .kept .1 .1 .1 .1 .0),
+      (let k = c .before .before .before .before .before .before .before .keep-near .kept .1 .1 .1 .1 .1 .0 ∙ c .before .before .before .before .before .before .before .before .before .before .before .before .before .before .before .before .before .before .before .before .read-network .kept .1 .1 .1 .1 .0 in laid-room _ _ (λ h. omega (arith, h, k)) (λ h. omega (arith, h, f .n-limit, k))),
       omega (arith, f .n-limit, c .before .before .before .before .before .before .before .keep-near .kept .1 .1 .1 .1 .1 .1 .0 ∙ c .before .before .before .before .before .before .before .before .before .before .before .before .before .before .before .before .before .before .before .before .read-network .kept .1 .1 .1 .1 .1 .0),
       c .before .before .before .before .before .before .before .keep-near .ensures,
       refl,
@@ -168,7 +169,7 @@ find-groups-requires c κs =
     let p = header-yes (a .image .now) _ (sym (c .before .before .before .before .before .before .before .before .before .before .before .before .before .before .before .before .before .before .before .before .before .before .before .before .before .before .before .before .before .before .before .before .before .before .before .before .open-header .ensures) ∙ c .before .before .before .before .before .before .before .before .before .before .before .before .before .before .before .before .before .before .before .before .before .before .before .before .before .before .before .before .before .before .before .before .before .before .header .given .1) in
     let f = subst Fits (sym (p .1)) (checked-fits (a .image .now) (p .0)) in
     let y = c .before .before .before .before .before .before .before .keep-similar .ensures in
-    (y .core-set .size, f .n-limit, omega (arith, f .n-limit, c .before .before .before .before .before .before .before .keep-similar .kept .1 .1 .1 .1 .0 ∙ c .before .before .before .before .before .before .before .before .before .before .before .before .before .before .before .keep-near .kept .1 .1 .1 .1 .1 .0 ∙ c .before .before .before .before .before .before .before .before .before .before .before .before .before .before .before .before .before .before .before .before .before .before .before .before .before .before .before .before .read-network .kept .1 .1 .1 .1 .0), cores-end (a .image .now) _ (fine e) (p .1) y, similar-end (a .image .now) _ (fine e) (p .1) y)
+    (y .core-set .size, f .n-limit, (let k = c .before .before .before .before .before .before .before .keep-similar .kept .1 .1 .1 .1 .0 ∙ c .before .before .before .before .before .before .before .before .before .before .before .before .before .before .before .keep-near .kept .1 .1 .1 .1 .1 .0 ∙ c .before .before .before .before .before .before .before .before .before .before .before .before .before .before .before .before .before .before .before .before .before .before .before .before .before .before .before .before .read-network .kept .1 .1 .1 .1 .0 in laid-room _ _ (λ h. omega (arith, h, k)) (λ h. omega (arith, h, f .n-limit, k))), cores-end (a .image .now) _ (fine e) (p .1) y, similar-end (a .image .now) _ (fine e) (p .1) y)
 
 slice-aggregate-role-in : tie.Need-slice-aggregate-role-in
 slice-aggregate-role-in c = sym (c .before .before .before .before .before .before .before .before .before .before .keep-similar .ensures .core-set .size)
@@ -176,16 +177,19 @@ slice-aggregate-role-in c = sym (c .before .before .before .before .before .befo
 slice-aggregate-role-in-2 : tie.Need-slice-aggregate-role-in-2
 slice-aggregate-role-in-2 c = sym (c .before .before .before .find-groups .kept .0 ∙ c .before .before .before .before .before .before .before .before .before .before .before .keep-similar .kept .1 .1 .1 .1 .0 ∙ c .before .before .before .before .before .before .before .before .before .before .before .before .before .before .before .before .before .before .before .keep-near .kept .1 .1 .1 .1 .1 .0 ∙ c .before .before .before .before .before .before .before .before .before .before .before .before .before .before .before .before .before .before .before .before .before .before .before .before .before .before .before .before .before .before .before .before .read-network .kept .1 .1 .1 .1 .0)
 
+cast-role-in : tie.Need-cast-role-in
+cast-role-in c = omega arith
+
 role-in-requires : tie.Need-role-in-requires
-role-in-requires c κs = (c .before .before .before .find-groups .ensures .most, small (c .before .before .before .before .before .before .before .before .before .before .before .before .before .before .before .before .before .before .before .before .before .before .before .before .before))
+role-in-requires c κs = let e = c .before .before .before .before .before .before .before .before .before .before .before .before .before .before .before .before .before .before .before .before .before .before .before .before .before .before in (c .before .before .before .before .find-groups .ensures .most, small e, omega (arith, e .if2 .left))
 
 returns-4 : tie.Need-returns-4
 returns-4 c =
-    let a = c .before .before .before .before .before .before .before .before .before .before .before .before .before .before .before .before .before .before .before .before .before .before .before .before .before .before .before .before .before .before .before .before .before .before .before .before .before .before .before .before .before .before .before .args in
-    let e = c .before .before .before .before .before .before .before .before .before .before .before .before .before .before .before .before .before .before .before .before .before .before .before .before .before .before in
-    let p = header-yes (a .image .now) _ (sym (c .before .before .before .before .before .before .before .before .before .before .before .before .before .before .before .before .before .before .before .before .before .before .before .before .before .before .before .before .before .before .before .before .before .before .before .before .before .before .before .before .before .open-header .ensures) ∙ c .before .before .before .before .before .before .before .before .before .before .before .before .before .before .before .before .before .before .before .before .before .before .before .before .before .before .before .before .before .before .before .before .before .before .before .before .before .before .before .header .given .1) .1 in
-    let f = found-of (a .image .now) (fine e) (c .before .before .before .before .before .before .before .before .before .before .before .before .keep-similar .ensures) (c .before .before .before .before .find-groups .ensures) in
-    known-found (a .image .now) (fine e) (a .v) (within e) _ (near-sizes (a .image .now) _ (fine e) p (c .before .before .before .before .before .before .before .before .before .before .before .before .before .before .before .before .before .before .before .before .keep-near .ensures) (a .v) (within e))
+    let a = c .before .before .before .before .before .before .before .before .before .before .before .before .before .before .before .before .before .before .before .before .before .before .before .before .before .before .before .before .before .before .before .before .before .before .before .before .before .before .before .before .before .before .before .before .args in
+    let e = c .before .before .before .before .before .before .before .before .before .before .before .before .before .before .before .before .before .before .before .before .before .before .before .before .before .before .before in
+    let p = header-yes (a .image .now) _ (sym (c .before .before .before .before .before .before .before .before .before .before .before .before .before .before .before .before .before .before .before .before .before .before .before .before .before .before .before .before .before .before .before .before .before .before .before .before .before .before .before .before .before .before .open-header .ensures) ∙ c .before .before .before .before .before .before .before .before .before .before .before .before .before .before .before .before .before .before .before .before .before .before .before .before .before .before .before .before .before .before .before .before .before .before .before .before .before .before .before .before .header .given .1) .1 in
+    let f = found-of (a .image .now) (fine e) (c .before .before .before .before .before .before .before .before .before .before .before .before .before .keep-similar .ensures) (c .before .before .before .before .before .find-groups .ensures) in
+    known-found (a .image .now) (fine e) (a .v) (within e) _ (near-sizes (a .image .now) _ (fine e) p (c .before .before .before .before .before .before .before .before .before .before .before .before .before .before .before .before .before .before .before .before .before .keep-near .ensures) (a .v) (within e))
     (c .role-in .ensures ∙ role-found (a .image .now) (fine e) f (a .v) (within e))
 
 pub role-spec : {M : Type 1} → statement M
@@ -226,5 +230,6 @@ role-spec =
     find-groups-requires
     slice-aggregate-role-in
     slice-aggregate-role-in-2
+    cast-role-in
     role-in-requires
     returns-4)

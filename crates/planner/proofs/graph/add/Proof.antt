@@ -1,52 +1,61 @@
 -- `planner::graph::add` meets its contract: the word written is the one with the bit, and the row's size goes up by it.
-use Prim.Native.Nat.{ℕ, _*_, _+_, _/_, _%_, _^_}
-use mathlib.Core.Path.{_≡_, ap}
+use Prim.Native.Nat.{ℕ, _*_, _+_, _/_, _%_, _^_, _<_}
+use mathlib.Core.Path.{_≡_, sym, ap, ap₂, _∙_}
 use lib.Bits.{bitOr}
-use lib.ListN.{getD, set}
+use lib.ListN.{length, getD, set}
 use native.Mathlib.Nat.{mod-lt, zero-lt-suc}
 use Rattle.sets.specs.Bits.{withBit}
 use Rattle.sets.proofs.Bits.{shl-one}
+use Rattle.planner.specs.Held.{laid}
+use Rattle.planner.proofs.Laid.{laid-in, laid-get, laid-put}
 use Rattle.planner.proofs.Rows.{row-most, counted-add}
-use borrow.Author.Needs.{needs}
 use native.Mathlib.Omega.{arith}
+use borrow.Author.Needs.{needs}
 use Rattle.planner.proofs.graph.add.Statement.{statement}
 use Rattle.planner.proofs.graph.add.Tie as tie
 
-mul-i : tie.Need-mul-i
-mul-i c = omega arith
+word-of-requires : tie.Need-word-of-requires
+word-of-requires c κs = (c .before .before .pre .0 .0, c .before .before .pre .1 .0)
 
-add-i : tie.Need-add-i
-add-i c = omega arith
+-- the word that has the bit is there
+place : (c : tie.After-word-of) → c .word-of .result < length (c .before .before .before .args .table .now)
+place c = let a = c .before .before .before .args in omega (arith, laid-in (a .words) (a .table .now) (a .u) (a .v) (c .before .before .before .pre .1 .0) (c .before .before .before .pre .0 .1), c .word-of .ensures .0)
 
 mul-table : tie.Need-mul-table
-mul-table c = omega arith
+mul-table c = omega (arith, c .word-of .ensures .1)
 
 slice-read-table : tie.Need-slice-read-table
-slice-read-table c = omega arith
+slice-read-table c = place (c .before)
+
+mul-table-2 : tie.Need-mul-table-2
+mul-table-2 c = omega (arith, c .before .before .before .before .pre .0 .0)
+
+add-table : tie.Need-add-table
+add-table c = omega (arith, c .before .before .before .before .pre .0 .0, c .before .before .before .before .pre .1 .0)
 
 shl-table : tie.Need-shl-table
 shl-table c = omega arith
 
-mul-table-2 : tie.Need-mul-table-2
-mul-table-2 c = omega arith
+mul-table-3 : tie.Need-mul-table-3
+mul-table-3 c = omega (arith, c .before .word-of .ensures .1)
 
 slice-write-table : tie.Need-slice-write-table
-slice-write-table c = omega arith
+slice-write-table c = place (c .before)
 
 mul-sizes : tie.Need-mul-sizes
-mul-sizes c = omega arith
+mul-sizes c = search needs
 
 slice-read-sizes : tie.Need-slice-read-sizes
-slice-read-sizes c = omega arith
+slice-read-sizes c = search needs
 
 add-sizes : tie.Need-add-sizes
-add-sizes c = let s = c .before .before in record { fits = omega (arith, row-most (s .pre .2) (s .args .u) (s .pre .0 .0)) }
+add-sizes c = record { fits = omega (arith, row-most (c .before .before .before .before .before .pre .2) (c .before .before .before .before .before .args .u) (c .before .before .before .before .before .pre .0 .0)) }
 
 mul-sizes-2 : tie.Need-mul-sizes-2
-mul-sizes-2 c = omega arith
+mul-sizes-2 c = search needs
 
 slice-write-sizes : tie.Need-slice-write-sizes
-slice-write-sizes c = omega arith
+slice-write-sizes c = search needs
 
 same-length : tie.Need-same-length
 same-length c = search needs
@@ -57,23 +66,28 @@ same-length-2 c = search needs
 returns : tie.Need-returns
 unfolding withBit
 returns c =
-    let s = c .before .before in
+    let s = c .before .before .before .before .before in
     let a = s .args in
+    let t = a .table .now in
     let i : ℕ = a .u * 512 + a .v in
-    let e : set (a .table .now) (i / 64) (bitOr (getD (a .table .now) (i / 64) 0) (1 * 2 ^ (i % 64) % 2 ^ 64)) ≡ withBit (a .table .now) i =
-    ap (λ (x : ℕ). set (a .table .now) (i / 64) (bitOr (getD (a .table .now) (i / 64) 0) x)) (shl-one (i % 64) (mod-lt i (zero-lt-suc 63))) in
-    (e, rw e (counted-add (a .table .now) (a .sizes .now) (a .u) (a .v) (s .pre .0) (s .pre .1) (s .pre .2) (s .pre .3)))
+    let w = laid-get (a .words) t (a .u) (a .v) (s .pre .1) in
+    let e : laid (a .words) (set t (c .before .before .word-of .result) (bitOr (getD t (c .before .before .word-of .result) 0) (1 * 2 ^ (i % 64) % 2 ^ 64))) ≡ withBit (laid (a .words) t) i =
+    ap (λ (k : ℕ). laid (a .words) (set t k (bitOr (getD t k 0) (1 * 2 ^ (i % 64) % 2 ^ 64)))) (c .before .before .word-of .ensures .0)
+    ∙ laid-put (a .words) t (a .u) (a .v) _ (s .pre .1)
+    ∙ ap₂ (λ (x y : ℕ). set (laid (a .words) t) (i / 64) (bitOr x y)) (sym w) (shl-one (i % 64) (mod-lt i (zero-lt-suc 63))) in
+    (e, rw e (counted-add (laid (a .words) t) (a .sizes .now) (a .u) (a .v) (s .pre .0) (s .pre .1 .0) (s .pre .2) (s .pre .3)))
 
 pub add-spec : {M : Type 1} → statement M
 add-spec =
     tie.close
     (tie.spec
-    mul-i
-    add-i
+    word-of-requires
     mul-table
     slice-read-table
-    shl-table
     mul-table-2
+    add-table
+    shl-table
+    mul-table-3
     slice-write-table
     mul-sizes
     slice-read-sizes

@@ -13,19 +13,20 @@ use Rattle.sets.proofs.Bits.{bitAt-lt}
 use Rattle.image.specs.Questions.{badEnd}
 use Rattle.image.proofs.Acceptance.{good-ends}
 use Rattle.image.proofs.Scanning.{scan-none, scan-more}
-use Rattle.planner.specs.Held.{Table, Counted, Room, linked, faulty}
+use Rattle.planner.specs.Held.{laid, Fit, Table, Counted, Room, linked, faulty}
+use Rattle.planner.proofs.Laid.{laid-length}
 use Rattle.planner.proofs.Rows.{zero-is}
 use Rattle.planner.proofs.Edges.{linked-none, linked-more, table-has, second-new, end-told, fault-end, fault-linked, added-no, added-yes}
 use Rattle.planner.proofs.graph.add_edges.Statement.{statement}
 use Rattle.planner.proofs.graph.add_edges.Tie as tie
 
 abbrev Inv-loop : tie.InvT-loop
-Inv-loop edges n m table₀ sizes₀ k₀ table sizes k =
-    (k ≤ m) × T (not (any k (faulty edges n))) × Table table (linked n edges k) × Counted table sizes
+Inv-loop edges n m table₀ sizes₀ words k₀ table sizes k =
+    (k ≤ m) × T (not (any k (faulty edges n))) × Table (laid words table) (linked n edges k) × Counted (laid words table) sizes
     × (length table ≡ length table₀) × (length sizes ≡ length sizes₀)
 
 abbrev μ-loop : tie.MeasureT-loop
-μ-loop edges n m table₀ sizes₀ k₀ table sizes k = m - k
+μ-loop edges n m table₀ sizes₀ words k₀ table sizes k = m - k
 
 loop-holds : tie.Need-loop-holds Inv-loop μ-loop
 loop-holds c = let s = c .before .before .before in (omega arith, scan-none _, linked-none (s .args .n) (s .args .edges .now) (s .pre .5), s .pre .6, refl, refl)
@@ -58,22 +59,26 @@ good c =
 -- so both have rows
 ends : (c : tie.Else1 Inv-loop μ-loop)
     → (let n = c .before .before .before .before .before .before .before .before .args .n in let u = c .before .before .end-a .result in let v = c .before .end-b .result in let l = c .before .before .before .before .loop in
-    (u < n) × (v < n) × Room (l .table) (l .sizes) u × Room (l .table) (l .sizes) v)
+    let ws = laid (c .before .before .before .before .before .before .before .before .args .words) (l .table) in let w = c .before .before .before .before .before .before .before .before .args .words in
+    (u < n) × (v < n) × Room ws (l .sizes) u × Room ws (l .sizes) v × Fit w u × Fit w v)
 ends c =
     let a = c .before .before .before .before .before .before .before .before .args in
     let g = good-ends (a .edges .now) (a .n) (c .before .before .before .before .loop .k) (subst (λ (b : Bool). T (not b)) (sym (good c)) tt) in
     let s = c .before .before .before .before .before .before .before .before .pre in
     let l = c .before .before .before .before .loop .inv in
+    let long = laid-length (a .words) (c .before .before .before .before .loop .table) (a .table .now) (l .4) in
     let p : c .before .before .end-a .result < a .n = omega (arith, g .0, c .before .before .end-a .ensures) in
     let q : c .before .end-b .result < a .n = omega (arith, g .1, c .before .end-b .ensures) in (
       p,
       q,
-      (omega (arith, p, s .0), omega (arith, p, s .3, l .4), omega (arith, p, s .4, l .5)),
-      (omega (arith, q, s .0), omega (arith, q, s .3, l .4), omega (arith, q, s .4, l .5)),
+      (omega (arith, p, s .0), omega (arith, p, s .3, long), omega (arith, p, s .4, l .5)),
+      (omega (arith, q, s .0), omega (arith, q, s .3, long), omega (arith, q, s .4, l .5)),
+      s .7 _ p,
+      s .7 _ q,
     )
 
 has-requires : tie.Need-has-requires Inv-loop μ-loop
-has-requires c κs = let e = ends (c .before) in (e .2 .0, e .3 .0, e .2 .1)
+has-requires c κs = let e = ends (c .before) in (e .2 .0, e .5, e .2 .1)
 
 -- the bit looked at tells whether this edge is at fault
 told : (c : tie.After-has Inv-loop μ-loop) → (let a = c .before .before .before .before .before .before .before .before .before .before .args in faulty (a .edges .now) (a .n) (c .before .before .before .before .before .before .loop .k) ≡ c .has .result)
@@ -87,8 +92,8 @@ told c =
     ∙ sym (c .has .ensures ∙ table-has (linked (a .n) (a .edges .now) (l .k)) (l .inv .2) _ _ (e .2 .0) (e .3 .0) ∙ ap₂ (linked (a .n) (a .edges .now) (l .k)) p q)
 
 -- and where it is not, the cell is empty
-empty : (c : tie.Else2 Inv-loop μ-loop) → cell (c .before .before .before .before .before .before .before .loop .table) (c .before .before .before .before .before .end-a .result) (c .before .before .before .before .end-b .result) ≡ 0
-empty c = zero-is _ (bitAt-lt (c .before .before .before .before .before .before .before .loop .table) _) (sym (c .before .has .ensures) ∙ c .if2 .left)
+empty : (c : tie.Else2 Inv-loop μ-loop) → cell (laid (c .before .before .before .before .before .before .before .before .before .before .before .args .words) (c .before .before .before .before .before .before .before .loop .table)) (c .before .before .before .before .before .end-a .result) (c .before .before .before .before .end-b .result) ≡ 0
+empty c = zero-is _ (bitAt-lt (laid (c .before .before .before .before .before .before .before .before .before .before .before .args .words) (c .before .before .before .before .before .before .before .loop .table)) _) (sym (c .before .has .ensures) ∙ c .if2 .left)
 
 same-length-3 : tie.Need-same-length-3 Inv-loop μ-loop
 same-length-3 c = c .before .before .before .before .before .before .before .loop .inv .4
@@ -104,7 +109,7 @@ returns-2 c =
 add-requires : tie.Need-add-requires Inv-loop μ-loop
 add-requires c κs =
     let e = ends (c .before .before .before .before .before) in
-    (e .2, e .3 .0, c .before .before .before .before .before .before .before .before .before .loop .inv .3, empty (c .before .before))
+    (e .2, e .5, c .before .before .before .before .before .before .before .before .before .loop .inv .3, empty (c .before .before))
 
 add-requires-2 : tie.Need-add-requires-2 Inv-loop μ-loop
 add-requires-2 c κs =
@@ -114,8 +119,8 @@ add-requires-2 c κs =
     let u = c .before .before .before .before .before .before .before .before .before .before .before .before .before .before .end-a .result in
     let v = c .before .before .before .before .before .before .before .before .before .before .before .before .before .end-b .result in
     let made = c .before .before .before .before .before .before .add .ensures in (
-      (e .3 .0, omega (arith, e .3 .1, c .before .before .before .before .before .before .add .kept .0), omega (arith, e .3 .2, c .before .before .before .before .before .before .add .kept .1 .0)),
-      e .2 .0,
+      (e .3 .0, omega (arith, e .3 .1, laid-length (a .words) (c .before .before .before .before .before .before .add .last .0) (l .table) (c .before .before .before .before .before .before .add .kept .0)), omega (arith, e .3 .2, c .before .before .before .before .before .before .add .kept .1 .0)),
+      e .4,
       made .1,
       rw (made .0) (second-new (a .n) (a .edges .now) (l .k) (l .inv .2) u v (e .0) (e .2 .0) (e .3 .0) (empty (c .before .before .before .before .before .before .before .before .before))),
     )
@@ -138,7 +143,7 @@ loop-again c =
       omega (arith, c .before .before .before .before .before .before .before .before .before .before .before .before .before .before .before .before .before .before .before .before .loop-test .taken),
       scan-more _ (l .k) (l .inv .1) (told (c .before .before .before .before .before .before .before .before .before .before .before .before .before .before .before) ∙ c .before .before .before .before .before .before .before .before .before .before .before .before .before .before .if2 .left),
       subst (λ (ws : List ℕ). Table ws (linked (a .n) (a .edges .now) (l .k + 1)))
-          (sym (c .before .before .before .before .add2 .ensures .0 ∙ ap (λ (ws : List ℕ). withBit ws (v * 512 + u)) (c .before .before .before .before .before .before .before .before .before .before .before .add .ensures .0) ∙ ap₂ (λ (x y : ℕ). withBit (withBit (l .table) (x * 512 + y)) (y * 512 + x)) p q))
+          (sym (c .before .before .before .before .add2 .ensures .0 ∙ ap (λ (ws : List ℕ). withBit ws (v * 512 + u)) (c .before .before .before .before .before .before .before .before .before .before .before .add .ensures .0) ∙ ap₂ (λ (x y : ℕ). withBit (withBit (laid (a .words) (l .table)) (x * 512 + y)) (y * 512 + x)) p q))
           (linked-more (a .n) (a .edges .now) (l .k) (omega (arith, e .2 .0, p)) (omega (arith, e .3 .0, q)) (omega (arith, e .2 .1, p)) (omega (arith, e .3 .1, q)) (l .inv .2)),
       c .before .before .before .before .add2 .ensures .1,
       c .before .before .before .before .add2 .kept .0 ∙ c .before .before .before .before .before .before .before .before .before .before .before .add .kept .0 ∙ l .inv .4,
@@ -156,7 +161,7 @@ returns-3 c =
     let l = c .before .loop in
     let a = c .before .before .before .before .before .args in
     let e : l .k ≡ a .m = omega arith in
-    added-yes (a .edges .now) (a .n) (a .m) (subst (λ (j : ℕ). T (not (any j (faulty (a .edges .now) (a .n))))) e (l .inv .1)) (subst (λ (j : ℕ). Table (l .table) (linked (a .n) (a .edges .now) j)) e (l .inv .2)) (l .inv .3)
+    added-yes (a .edges .now) (a .n) (a .m) (subst (λ (j : ℕ). T (not (any j (faulty (a .edges .now) (a .n))))) e (l .inv .1)) (subst (λ (j : ℕ). Table (laid (a .words) (l .table)) (linked (a .n) (a .edges .now) j)) e (l .inv .2)) (l .inv .3)
 
 pub add-edges-spec : {M : Type 1} → statement M
 add-edges-spec =

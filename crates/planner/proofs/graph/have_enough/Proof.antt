@@ -4,6 +4,7 @@ use Prim.Native.Nat.{ℕ, _*_}
 use mathlib.Core.Path.{_∙_, ap}
 use lib.Dec.{leb}
 use lib.ListN.{getD}
+use Rattle.planner.specs.Held.{laid}
 use Rattle.planner.proofs.Rows.{common-few}
 use native.Mathlib.Omega.{arith}
 use Rattle.planner.proofs.graph.have_enough.Statement.{statement}
@@ -42,7 +43,7 @@ returns c =
     let a = s .args in
     c .meets-epsilon .ensures
     ∙ ap (λ (x : ℕ). leb (a .p * a .p * (getD (a .sizes .now) (a .u) 0 * getD (a .sizes .now) (a .v) 0)) (x * x * (a .q * a .q)))
-    (c .before .before .before .common-words .ensures .0 ∙ common-few (a .table .now) (a .u) (a .v) (a .words * 64) (a .words) (omega arith) (s .pre .0 .2) (s .pre .0 .3))
+    (c .before .before .before .common-words .ensures .0 ∙ common-few (laid (a .words) (a .table .now)) (a .u) (a .v) (a .words) (s .pre .0 .2) (s .pre .0 .3))
 
 pub have-enough-spec : {M : Type 1} → statement M
 have-enough-spec =

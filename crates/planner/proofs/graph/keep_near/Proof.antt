@@ -3,7 +3,8 @@
 use Prim.Native.Nat.{ℕ, _≤_}
 use mathlib.Core.List.{List}
 use lib.ListN.{length}
-use Rattle.planner.proofs.GraphLaws.{Read, header-is, checked-of, edgePart-length, length-ready, list-room, behind, behind-length, behind-picks, near-kept}
+use Rattle.planner.specs.Held.{laid, rowWords}
+use Rattle.planner.proofs.GraphLaws.{Read, header-is, checked-of, edgePart-length, length-ready, list-ends, list-room, behind, behind-length, behind-picks, near-kept}
 use native.Mathlib.Omega.{arith}
 use Rattle.planner.proofs.graph.keep_near.Statement.{statement}
 use Rattle.planner.proofs.graph.keep_near.Tie as tie
@@ -61,23 +62,27 @@ part-drop-edges-start c = omega (arith, c .before .before .before .list-by-lengt
 part-drop-edges-end : tie.Need-part-drop-edges-end
 part-drop-edges-end c = long (c .before .before .before)
 
+cast-drop-edges : tie.Need-cast-drop-edges
+cast-drop-edges c = omega arith
+
 drop-edges-requires : tie.Need-drop-edges-requires
 drop-edges-requires c κs =
-    let s = c .before .before .before .before .before .before .before .before .before .before .before .before .before .before .before .before .before in
+    let s = c .before .before .before .before .before .before .before .before .before .before .before .before .before .before .before .before .before .before in
     let a = s .args in
-    let l = c .before .before .before .before .before .before .list-by-length .ensures in
+    let l = c .before .before .before .before .before .before .before .list-by-length .ensures in
     let r = facts s in
-    let list = listed (c .before .before .before .before .before .before) in
-    let fits = long (c .before .before .before .before .before .before) in (
-      omega (arith, behind-length (a .image .now) (a .h) (s .pre .0 .0) (s .pre .0 .1) (c .before .before .before .before .before .before .list-by-length .result) list (l .0) fits, r .fits .m-limit),
+    let list = listed (c .before .before .before .before .before .before .before) in
+    let fits = long (c .before .before .before .before .before .before .before) in
+    let picks = behind-picks (a .image .now) (a .h) (s .pre .0 .0) (s .pre .0 .1) list (l .0) fits (l .1 .1) in
+    let dropped = behind (a .image .now) (a .h) (s .pre .0 .0) (s .pre .0 .1) (c .before .before .before .before .before .before .before .list-by-length .result) list in (
+      omega (arith, behind-length (a .image .now) (a .h) (s .pre .0 .0) (s .pre .0 .1) (c .before .before .before .before .before .before .before .list-by-length .result) list (l .0) fits, r .fits .m-limit),
       s .pre .1 .1 .3,
-      list-room (a .image .now) (a .h) (s .pre .0 .0) (s .pre .0 .1) (a .table .now) (a .sizes .now) (s .pre .1 .1 .0) (s .pre .1 .1 .1)
-          (behind (a .image .now) (a .h) (s .pre .0 .0) (s .pre .0 .1) (c .before .before .before .before .before .before .list-by-length .result) list)
-          (behind-picks (a .image .now) (a .h) (s .pre .0 .0) (s .pre .0 .1) list (l .0) fits (l .1 .1)),
+      list-room (a .image .now) (a .h) (s .pre .0 .0) (s .pre .0 .1) (laid (rowWords (a .h .n)) (a .table .now)) (a .sizes .now) (s .pre .1 .1 .0) (s .pre .1 .1 .1) dropped picks,
+      list-ends (a .image .now) (a .h) (s .pre .0 .0) (s .pre .0 .1) dropped picks,
     )
 
 same-length : tie.Need-same-length
-same-length c = c .before .before .before .before .before .before .before .before .before .before .before .list-by-length .kept .1 .1 .1 .1 .1 .0
+same-length c = c .before .before .before .before .before .before .before .before .before .before .before .before .list-by-length .kept .1 .1 .1 .1 .1 .0
 
 same-length-2 : tie.Need-same-length-2
 same-length-2 c = c .before .before .before .before .drop-edges .kept .1 .1 .0
@@ -87,13 +92,13 @@ same-length-3 c = c .before .before .before .before .drop-edges .kept .1 .1 .1 .
 
 returns : tie.Need-returns
 returns c =
-    let s = c .before .before .before .before .before .before .before .before .before .before .before .before .before .before .before .before .before .before .before .before .before .before in
+    let s = c .before .before .before .before .before .before .before .before .before .before .before .before .before .before .before .before .before .before .before .before .before .before .before in
     let a = s .args in
-    let l = c .before .before .before .before .before .before .before .before .before .before .before .list-by-length .ensures in
+    let l = c .before .before .before .before .before .before .before .before .before .before .before .before .list-by-length .ensures in
     let d = c .before .before .before .before .drop-edges .ensures in
-    let list = listed (c .before .before .before .before .before .before .before .before .before .before .before) in
+    let list = listed (c .before .before .before .before .before .before .before .before .before .before .before .before) in
     near-kept (a .image .now) (a .h) (s .pre .0 .0) (s .pre .0 .1) (a .xs .now) (a .ys .now) (s .pre .0 .3) (s .pre .0 .4) (s .pre .1 .0) (s .pre .1 .1 .2) (l .0) (l .1 .0)
-    (behind-picks (a .image .now) (a .h) (s .pre .0 .0) (s .pre .0 .1) list (l .0) (long (c .before .before .before .before .before .before .before .before .before .before .before)) (l .1 .1)) (d .0) (d .1)
+    (behind-picks (a .image .now) (a .h) (s .pre .0 .0) (s .pre .0 .1) list (l .0) (long (c .before .before .before .before .before .before .before .before .before .before .before .before)) (l .1 .1)) (d .0) (d .1)
 
 pub keep-near-spec : {M : Type 1} → statement M
 keep-near-spec =
@@ -111,6 +116,7 @@ keep-near-spec =
     sub-drop-edges
     part-drop-edges-start
     part-drop-edges-end
+    cast-drop-edges
     drop-edges-requires
     same-length
     same-length-2

@@ -9,7 +9,7 @@ use lib.Dec.{T}
 use lib.ListN.{length, getD, set, length-set}
 use lib.Seq.{getD-set-same, getD-set-other}
 use Rattle.image.specs.Image.{endA, endB}
-use Rattle.planner.specs.Held.{Picks, Room, Stands, enough}
+use Rattle.planner.specs.Held.{laid, Picks, Room, Stands, enough}
 use Rattle.planner.proofs.Picking.{picks-none, picks-yes, picks-no}
 use native.Mathlib.Omega.{arith}
 use Rattle.planner.proofs.graph.list_unlike_words.Statement.{statement}
@@ -18,7 +18,7 @@ use Rattle.planner.proofs.graph.list_unlike_words.Tie as tie
 abbrev Inv-loop : tie.InvT-loop
 Inv-loop edges table sizes words p q count list₀ c₀ i₀ list c i =
     (c ≤ i) × (i ≤ count) × (length list ≡ length list₀) × ((j : ℕ) → i ≤ j → getD list j 0 ≡ getD list₀ j 0)
-    × Picks (λ j. getD list j 0) c (λ j. getD list₀ j 0) i (λ k. not (enough table sizes p q (endA edges k) (endB edges k)))
+    × Picks (λ j. getD list j 0) c (λ j. getD list₀ j 0) i (λ k. not (enough (laid words table) sizes p q (endA edges k) (endB edges k)))
 
 abbrev μ-loop : tie.MeasureT-loop
 μ-loop edges table sizes words p q count list₀ c₀ i₀ list c i = count - i
@@ -34,11 +34,11 @@ slice-read-k c = omega (arith, c .before .before .before .before .before .before
 
 -- the number read is that of the list at first, so its record stands there and its ends have rows
 stands : (c : tie.After-slice-known2 Inv-loop μ-loop) → (let a = c .before .before .before .before .before .before .before .args in let k = getD (c .before .before .loop .list) (c .before .before .loop .i) 0 in
-    Stands (a .edges .now) k × Room (a .table .now) (a .sizes .now) (endA (a .edges .now) k) × Room (a .table .now) (a .sizes .now) (endB (a .edges .now) k))
+    Stands (a .edges .now) k × Room (laid (a .words) (a .table .now)) (a .sizes .now) (endA (a .edges .now) k) × Room (laid (a .words) (a .table .now)) (a .sizes .now) (endB (a .edges .now) k))
 stands c =
     let a = c .before .before .before .before .before .before .before .args in
     let l = c .before .before .loop in
-    subst (λ (k : ℕ). Stands (a .edges .now) k × Room (a .table .now) (a .sizes .now) (endA (a .edges .now) k) × Room (a .table .now) (a .sizes .now) (endB (a .edges .now) k))
+    subst (λ (k : ℕ). Stands (a .edges .now) k × Room (laid (a .words) (a .table .now)) (a .sizes .now) (endA (a .edges .now) k) × Room (laid (a .words) (a .table .now)) (a .sizes .now) (endB (a .edges .now) k))
     (sym (l .inv .3 (l .i) (omega arith)))
     (c .before .before .before .before .before .before .before .pre .1 .0 (l .i) (c .before .loop-test .taken))
 
@@ -59,8 +59,8 @@ have-enough-requires c κs =
     let v = c .end-b .result in
     let p = c .before .end-a .ensures in
     let q = c .end-b .ensures in
-    let ru : Room (s .args .table .now) (s .args .sizes .now) u = rw p (b .1) in
-    let rv : Room (s .args .table .now) (s .args .sizes .now) v = rw q (b .2) in (
+    let ru : Room (laid (s .args .words) (s .args .table .now)) (s .args .sizes .now) u = rw p (b .1) in
+    let rv : Room (laid (s .args .words) (s .args .table .now)) (s .args .sizes .now) v = rw q (b .2) in (
       (ru, rv, s .pre .0 .2, λ w. s .pre .1 .1 .1 u w (ru .0)),
       (s .pre .1 .1 .0 u (ru .0), s .pre .1 .1 .0 v (rv .0), s .pre .0 .3, s .pre .0 .4),
     )
@@ -95,9 +95,9 @@ loop-again c =
     let h = c .before .before .before .before .before .before .loop-test .taken in
     let list : List ℕ = set (l .list) (l .c) k in
     let from : k ≡ getD (a .list .now) (l .i) 0 = l .inv .3 (l .i) (omega arith) in
-    let test : ℕ → Bool = λ x. not (enough (a .table .now) (a .sizes .now) (a .p) (a .q) (endA (a .edges .now) x) (endB (a .edges .now) x)) in
+    let test : ℕ → Bool = λ x. not (enough (laid (a .words) (a .table .now)) (a .sizes .now) (a .p) (a .q) (endA (a .edges .now) x) (endB (a .edges .now) x)) in
     let told : test (getD (a .list .now) (l .i) 0) ≡ not (c .before .before .have-enough .result) =
-    ap test (sym from) ∙ ap not (sym (c .before .before .have-enough .ensures ∙ ap₂ (enough (a .table .now) (a .sizes .now) (a .p) (a .q)) (c .before .before .before .before .end-a .ensures) (c .before .before .before .end-b .ensures))) in
+    ap test (sym from) ∙ ap not (sym (c .before .before .have-enough .ensures ∙ ap₂ (enough (laid (a .words) (a .table .now)) (a .sizes .now) (a .p) (a .q)) (c .before .before .before .before .end-a .ensures) (c .before .before .before .end-b .ensures))) in
     let front : (j : ℕ) → j < l .c → getD list j 0 ≡ getD (l .list) j 0 = λ j q. getD-set-other (l .list) (l .c) j k 0 (λ e. omega arith) in
     let here : getD list (l .c) 0 ≡ getD (a .list .now) (l .i) 0 = getD-set-same (l .list) (l .c) k 0 (omega (arith, s .pre .0 .1, h, l .inv .0, l .inv .2)) ∙ from in (
       ⊎-elim (λ w. omega (arith, w .1, l .inv .0)) (λ w. omega (arith, w .1, l .inv .0)) (c .if1 .came),
@@ -123,7 +123,7 @@ returns c =
     let a = c .before .before .before .before .before .before .args in
     let e : l .i ≡ a .count = omega (arith, l .inv .1, c .loop-test .left) in (
       omega (arith, l .inv .0, e),
-      subst (λ (n : ℕ). Picks (λ x. getD (l .list) x 0) (l .c) (λ x. getD (a .list .now) x 0) n (λ k. not (enough (a .table .now) (a .sizes .now) (a .p) (a .q) (endA (a .edges .now) k) (endB (a .edges .now) k)))) e (l .inv .4),
+      subst (λ (n : ℕ). Picks (λ x. getD (l .list) x 0) (l .c) (λ x. getD (a .list .now) x 0) n (λ k. not (enough (laid (a .words) (a .table .now)) (a .sizes .now) (a .p) (a .q) (endA (a .edges .now) k) (endB (a .edges .now) k)))) e (l .inv .4),
     )
 
 pub list-unlike-words-spec : {M : Type 1} → statement M

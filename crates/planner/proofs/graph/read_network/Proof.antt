@@ -4,6 +4,7 @@ use native.Mathlib.Omega.{arith}
 use mathlib.Core.Path.{_≡_}
 use Rattle.image.specs.Questions.{headerOf}
 use Rattle.image.proofs.Acceptance.{Checked, header-yes}
+use Rattle.planner.proofs.Laid.{row-narrow, row-wide}
 use Rattle.planner.proofs.GraphLaws.{Read, header-is, edgePart-length, handsetPart-length, positions-told, edges-told, not-read, network-read}
 use Rattle.planner.proofs.graph.read_network.Statement.{statement}
 use Rattle.planner.proofs.graph.read_network.Tie as tie
@@ -60,34 +61,31 @@ same-length-2 c = omega arith
 returns : tie.Need-returns
 returns c =
     let s = c .before .before .before .before .before .before .before .before .before .before .before .before .before .before .before .before .before .before in
-    let r = c .before .before .before .before .before .read-positions in
-    not-read (s .args .image .now) (c .if1 .taken) (positions-told (s .args .image .now) (s .args .h) (passed s .1) (r .ensures)) _ _ _ _
+    not-read (s .args .image .now) (c .if1 .taken) (positions-told (s .args .image .now) (s .args .h) (passed s .1) (c .before .before .before .before .before .read-positions .ensures)) _ _ _ _
 
-add-selves-requires : tie.Need-add-selves-requires
-add-selves-requires c κs = let s = c .before .before .before .before .before .before .before .before .before .before .before .before .before .before .before .before .before .before .before .before in (facts s .fits .n-limit, s .pre .1 .0, s .pre .1 .1, s .pre .1 .2, s .pre .1 .3)
+sub-add-all : tie.Need-sub-add-all
+sub-add-all c = omega arith
 
-sub-add-edges : tie.Need-sub-add-edges
-sub-add-edges c = omega arith
+part-add-all-start : tie.Need-part-add-all-start
+part-add-all-start c = omega arith
 
-part-add-edges-start : tie.Need-part-add-edges-start
-part-add-edges-start c = omega arith
+part-add-all-end : tie.Need-part-add-all-end
+part-add-all-end c = let r = facts (c .before .before .before .before .before .before .before .before .before .before .before .before .before .before .before .before .before .before .before) in omega (arith, r .length-of, r .fits .edges-to)
 
-part-add-edges-end : tie.Need-part-add-edges-end
-part-add-edges-end c = let r = facts (c .before .before .before .before .before .before .before .before .before .before .before .before .before .before .before .before .before .before .before .before .before .before .before .before .before) in omega (arith, r .length-of, r .fits .edges-to)
-
-add-edges-requires : tie.Need-add-edges-requires
-add-edges-requires c κs =
-    let s = c .before .before .before .before .before .before .before .before .before .before .before .before .before .before .before .before .before .before .before .before .before .before .before .before .before .before .before .before in
+add-all-requires : tie.Need-add-all-requires
+add-all-requires c κs =
+    let s = c .before .before .before .before .before .before .before .before .before .before .before .before .before .before .before .before .before .before .before .before .before .before in
     let a = s .args in
     let r = facts s in
-    let made = c .before .before .before .before .before .before .before .add-selves .ensures in (
+    let e = row-narrow (a .h .n) (c .before .before .before .if2 .taken) in (
       r .fits .n-limit,
       r .fits .m-limit,
       omega (arith, edgePart-length (a .image .now) (a .h) r),
-      omega (arith, s .pre .1 .0, c .before .before .before .before .before .before .before .add-selves .kept .0),
-      omega (arith, s .pre .1 .1, c .before .before .before .before .before .before .before .add-selves .kept .1 .0),
-      made .0,
-      made .1,
+      rw e at (s .pre .1 .0),
+      s .pre .1 .1,
+      s .pre .1 .2,
+      s .pre .1 .3,
+      λ v q. let t = c .before .before .before .if2 .taken in (omega (arith, q, t), λ _. omega (arith, q, t)),
     )
 
 same-length-3 : tie.Need-same-length-3
@@ -104,10 +102,54 @@ same-length-6 c = omega arith
 
 returns-2 : tie.Need-returns-2
 returns-2 c =
-    let s = c .before .before .before .before .before .before .before .before .before .before .before .before .before .before .before .before .before .before .before .before .before .before .before .before .before .before .before .before .before .before .before .before .before in
-    let r = c .before .before .before .before .before .before .before .before .before .before .before .before .before .before .before .before .before .before .before .before .read-positions in
-    network-read (s .args .image .now) (passed s .0) (c .before .before .before .before .before .before .before .before .before .before .before .before .before .before .before .if1 .left) (positions-told (s .args .image .now) (s .args .h) (passed s .1) (r .ensures))
-    (edges-told (s .args .image .now) (s .args .h) (passed s .1) (c .before .before .before .before .add-edges .ensures))
+    let s = c .before .before .before .before .before .before .before .before .before .before .before .before .before .before .before .before .before .before .before .before .before .before .before .before .before .before .before in
+    rw (row-narrow (s .args .h .n) (c .before .before .before .before .before .before .before .before .if2 .taken))
+    (network-read (s .args .image .now) (passed s .0) (c .before .before .before .before .before .before .before .before .before .if1 .left) (positions-told (s .args .image .now) (s .args .h) (passed s .1) (c .before .before .before .before .before .before .before .before .before .before .before .before .before .before .read-positions .ensures))
+    (edges-told (s .args .image .now) (s .args .h) (passed s .1) (c .before .before .before .before .add-all .ensures)))
+
+sub-add-all-2 : tie.Need-sub-add-all-2
+sub-add-all-2 c = omega arith
+
+part-add-all-start-2 : tie.Need-part-add-all-start-2
+part-add-all-start-2 c = omega arith
+
+part-add-all-end-2 : tie.Need-part-add-all-end-2
+part-add-all-end-2 c = let r = facts (c .before .before .before .before .before .before .before .before .before .before .before .before .before .before .before .before .before .before .before) in omega (arith, r .length-of, r .fits .edges-to)
+
+add-all-requires-2 : tie.Need-add-all-requires-2
+add-all-requires-2 c κs =
+    let s = c .before .before .before .before .before .before .before .before .before .before .before .before .before .before .before .before .before .before .before .before .before .before in
+    let a = s .args in
+    let r = facts s in
+    let e = row-wide (a .h .n) (omega (arith, c .before .before .before .if2 .left)) in (
+      r .fits .n-limit,
+      r .fits .m-limit,
+      omega (arith, edgePart-length (a .image .now) (a .h) r),
+      rw e at (s .pre .1 .0),
+      s .pre .1 .1,
+      s .pre .1 .2,
+      s .pre .1 .3,
+      λ v q. (omega (arith, q, r .fits .n-limit), λ k. absurd (omega (arith, k))),
+    )
+
+same-length-7 : tie.Need-same-length-7
+same-length-7 c = omega arith
+
+same-length-8 : tie.Need-same-length-8
+same-length-8 c = omega arith
+
+same-length-9 : tie.Need-same-length-9
+same-length-9 c = omega arith
+
+same-length-10 : tie.Need-same-length-10
+same-length-10 c = omega arith
+
+returns-3 : tie.Need-returns-3
+returns-3 c =
+    let s = c .before .before .before .before .before .before .before .before .before .before .before .before .before .before .before .before .before .before .before .before .before .before .before .before .before .before .before in
+    rw (row-wide (s .args .h .n) (omega (arith, c .before .before .before .before .before .before .before .before .if2 .left)))
+    (network-read (s .args .image .now) (passed s .0) (c .before .before .before .before .before .before .before .before .before .if1 .left) (positions-told (s .args .image .now) (s .args .h) (passed s .1) (c .before .before .before .before .before .before .before .before .before .before .before .before .before .before .read-positions .ensures))
+    (edges-told (s .args .image .now) (s .args .h) (passed s .1) (c .before .before .before .before .add-all2 .ensures)))
 
 pub read-network-spec : {M : Type 1} → statement M
 read-network-spec =
@@ -128,13 +170,21 @@ read-network-spec =
     same-length
     same-length-2
     returns
-    add-selves-requires
-    sub-add-edges
-    part-add-edges-start
-    part-add-edges-end
-    add-edges-requires
+    sub-add-all
+    part-add-all-start
+    part-add-all-end
+    add-all-requires
     same-length-3
     same-length-4
     same-length-5
     same-length-6
-    returns-2)
+    returns-2
+    sub-add-all-2
+    part-add-all-start-2
+    part-add-all-end-2
+    add-all-requires-2
+    same-length-7
+    same-length-8
+    same-length-9
+    same-length-10
+    returns-3)

@@ -7,13 +7,14 @@ use lib.ListN.{length}
 use Rattle.sets.specs.Below.{sum}
 use Rattle.sets.specs.Bits.{bitAt}
 use Rattle.sets.proofs.Bits.{bitAt-lt}
+use Rattle.planner.specs.Held.{laid, rowWords}
 use Rattle.planner.proofs.Growth.{Growing, growing-start, growing-on, growing-falls, growing-end}
 use native.Mathlib.Omega.{arith}
 use Rattle.planner.proofs.groups.collect.Statement.{statement}
 use Rattle.planner.proofs.groups.collect.Tie as tie
 
 abbrev Inv-loop : tie.InvT-loop
-Inv-loop alike todo₀ u n set₀ w₀ todo set w = (length todo ≡ 8) × (length set ≡ 8) × Growing alike todo₀ u set todo w
+Inv-loop alike todo₀ u n set₀ w₀ todo set w = (length todo ≡ 8) × (length set ≡ 8) × Growing (laid (rowWords n) alike) todo₀ u set todo w
 
 abbrev μ-loop : tie.MeasureT-loop
 μ-loop alike todo₀ u n set₀ w₀ todo set w = sum 512 (bitAt todo)
@@ -29,8 +30,8 @@ loop-holds c =
     let s = c .before .before .before .before .before in (
       s .pre .1,
       c .before .mark .kept .0,
-      subst (λ (l : List ℕ). Growing (s .args .alike .now) (s .args .todo .now) (s .args .u) l (s .args .todo .now) (s .args .u))
-          (sym (c .before .mark .ensures)) (growing-start (s .args .alike .now) (s .args .todo .now) (s .args .u) (s .pre .0) (s .pre .2)),
+      subst (λ (l : List ℕ). Growing (laid (rowWords (s .args .n)) (s .args .alike .now)) (s .args .todo .now) (s .args .u) l (s .args .todo .now) (s .args .u))
+          (sym (c .before .mark .ensures)) (growing-start (laid (rowWords (s .args .n)) (s .args .alike .now)) (s .args .todo .now) (s .args .u) (s .pre .0) (s .pre .2)),
     )
 
 slice-aggregate-sweep : tie.Need-slice-aggregate-sweep Inv-loop μ-loop
@@ -58,7 +59,7 @@ loop-less : tie.Need-loop-less Inv-loop μ-loop
 loop-less c =
     let l = c .before .before .before .before .before .before .before .before .before .before .loop in
     let a = c .before .before .before .before .before .before .before .before .before .before .before .before .before .before .before .before .args in
-    growing-falls (a .alike .now) (a .todo .now) (a .u) (l .set) (l .todo) (c .before .before .before .before .before .before .sweep .last .1 .1 .0) (c .before .before .before .before .before .before .sweep .last .1 .0) (l .w) (c .first-common .result) (l .inv .2) (c .before .before .before .before .before .before .before .before .before .loop-test .taken) (c .before .before .before .before .before .before .sweep .ensures) (c .first-common .ensures)
+    growing-falls (laid (rowWords (a .n)) (a .alike .now)) (a .todo .now) (a .u) (l .set) (l .todo) (c .before .before .before .before .before .before .sweep .last .1 .1 .0) (c .before .before .before .before .before .before .sweep .last .1 .0) (l .w) (c .first-common .result) (l .inv .2) (c .before .before .before .before .before .before .before .before .before .loop-test .taken) (c .before .before .before .before .before .before .sweep .ensures) (c .first-common .ensures)
 
 loop-again : tie.Need-loop-again Inv-loop μ-loop
 loop-again c =
@@ -66,7 +67,7 @@ loop-again c =
     let a = c .before .before .before .before .before .before .before .before .before .before .before .before .before .before .before .before .args in (
       c .before .before .before .before .before .before .sweep .kept .1 .0 ∙ l .inv .0,
       c .before .before .before .before .before .before .sweep .ensures .size,
-      growing-on (a .alike .now) (a .todo .now) (a .u) (l .set) (l .todo) (c .before .before .before .before .before .before .sweep .last .1 .1 .0) (c .before .before .before .before .before .before .sweep .last .1 .0) (l .w) (c .first-common .result) (l .inv .2) (c .before .before .before .before .before .before .before .before .before .loop-test .taken) (c .before .before .before .before .before .before .sweep .ensures) (c .first-common .ensures),
+      growing-on (laid (rowWords (a .n)) (a .alike .now)) (a .todo .now) (a .u) (l .set) (l .todo) (c .before .before .before .before .before .before .sweep .last .1 .1 .0) (c .before .before .before .before .before .before .sweep .last .1 .0) (l .w) (c .first-common .result) (l .inv .2) (c .before .before .before .before .before .before .before .before .before .loop-test .taken) (c .before .before .before .before .before .before .sweep .ensures) (c .first-common .ensures),
     )
 
 same-length : tie.Need-same-length Inv-loop μ-loop
@@ -76,7 +77,7 @@ returns : tie.Need-returns Inv-loop μ-loop
 returns c =
     let a = c .before .before .before .before .before .before .before .args in
     let l = c .before .loop in
-    growing-end (a .alike .now) (a .todo .now) (a .u) (l .set) (l .todo) (l .w) (l .inv .2) (c .loop-test .left) (l .inv .1)
+    growing-end (laid (rowWords (a .n)) (a .alike .now)) (a .todo .now) (a .u) (l .set) (l .todo) (l .w) (l .inv .2) (c .loop-test .left) (l .inv .1)
 
 pub collect-spec : {M : Type 1} → statement M
 collect-spec =

@@ -5,6 +5,7 @@ use mathlib.Core.Path.{_≡_, sym, _∙_}
 use lib.Count.{trailingZeros}
 use Rattle.sets.specs.Below.{sum}
 use Rattle.sets.specs.Bits.{bitOf}
+use Rattle.planner.specs.Held.{laid, rowWords}
 use Rattle.planner.proofs.Lowest.{Lowest, lowest, cleared-falls}
 use Rattle.planner.proofs.Growth.{Adding, adding-start, adding-bit, adding-on, adding-end}
 use native.Mathlib.Omega.{arith}
@@ -12,13 +13,13 @@ use Rattle.planner.proofs.groups.join_all.Statement.{statement}
 use Rattle.planner.proofs.groups.join_all.Tie as tie
 
 abbrev Inv-loop : tie.InvT-loop
-Inv-loop table word base set₀ n w₀ set w = Adding table word base set₀ w set
+Inv-loop table word base set₀ n w₀ set w = Adding (laid (rowWords n) table) word base set₀ w set
 
 abbrev μ-loop : tie.MeasureT-loop
 μ-loop table word base set₀ n w₀ set w = sum 64 (bitOf w)
 
 loop-holds : tie.Need-loop-holds Inv-loop μ-loop
-loop-holds c = let s = c .before .before in adding-start (s .args .table .now) (s .args .word) (s .args .base) (s .args .set .now) (s .fits .word .fits) (s .pre .1)
+loop-holds c = let s = c .before .before in adding-start (laid (rowWords (s .args .n)) (s .args .table .now)) (s .args .word) (s .args .base) (s .args .set .now) (s .fits .word .fits) (s .pre .1)
 
 -- the place of the lowest set bit
 first : (c : tie.In-loop Inv-loop μ-loop) → (trailingZeros 64 (c .before .loop .w) < 64) × Lowest (c .before .loop .w) (trailingZeros 64 (c .before .loop .w))
@@ -29,7 +30,7 @@ row : (c : tie.In-loop Inv-loop μ-loop) → bitOf (c .before .before .before .b
 row c =
     let a = c .before .before .before .before .args in
     let l = c .before .loop in
-    adding-bit (a .table .now) (a .word) (a .base) (a .set .now) (l .w) (l .set) (l .inv) (trailingZeros 64 (l .w)) (first c .1 .here)
+    adding-bit (laid (rowWords (a .n)) (a .table .now)) (a .word) (a .base) (a .set .now) (l .w) (l .set) (l .inv) (trailingZeros 64 (l .w)) (first c .1 .here)
 
 cast-join-row : tie.Need-cast-join-row Inv-loop μ-loop
 cast-join-row c = omega (arith, first c .0)
@@ -61,7 +62,7 @@ loop-again c =
     let a = c .before .before .before .before .before .before .before .before .args in
     let l = c .before .before .before .before .before .loop in
     let i = c .before .before .before .before in
-    adding-on (a .table .now) (a .word) (a .base) (a .set .now) (l .w) (l .set) (l .inv) (trailingZeros 64 (l .w)) (c .before .before .join-row .last .1 .1 .0) (first i .0) (first i .1 .here)
+    adding-on (laid (rowWords (a .n)) (a .table .now)) (a .word) (a .base) (a .set .now) (l .w) (l .set) (l .inv) (trailingZeros 64 (l .w)) (c .before .before .join-row .last .1 .1 .0) (first i .0) (first i .1 .here)
     (c .before .before .join-row .ensures)
 
 same-length : tie.Need-same-length Inv-loop μ-loop
@@ -71,7 +72,7 @@ returns : tie.Need-returns Inv-loop μ-loop
 returns c =
     let a = c .before .before .before .before .args in
     let l = c .before .loop in
-    adding-end (a .table .now) (a .word) (a .base) (a .set .now) (l .w) (l .set) (l .inv) (omega (arith, c .loop-test .left))
+    adding-end (laid (rowWords (a .n)) (a .table .now)) (a .word) (a .base) (a .set .now) (l .w) (l .set) (l .inv) (omega (arith, c .loop-test .left))
 
 pub join-all-spec : {M : Type 1} → statement M
 join-all-spec =

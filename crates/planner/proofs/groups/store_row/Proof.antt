@@ -1,73 +1,42 @@
--- `planner::groups::store_row` meets its contract. The words of the row before j are the set's, and no word of another row is changed. The measure
--- is the number of words left.
-use Prim.Native.Nat.{_-_}
+-- `planner::groups::store_row` meets its contract, by the two ways to lay out rows.
+use mathlib.Core.Path.{refl}
+use mathlib.Core.Logic.{inl, inr}
 use native.Mathlib.Omega.{arith}
-use Rattle.planner.proofs.Growth.{Storing, storing-start, storing-on, storing-end}
+use Rattle.planner.proofs.Laid.{row-narrow, row-wide}
+use borrow.Author.Needs.{needs}
 use Rattle.planner.proofs.groups.store_row.Statement.{statement}
 use Rattle.planner.proofs.groups.store_row.Tie as tie
 
-abbrev Inv-loop : tie.InvT-loop
-Inv-loop rows₀ k set first j₀ rows j = Storing rows₀ k set rows j
+store-words-requires : tie.Need-store-words-requires
+store-words-requires c κs =
+    let s = c .before .before .before .before in
+    let t = c .before .if1 .taken in
+    (s .pre .0, rw (row-narrow (s .args .n) t) at (s .pre .1), s .pre .2, inl refl, λ v h q. s .pre .3 v (omega (arith, h, t)) q)
 
-abbrev μ-loop : tie.MeasureT-loop
-μ-loop rows₀ k set first j₀ rows j = 8 - j
+same-length : tie.Need-same-length
+same-length c = search needs
 
-mul-first : tie.Need-mul-first Inv-loop μ-loop
-mul-first c = omega arith
+returns : tie.Need-returns
+returns c = rw (row-narrow (c .before .before .before .before .before .before .before .args .n) (c .before .before .before .before .if1 .taken)) (c .before .before .store-words .ensures)
 
-loop-holds : tie.Need-loop-holds Inv-loop μ-loop
-loop-holds c = storing-start (c .args .rows .now) (c .args .k) (c .args .set .now)
+store-words-requires-2 : tie.Need-store-words-requires-2
+store-words-requires-2 c κs =
+    let s = c .before .before .before .before in
+    (s .pre .0, rw (row-wide (s .args .n) (omega (arith, c .before .if1 .left))) at (s .pre .1), s .pre .2, inr refl, λ v h q. absurd (omega (arith, h, q)))
 
-mul-rows : tie.Need-mul-rows Inv-loop μ-loop
-mul-rows c = omega arith
+same-length-2 : tie.Need-same-length-2
+same-length-2 c = search needs
 
-shared-slice-read-rows : tie.Need-shared-slice-read-rows Inv-loop μ-loop
-shared-slice-read-rows c = omega arith
-
-add-rows : tie.Need-add-rows Inv-loop μ-loop
-add-rows c = omega arith
-
-mul-rows-2 : tie.Need-mul-rows-2 Inv-loop μ-loop
-mul-rows-2 c = omega arith
-
-slice-write-rows : tie.Need-slice-write-rows Inv-loop μ-loop
-slice-write-rows c = omega arith
-
-add-j : tie.Need-add-j Inv-loop μ-loop
-add-j c = omega arith
-
-loop-less : tie.Need-loop-less Inv-loop μ-loop
-loop-less c = omega arith
-
-loop-again : tie.Need-loop-again Inv-loop μ-loop
-loop-again c =
-    let l = c .before .before in
-    let a = l .before .args in
-    storing-on (a .rows .now) (a .k) (a .set .now) (l .loop .rows) (l .loop .j) (l .loop .inv) (omega arith) (l .before .pre .0)
-
-same-length : tie.Need-same-length Inv-loop μ-loop
-same-length c = omega arith
-
-returns : tie.Need-returns Inv-loop μ-loop
-returns c =
-    let a = c .before .before .args in
-    storing-end (a .rows .now) (a .k) (a .set .now) (c .before .loop .rows) (c .before .loop .j) (c .before .loop .inv) (c .loop-test .left)
+returns-2 : tie.Need-returns-2
+returns-2 c = rw (row-wide (c .before .before .before .before .before .before .before .args .n) (omega (arith, c .before .before .before .before .if1 .left))) (c .before .before .store-words2 .ensures)
 
 pub store-row-spec : {M : Type 1} → statement M
 store-row-spec =
     tie.close
     (tie.spec
-    Inv-loop
-    μ-loop
-    mul-first
-    loop-holds
-    mul-rows
-    shared-slice-read-rows
-    add-rows
-    mul-rows-2
-    slice-write-rows
-    add-j
-    loop-less
-    loop-again
+    store-words-requires
     same-length
-    returns)
+    returns
+    store-words-requires-2
+    same-length-2
+    returns-2)

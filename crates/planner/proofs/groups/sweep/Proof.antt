@@ -5,19 +5,20 @@ use native.Mathlib.Decide.{decLt}
 use mathlib.Core.Path.{_≡_, sym, _∙_}
 use lib.ListN.{length}
 use Rattle.sets.specs.Bits.{bitAt}
+use Rattle.planner.specs.Held.{laid, rowWords}
 use Rattle.planner.proofs.Growth.{Sweeping, sweeping-start, shared-bit, sweeping-on, sweeping-end}
 use native.Mathlib.Omega.{arith}
 use Rattle.planner.proofs.groups.sweep.Statement.{statement}
 use Rattle.planner.proofs.groups.sweep.Tie as tie
 
 abbrev Inv-loop : tie.InvT-loop
-Inv-loop table todo₀ set₀ n j₀ todo set j = (j ≤ 8) × Sweeping table todo₀ set₀ todo set j
+Inv-loop table todo₀ set₀ n j₀ todo set j = (j ≤ 8) × Sweeping (laid (rowWords n) table) todo₀ set₀ todo set j
 
 abbrev μ-loop : tie.MeasureT-loop
 μ-loop table todo₀ set₀ n j₀ todo set j = 8 - j
 
 loop-holds : tie.Need-loop-holds Inv-loop μ-loop
-loop-holds c = let s = c .before .before .before in (omega arith, sweeping-start (s .args .table .now) (s .args .todo .now) (s .args .set .now) (s .pre .0) (s .pre .1))
+loop-holds c = let s = c .before .before .before in (omega arith, sweeping-start (laid (rowWords (s .args .n)) (s .args .table .now)) (s .args .todo .now) (s .args .set .now) (s .pre .0) (s .pre .1))
 
 mul-loop : tie.Need-mul-loop Inv-loop μ-loop
 mul-loop c = omega (arith, c .loop .inv .0)
@@ -55,7 +56,7 @@ mul-join-all c = omega (arith, low (c .before .before .before))
 -- a number of todo is below n, and so has a row
 below : (c : tie.After-join-all-arg Inv-loop μ-loop) {k : ℕ}
     → (bitAt (c .before .before .before .before .before .loop .set) (c .before .before .before .before .before .loop .j * 64 + k) ≡ 1) × (bitAt (c .before .before .before .before .before .loop .todo) (c .before .before .before .before .before .loop .j * 64 + k) ≡ 1) × (bitAt (c .before .before .before .before .before .before .before .before .before .args .todo .now) (c .before .before .before .before .before .loop .j * 64 + k) ≡ 1)
-    → k < 64 → (c .before .before .before .before .before .loop .j * 64 + k) * 8 + 8 ≤ length (c .before .before .before .before .before .before .before .before .before .args .table .now)
+    → k < 64 → (c .before .before .before .before .before .loop .j * 64 + k) * 8 + 8 ≤ length (laid (rowWords (c .before .before .before .before .before .before .before .before .before .args .n)) (c .before .before .before .before .before .before .before .before .before .args .table .now))
 below c {k} t lk = go (decLt (c .before .before .before .before .before .loop .j * 64 + k) (c .before .before .before .before .before .before .before .before .before .args .n))
   where
     s : tie.Start Inv-loop μ-loop
@@ -64,7 +65,7 @@ below c {k} t lk = go (decLt (c .before .before .before .before .before .loop .j
     i : ℕ
     i = c .before .before .before .before .before .loop .j * 64 + k
 
-    go : Dec (i < s .args .n) → i * 8 + 8 ≤ length (s .args .table .now)
+    go : Dec (i < s .args .n) → i * 8 + 8 ≤ length (laid (rowWords (s .args .n)) (s .args .table .now))
     go (yes h) = omega (arith, h, s .pre .3)
     go (no d) = absurd (omega (arith, t .2, s .pre .4 i (omega arith) (omega (arith, lk, low (c .before .before .before .before)))))
 
@@ -78,7 +79,7 @@ join-all-requires c κs =
       l .inv .1 .size,
       s .pre .2,
       λ k lk e.
-          let t = shared-bit (a .table .now) (a .todo .now) (a .set .now) (l .todo) (l .set) (l .j) (l .inv .1) h k lk e in
+          let t = shared-bit (laid (rowWords (a .n)) (a .table .now)) (a .todo .now) (a .set .now) (l .todo) (l .set) (l .j) (l .inv .1) h k lk e in
           (below c t lk, λ v p q. s .pre .5 (l .j * 64 + k) v (omega (arith, h, lk)) p q (t .2)),
     )
 
@@ -94,7 +95,7 @@ loop-again c =
     let l = c .before .before .before .before .before .before .before .before .loop in
     let h = low (c .before .before .before .before .before .before .before) in (
       omega (arith, h),
-      sweeping-on (a .table .now) (a .todo .now) (a .set .now) (l .todo) (l .set) (l .j) (l .inv .1) h (c .before .before .join-all .last .1 .1 .1 .0) (c .before .before .join-all .ensures),
+      sweeping-on (laid (rowWords (a .n)) (a .table .now)) (a .todo .now) (a .set .now) (l .todo) (l .set) (l .j) (l .inv .1) h (c .before .before .join-all .last .1 .1 .1 .0) (c .before .before .join-all .ensures),
     )
 
 same-length : tie.Need-same-length Inv-loop μ-loop
@@ -107,7 +108,7 @@ returns : tie.Need-returns Inv-loop μ-loop
 returns c =
     let a = c .before .before .before .before .before .args in
     let l = c .before .loop in
-    sweeping-end (a .table .now) (a .todo .now) (a .set .now) (l .todo) (l .set) (l .j) (a .n) (l .inv .1) (omega (arith, c .loop-test .left)) (c .before .before .before .before .before .pre .4)
+    sweeping-end (laid (rowWords (a .n)) (a .table .now)) (a .todo .now) (a .set .now) (l .todo) (l .set) (l .j) (a .n) (l .inv .1) (omega (arith, c .loop-test .left)) (c .before .before .before .before .before .pre .4)
 
 pub sweep-spec : {M : Type 1} → statement M
 sweep-spec =

@@ -5,28 +5,28 @@ use Prim.Native.Nat.{ℕ, _*_, _-_, _≤_}
 use native.Mathlib.Omega.{arith}
 use lib.ListN.{length}
 use Rattle.community.specs.Tables.{memberTable}
-use Rattle.planner.specs.Held.{rowsOf}
+use Rattle.planner.specs.Held.{laid, rowWords, rowsOf}
 use Rattle.planner.proofs.Listing.{members-none, members-length, row-small}
 use Rattle.planner.proofs.tables.count_members.Statement.{statement}
 use Rattle.planner.proofs.tables.count_members.Tie as tie
 
 abbrev Inv-loop : tie.InvT-loop
-Inv-loop rows count n₀ k₀ n k = (k ≤ count) × (n ≤ k * 512) × (n ≡ length (memberTable (rowsOf rows k)))
+Inv-loop rows count n total₀ k₀ total k = (k ≤ count) × (total ≤ k * 512) × (total ≡ length (memberTable (rowsOf (laid (rowWords n) rows) k)))
 
 abbrev μ-loop : tie.MeasureT-loop
-μ-loop rows count n₀ k₀ n k = count - k
+μ-loop rows count n total₀ k₀ total k = count - k
 
 loop-holds : tie.Need-loop-holds Inv-loop μ-loop
-loop-holds c = (omega arith, omega arith, sym (ap length (members-none (c .before .args .rows .now))))
+loop-holds c = (omega arith, omega arith, sym (ap length (members-none (laid (rowWords (c .before .args .n)) (c .before .args .rows .now)))))
 
 row-size-requires : tie.Need-row-size-requires Inv-loop μ-loop
 row-size-requires c κs = (omega (arith, c .before .before .before .pre .0), omega arith)
 
-cast-n : tie.Need-cast-n Inv-loop μ-loop
-cast-n c = omega (arith, c .row-size .ensures, row-small (c .before .before .before .before .args .rows .now) (c .before .before .loop .k))
+cast-total : tie.Need-cast-total Inv-loop μ-loop
+cast-total c = omega (arith, c .row-size .ensures, row-small (laid (rowWords (c .before .before .before .before .args .n)) (c .before .before .before .before .args .rows .now)) (c .before .before .loop .k))
 
-add-n : tie.Need-add-n Inv-loop μ-loop
-add-n c = omega (arith, c .row-size .ensures, row-small (c .before .before .before .before .args .rows .now) (c .before .before .loop .k))
+add-total : tie.Need-add-total Inv-loop μ-loop
+add-total c = omega (arith, c .row-size .ensures, row-small (laid (rowWords (c .before .before .before .before .args .n)) (c .before .before .before .before .args .rows .now)) (c .before .before .loop .k))
 
 add-k : tie.Need-add-k Inv-loop μ-loop
 add-k c = omega arith
@@ -36,7 +36,7 @@ loop-less c = omega arith
 
 loop-again : tie.Need-loop-again Inv-loop μ-loop
 loop-again c =
-    let rows = c .before .before .before .before .args .rows .now in
+    let rows = laid (rowWords (c .before .before .before .before .args .n)) (c .before .before .before .before .args .rows .now) in
     let k : ℕ = c .before .before .loop .k in
     (omega arith, omega (arith, c .row-size .ensures, row-small rows k), omega (arith, c .row-size .ensures, members-length rows k))
 
@@ -44,7 +44,7 @@ returns : tie.Need-returns Inv-loop μ-loop
 returns c =
     let a = c .before .before .before .args in
     let e : c .before .loop .k ≡ a .count = omega arith in
-    c .before .loop .inv .2 ∙ ap (λ (k : ℕ). length (memberTable (rowsOf (a .rows .now) k))) e
+    c .before .loop .inv .2 ∙ ap (λ (k : ℕ). length (memberTable (rowsOf (laid (rowWords (a .n)) (a .rows .now)) k))) e
 
 pub count-members-spec : {M : Type 1} → statement M
 count-members-spec =
@@ -54,8 +54,8 @@ count-members-spec =
     μ-loop
     loop-holds
     row-size-requires
-    cast-n
-    add-n
+    cast-total
+    add-total
     add-k
     loop-less
     loop-again
