@@ -3,23 +3,23 @@
 use Prim.Native.Nat.{ℕ, zero, suc, _+_, _*_, _≤_, _<_}
 use native.Mathlib.Omega.{arith}
 use native.Mathlib.Nat.{le-trans}
-use mathlib.Core.Path.{_≡_, refl, sym, ap, ap₂, _∙_, subst}
-use mathlib.Core.Logic.{_⊎_, inl, inr, ⊎-elim}
-use mathlib.Core.Bool.{Bool, true, false, _&&_, _||_, not, cond}
+use mathlib.Core.Path.{_≡_, refl, sym, ap, _∙_, subst}
+use mathlib.Core.Logic.{_⊎_, ⊎-elim}
+use mathlib.Core.Bool.{Bool, true, _&&_, _||_, not}
 use mathlib.Core.List.{List, [], _∷_, _++_, map}
-use lib.Dec.{T, eqb, eqb→eq, eqb-refl, T-not, not-T}
-use lib.ListN.{length, getD, length-append}
-use Rattle.sets.specs.Below.{any, count, select, sum}
+use lib.Dec.{T, eqb, eqb→eq, T-not, not-T}
+use lib.ListN.{length, length-append}
+use Rattle.sets.specs.Below.{count, select, sum}
 use Rattle.sets.proofs.Tests.{and-make, and-left, and-right, or-left, or-right, or-cases, decide, any-take, eqb-of, T-true, T-false}
 use Rattle.sets.proofs.Selecting.{map-append, select-yes, select-no, length-select}
-use Rattle.sets.proofs.Counting.{count-pairs, Pairs, count-le, count-false, count-eqb, count-or, count-swap, sum-cong, sum-le, sum-add, sum-const}
+use Rattle.sets.proofs.Counting.{count-pairs, count-le, count-false, count-eqb, count-or, count-swap, sum-le, sum-add, sum-const}
 use Rattle.image.specs.Image.{neighbour, adjacent, edgeCount, edgeRecords, handsetCount, joins, endA, endB}
 use Rattle.image.specs.Questions.{Accepted}
 use Rattle.community.specs.Network.{Network, similar, meetsEpsilon, commonNeighbours, neighbourhoodSize, isCore, step, Reachable, one, more, reachable, isLeader, leaders, members, communities}
 use Rattle.community.specs.Tables.{memberTable}
 use Rattle.community.specs.Renumbered.{SamePair}
 use Rattle.community.specs.Site.{network}
-use Rattle.community.proofs.Reachability.{reachable-sound, from-below, to-below}
+use Rattle.community.proofs.Reachability.{reachable-sound, to-below}
 use Rattle.community.specs.Network.{Sound}
 use Rattle.community.proofs.Similarity.{step-core, step-similar, core-self}
 use Rattle.community.proofs.Communities.{leader-one}

@@ -1,15 +1,15 @@
 -- A set is one of the listed communities exactly when it is a community by its definition.
-use Prim.Native.Nat.{ℕ, zero, suc, _+_, _≤_, _<_}
+use Prim.Native.Nat.{ℕ, _≤_, _<_}
 use native.Mathlib.Omega.{arith}
-use mathlib.Core.Path.{_≡_, refl, sym, ap, ap₂, _∙_, subst}
-use mathlib.Core.Logic.{_⊎_, inl, inr, ⊎-elim, _↔_}
-use mathlib.Core.Bool.{Bool, true, false, _&&_, not}
-use mathlib.Core.List.{List, [], _∷_, map, List·Memᴰ}
+use mathlib.Core.Path.{_≡_}
+use mathlib.Core.Logic.{_⊎_, ⊎-elim, _↔_}
+use mathlib.Core.Bool.{Bool, not}
+use mathlib.Core.List.{[], List·Memᴰ}
 use lib.Dec.{T, T-not, not-T}
 use lib.ListN.{length, getD, length-map}
-use Rattle.sets.specs.Below.{any, select, find}
+use Rattle.sets.specs.Below.{any, find}
 use Rattle.sets.proofs.Tests.{and-make, and-left, and-right, any-make, any-take, find-law, three}
-use Rattle.sets.proofs.Selecting.{mem-select, select-mem, mem-at, at-mem, map-at, select-passes, select-below, select-ascends}
+use Rattle.sets.proofs.Selecting.{mem-select, select-mem, mem-at, map-at, select-passes, select-below, select-ascends}
 use Rattle.community.specs.Network.{Network, isCore, Reachable, IsCommunity, reachable, isLeader, leaders, members, communities}
 use Rattle.community.proofs.Reachability.{Reachable-trans, from-below, to-below, reachable-sound, reachable-complete}
 use Rattle.community.specs.Network.{Sound}

@@ -1,24 +1,21 @@
 -- A network and the network with its handsets renumbered: the same communities, numbered back, the same number of communities, and the same roles.
-use Prim.Native.Nat.{ℕ, zero, suc, _+_, _*_, _≤_, _<_}
-use native.Mathlib.Omega.{arith}
+use Prim.Native.Nat.{ℕ, _≤_, _<_}
 use native.Mathlib.Nat.{le-antisymm}
 use mathlib.Core.Path.{_≡_, refl, sym, ap, ap₂, _∙_, subst}
-use mathlib.Core.Logic.{_⊎_, inl, inr, ⊎-elim, _↔_}
-use mathlib.Core.Bool.{Bool, true, false, _&&_, not}
-use mathlib.Core.List.{List, [], _∷_, List·Memᴰ}
+use mathlib.Core.Bool.{Bool, true, false, _&&_}
 use lib.Dec.{T, leb}
-use lib.ListN.{length, getD}
-use Rattle.sets.specs.Below.{any, count, select}
+use lib.ListN.{length}
+use Rattle.sets.specs.Below.{count}
 use Rattle.sets.proofs.Tests.{and-make, and-left, and-right, T-ext}
 use Rattle.sets.proofs.Selecting.{length-select}
 use Rattle.sets.specs.Renumbering.{Renumbering}
-use Rattle.sets.proofs.Counting.{count-cong, count-across, count-pairs, Pairs, inverse}
-use Rattle.community.specs.Network.{Network, neighbourhoodSize, commonNeighbours, meetsEpsilon, similar, isCore, step, Reachable, one, more, reachable, IsCommunity, isLeader, leaders, members, communities}
+use Rattle.sets.proofs.Counting.{count-cong, count-across, count-pairs, inverse}
+use Rattle.community.specs.Network.{Network, neighbourhoodSize, commonNeighbours, meetsEpsilon, similar, isCore, step, Reachable, one, more, reachable, IsCommunity, isLeader, leaders, communities}
 use Rattle.community.specs.Renumbered.{NumberedBack}
 use Rattle.community.proofs.Reachability.{Reachable-trans, from-below, to-below, reachable-sound, reachable-complete}
 use Rattle.community.specs.Network.{Sound}
-use Rattle.community.proofs.Similarity.{reaches-core, core-self, Reachable-back}
-use Rattle.community.proofs.Communities.{Listed, exactly, leader-of, leader-one, leader-core, length-communities}
+use Rattle.community.proofs.Similarity.{core-self, Reachable-back}
+use Rattle.community.proofs.Communities.{leader-of, leader-one, leader-core, length-communities}
 
 -- how many leaders reach v: the count of its communities (proofs/Roles)
 unfoldable pub leadersReaching : Network → ℕ → ℕ

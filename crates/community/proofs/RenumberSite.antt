@@ -7,23 +7,22 @@
 --     community-numbered-back, community-numbered-on     a set is a community of the one exactly when it is one of the other, renumbered
 --     image-communities, image-memberships               there are as many
 --     image-roles       each handset has the same role, but for a core's number, and the same near count
-use Prim.Native.Nat.{ℕ, zero, suc, _+_, _*_, _≤_, _<_}
+use Prim.Native.Nat.{ℕ, _+_, _*_, _≤_, _<_}
 use native.Mathlib.Omega.{arith}
 use mathlib.Core.Path.{_≡_, refl, sym, ap, ap₂, _∙_, subst}
-use mathlib.Core.Logic.{_⊎_, inl, inr, ⊎-elim}
+use mathlib.Core.Logic.{_⊎_, ⊎-elim}
 use mathlib.Core.Bool.{Bool, true, false, _&&_, _||_, not}
 use mathlib.Core.List.{List}
-use lib.Dec.{T, T-not, not-T, leb, leb→le, ltb, lt→ltb, eqb, eqb→eq}
+use lib.Dec.{T, T-not, not-T, leb→le, ltb, lt→ltb, eqb, eqb→eq}
 use lib.ListN.{length, getD, length-take, length-drop}
 use Rattle.sets.specs.Below.{any}
-use Rattle.sets.specs.Renumbering.{Renumbering}
-use Rattle.sets.proofs.Tests.{and-make, and-left, and-right, any-make, any-take, any-none, none-any, not-any, eqb-of, T-ext, three}
+use Rattle.sets.proofs.Tests.{and-make, any-make, any-take, eqb-of, T-ext, three}
 use Rattle.sets.proofs.Counting.{to-apart, inverse, count-le, sum-across}
 use Rattle.fields.specs.Bytes.{number}
 use Rattle.fields.specs.Fields.{coreSize, shifted}
 use Rattle.fields.proofs.Bytes.{number-cong}
-use Rattle.image.specs.Image.{handsetCount, edgeCount, handsetOffset, edgeOffset, imageLength, limitSquared, epsilonNum, epsilonDen, muField, mu, reserved, handsetRecords, edgeRecords, gap, xAt, yAt, distanceAt, distanceSquared, endA, endB, joins, adjacent, within, neighbour}
-use Rattle.image.specs.Questions.{headerOf, countsFit, thresholdsFit, tablesFit, inLimits, outOfLimits, badEnd, isLoop, repeatsEarlier, Accepted}
+use Rattle.image.specs.Image.{handsetCount, edgeCount, handsetOffset, edgeOffset, imageLength, limitSquared, epsilonNum, epsilonDen, muField, mu, reserved, handsetRecords, edgeRecords, xAt, yAt, distanceAt, distanceSquared, endA, endB, joins, adjacent, within, neighbour}
+use Rattle.image.specs.Questions.{headerOf, inLimits, outOfLimits, badEnd, isLoop, repeatsEarlier, Accepted}
 use Rattle.image.specs.declared.Header.{Header}
 use Rattle.image.proofs.Acceptance.{accepted-fits, length-is, ends-below}
 use Rattle.community.specs.Network.{Network, IsCommunity, isLeader, reachable, communities, role, neighbourhoodSize}

@@ -1,20 +1,19 @@
 -- Laws of the roles.
-use Prim.Native.Nat.{ℕ, zero, suc, _+_, _≤_, _<_}
+use Prim.Native.Nat.{ℕ, zero, suc, _+_, _<_}
 use native.Mathlib.Omega.{arith}
-use mathlib.Core.Path.{_≡_, refl, sym, ap, ap₂, _∙_, subst}
-use mathlib.Core.Logic.{_⊎_, inl, inr, ⊎-elim}
-use mathlib.Core.Bool.{Bool, true, false, _&&_, _||_, not, cond}
+use mathlib.Core.Path.{_≡_, refl, ap, _∙_, subst}
+use mathlib.Core.Logic.{_⊎_, ⊎-elim}
+use mathlib.Core.Bool.{Bool, true, false, _&&_, cond}
 use mathlib.Core.List.{List, [], _∷_, _++_, map, List·Memᴰ, List·Memᴰ·head, List·Memᴰ·tail, List·Memᴰ·not-nil, List·Memᴰ·cases-cons}
-use lib.Dec.{T, eqb, eqb→eq, eqb-refl, T-not}
+use lib.Dec.{T, eqb, eqb→eq, eqb-refl}
 use lib.ListN.{length, getD}
 use Rattle.sets.specs.Below.{count, select, bit}
-use Rattle.sets.proofs.Tests.{T-ext, T-true, T-false, decide, or-left, or-right, or-cases, and-left, and-right}
+use Rattle.sets.proofs.Tests.{T-ext, T-true, T-false, decide, or-left, or-right, or-cases}
 use Rattle.sets.proofs.Selecting.{map-append, mem-select, select-mem, select-yes, select-no}
 use Rattle.sets.specs.Renumbering.{Renumbering}
-use Rattle.sets.proofs.Counting.{count-cong, bit-true, bit-false}
+use Rattle.sets.proofs.Counting.{count-cong}
 use Rattle.community.specs.Network.{Network, isCore, reachable, isLeader, members, communities, contains, communityNumber, membershipCount, leaders, role, borderOf}
-use Rattle.community.specs.declared.Role.{Role}
-use Rattle.community.specs.declared.Role.the-variants.{Core, Border, Outlier}
+use Rattle.community.specs.declared.Role.the-variants.{Core}
 use Rattle.community.specs.Renumbered.{SameRole}
 use Rattle.community.specs.Renumbered.SameRole.{both-core, both-border, both-outlier}
 use Rattle.community.specs.Network.{Sound}

@@ -1,15 +1,15 @@
 -- Laws of similar, core and reachable, of a network whose neighbour relation is reflexive and symmetric.
-use Prim.Native.Nat.{ℕ, zero, suc, _+_, _*_, _≤_, _<_}
+use Prim.Native.Nat.{ℕ, _*_, _≤_, _<_}
 use native.Mathlib.Omega.{arith}
 use native.Mathlib.Nat.{mul-comm, mul-le-mul}
-use mathlib.Core.Path.{_≡_, refl, sym, ap, ap₂, _∙_, subst}
-use mathlib.Core.Bool.{Bool, true, false, _&&_, _||_, not}
+use mathlib.Core.Path.{_≡_, refl, ap, ap₂, _∙_}
+use mathlib.Core.Bool.{Bool, true, false, _&&_}
 use lib.Dec.{T, leb, le→leb, leb→le}
 use Rattle.sets.proofs.Tests.{and-make, and-left, and-right, and-comm, any-take}
 use Rattle.sets.proofs.Counting.{count-cong, count-some}
 use Rattle.sets.specs.Below.{count}
-use Rattle.community.specs.Network.{Network, Sound, neighbourhoodSize, commonNeighbours, meetsEpsilon, similar, isCore, step, Reachable, one, more, reachable}
-use Rattle.community.proofs.Reachability.{Reachable-trans, to-below, from-below}
+use Rattle.community.specs.Network.{Network, Sound, neighbourhoodSize, commonNeighbours, meetsEpsilon, similar, isCore, step, Reachable, one, more}
+use Rattle.community.proofs.Reachability.{Reachable-trans, to-below}
 
 and-same : (a : Bool) → (a && a) ≡ a
 and-same true = refl

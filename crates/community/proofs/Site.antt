@@ -1,8 +1,8 @@
 -- The network of a site image is sound: its neighbour relation is reflexive and symmetric, epsilon is at most 1, mu is not 0.
-use Prim.Native.Nat.{ℕ, zero, suc, _+_, _*_, _-_, _≤_, _<_}
+use Prim.Native.Nat.{ℕ, zero, suc, _-_, _≤_}
 use native.Mathlib.Omega.{arith}
-use mathlib.Core.Path.{_≡_, refl, sym, ap, ap₂, _∙_}
-use mathlib.Core.Bool.{Bool, _&&_, _||_}
+use mathlib.Core.Path.{_≡_, ap, ap₂}
+use mathlib.Core.Bool.{_&&_, _||_}
 use mathlib.Core.List.{List}
 use lib.Dec.{T, leb, eqb, eqb-refl}
 use Rattle.sets.proofs.Tests.{or-left, or-comm, eqb-comm, any-cong}

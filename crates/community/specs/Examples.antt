@@ -1,17 +1,15 @@
 -- The examples of paper 01 that are theorems of the definitions, marked there with a diamond, from the images' bytes: one list. The proof is proofs/Examples.
-use Prim.Native.Nat.{ℕ, zero, suc, _+_, _*_, _/_, _%_}
+use Prim.Native.Nat.{ℕ, _/_, _%_}
 use mathlib.Core.Path.{_≡_}
-use mathlib.Core.Bool.{Bool, true, false}
+use mathlib.Core.Bool.{true, false}
 use mathlib.Core.List.{List, [], _∷_}
 use Rattle.image.specs.Image.{neighbour}
 use Rattle.image.specs.Questions.{openOf, headerOf}
-use Rattle.image.specs.declared.Opened.{Opened}
 use Rattle.image.specs.declared.Opened.the-variants.{Site}
 use Rattle.community.specs.Network.{neighbourhoodSize, commonNeighbours, similar, cores, communities, role}
 use Rattle.community.specs.Tables.{startTable}
 use Rattle.community.specs.Site.{network}
-use Rattle.community.specs.declared.Role.{Role}
-use Rattle.community.specs.declared.Role.the-variants.{Core, Border, Outlier}
+use Rattle.community.specs.declared.Role.the-variants.{Border, Outlier}
 
 -- site S with epsilon p/q and mu m
 abbrev pub siteS : ℕ → ℕ → ℕ → List ℕ

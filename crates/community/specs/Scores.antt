@@ -6,7 +6,7 @@
 --
 -- Density is (s - t) / s and conductance o / (2 t + o), neither reduced.
 use Prim.Native.Nat.{ℕ}
-use mathlib.Core.Bool.{Bool, true, false, _&&_, _||_, not}
+use mathlib.Core.Bool.{Bool, true, _&&_, _||_, not}
 use mathlib.Core.List.{List}
 use lib.ListN.{length, getD}
 use Rattle.sets.specs.Below.{count, sum}

@@ -1,25 +1,23 @@
 -- Demand 3. A plan call that is not refused leaves two tables that begin with the plan's, so their group k is the k-th community, and the laws of the
 -- communities carry over. A renumbered image is accepted with as many communities and memberships, so its plan is not refused either.
-use Prim.Native.Nat.{ℕ, zero, suc, _+_, _*_, _≤_, _<_}
+use Prim.Native.Nat.{ℕ, _+_, _≤_, _<_}
 use native.Mathlib.Omega.{arith}
 use mathlib.Core.Path.{_≡_, refl, sym, ap, ap₂, _∙_, subst}
 use mathlib.Core.Logic.{_↔_}
 use mathlib.Core.Bool.{Bool, true, false, cond}
-use mathlib.Core.List.{List, [], _∷_, _++_, List·Memᴰ}
+use mathlib.Core.List.{List, [], _++_, List·Memᴰ}
 use lib.Dec.{T, ltb, leb, lt→ltb, ltb→lt, le→leb, leb→le}
 use lib.ListN.{length, getD, drop}
-use Rattle.sets.specs.Renumbering.{Renumbering}
 use Rattle.sets.proofs.Tests.{T-true}
 use Rattle.sets.proofs.Counting.{inverse}
-use Rattle.image.specs.Image.{handsetCount, edgeCount}
-use Rattle.image.specs.Questions.{Accepted, openOf, headerOf}
+use Rattle.image.specs.Image.{handsetCount}
+use Rattle.image.specs.Questions.{Accepted, headerOf}
 use Rattle.image.specs.declared.Opened.{Opened}
-use Rattle.image.specs.declared.Opened.the-variants.{Site}
 use Rattle.image.proofs.Acceptance.{opened}
-use Rattle.community.specs.Network.{isCore, IsCommunity, communities, role, neighbourhoodSize}
+use Rattle.community.specs.Network.{isCore, IsCommunity}
 use Rattle.community.specs.Tables.{startTable, memberTable}
 use Rattle.community.specs.Site.{network}
-use Rattle.community.specs.Renumbered.{Renumbered, NumberedBack, SameRole}
+use Rattle.community.specs.Renumbered.{Renumbered, NumberedBack}
 use Rattle.community.proofs.Communities as C
 use Rattle.community.proofs.Tables.{table-community}
 use Rattle.community.proofs.Site.{accepted-sound}
@@ -28,7 +26,6 @@ use Rattle.community.proofs.RenumberSite.{accepted-too, same-handsets, image-co
 use Rattle.planner.specs.Plan.{PlanCall, communitiesOf, planOf, startsAfter, membersAfter, planFor, tableFor, planned, byRoom, over, knownOf, knownFor, standing, refusal}
 use Rattle.planner.specs.declared.Planned.{Planned}
 use Rattle.planner.specs.declared.Planned.the-variants as P
-use Rattle.planner.specs.declared.Known.{Known}
 use Rattle.planner.specs.declared.Known.the-variants.{Handset, Refused}
 use Rattle.demands.specs.Demand3 as D
 use Rattle.demands.specs.Demand3.{group, ListedAs, Plan, SameStanding, Again, LongEnough, Demand3}

@@ -1,18 +1,17 @@
 -- The lookup on a plan's tables. They begin with the plan's, so start k and start k + 1 are in order and within the member table, question 14 gets a
 -- yes, and the part between them is the k-th community.
-use Prim.Native.Nat.{ℕ, _+_, _≤_, _<_}
+use Prim.Native.Nat.{ℕ, _+_, _<_}
 use native.Mathlib.Omega.{arith}
-use mathlib.Core.Path.{_≡_, refl, sym, ap, ap₂, _∙_, subst}
-use mathlib.Core.Bool.{Bool, true}
+use mathlib.Core.Path.{_≡_, ap₂, _∙_}
+use mathlib.Core.Bool.{true}
 use mathlib.Core.List.{List, [], _++_}
-use lib.ListN.{length, getD, drop, length-append}
+use lib.ListN.{length, getD, length-append}
 use Rattle.image.specs.Questions.{Accepted}
 use Rattle.community.specs.Tables.{startTable, memberTable}
 use Rattle.community.proofs.Tables.{table-community, starts-ordered, starts-within, length-startTable}
 use Rattle.planner.specs.Plan.{PlanCall, communitiesOf, over}
 use Rattle.planner.specs.declared.Planned.the-variants as P
 use Rattle.lookup.specs.Lookup.{placed, membersOf, lookedOf}
-use Rattle.lookup.specs.declared.Looked.{Looked}
 use Rattle.lookup.specs.declared.Looked.the-variants.{Found}
 use Rattle.lookup.proofs.Agreement.{placed-yes, looked-yes, members-slice}
 use Rattle.demands.specs.Lookup.{LookupOfPlan}

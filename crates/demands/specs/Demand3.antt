@@ -16,7 +16,6 @@ use lib.ListN.{length, getD}
 use lib.Seq.{slice}
 use Rattle.image.specs.Image.{handsetCount, edgeCount}
 use Rattle.image.specs.Questions.{Accepted, openOf, headerOf}
-use Rattle.image.specs.declared.Opened.{Opened}
 use Rattle.image.specs.declared.Opened.the-variants.{Site}
 use Rattle.community.specs.Network.{isCore, IsCommunity}
 use Rattle.community.specs.Tables.{memberTable}

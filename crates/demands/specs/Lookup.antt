@@ -8,7 +8,6 @@ use Rattle.image.specs.Questions.{Accepted}
 use Rattle.planner.specs.Plan.{PlanCall, communitiesOf}
 use Rattle.planner.specs.declared.Planned.the-variants.{Made}
 use Rattle.lookup.specs.Lookup.{membersOf, lookedOf}
-use Rattle.lookup.specs.declared.Looked.{Looked}
 use Rattle.lookup.specs.declared.Looked.the-variants.{Found}
 
 pub record LookupOfPlan : Type 0 where

@@ -2,7 +2,7 @@
 //
 // Each call is that of the library, and a function that makes a number of its answer by the definitions of specs/Codes.
 ghost use mathlib.Core.Path.{_≡_};
-ghost use Prim.Native.Nat.{_+_, _*_, _≤_, _<_, min};
+ghost use Prim.Native.Nat.{_+_, _*_, _<_, min};
 ghost use lib.ListN.{length};
 ghost use Rattle.image.specs.Questions.{openOf};
 ghost use Rattle.planner.specs.Plan.{planOf, startsAfter, membersAfter, knownOf};

@@ -7,14 +7,13 @@
 use Prim.Native.Nat.{ℕ, _+_, _≤_, _<_}
 use native.Mathlib.Omega.{arith}
 use native.Mathlib.Numerals.{add-one}
-use mathlib.Core.Path.{_≡_, refl, sym, ap, _∙_, subst}
+use mathlib.Core.Path.{_≡_, sym, _∙_, subst}
 use mathlib.Core.Logic.{⊎-elim}
 use mathlib.Core.Bool.{Bool, true, false, _||_, not}
 use lib.Dec.{T}
 use Rattle.sets.specs.Below.{any, find}
 use Rattle.sets.proofs.Tests.{decide, any-none, find-law, find-none, find-is, T-true, T-false}
 use Rattle.image.specs.Questions.{ask, askEach}
-use Rattle.image.specs.declared.Refusal.{Refusal}
 use Rattle.image.specs.declared.Opened.{Opened}
 use Rattle.image.specs.declared.Opened.the-variants.{Refused}
 

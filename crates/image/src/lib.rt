@@ -1,7 +1,7 @@
 // The site image: its header and records, and the reader that puts questions 1 to 10 to it.
 //
-// `open` answers the header of an image that is accepted, or the number and place of the first no. Callers read the records on by `fields::read2`
-// and `fields::coordinate`, and cite `accepted`, `accepted-fits`, `ends-below` and `x-limits` of proofs/Acceptance for what an accepted image keeps to.
+// `open` answers the header of an image that is accepted, or the number and place of the first no. Callers read the records
+// themselves, and cite `accepted`, `accepted-fits`, `ends-below` and `x-limits` of proofs/Acceptance for what an accepted image keeps to.
 ghost use mathlib.Core.Path.{_≡_};
 ghost use Prim.Native.Nat.{ℕ, _+_, _*_, _≤_, _<_, min, max};
 ghost use lib.ListN.{length, take, drop};

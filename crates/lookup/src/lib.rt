@@ -4,7 +4,6 @@
 // yes exactly where the companion finds the group.
 ghost use mathlib.Core.Path.{_≡_};
 ghost use Prim.Native.Nat.{_≤_};
-ghost use lib.ListN.{length};
 ghost use Rattle.lookup.specs.Lookup.{spanOf, membersOf, lookedOf};
 use image::Refusal;
 

@@ -10,14 +10,13 @@
 --
 -- The laws are in proofs/Tallying: over the edge records of an accepted image, tallyAt is tallyOf and talliedAt is talliedOf.
 use Prim.Native.Nat.{ℕ, _+_, _*_, _-_, _/_, min}
-use mathlib.Core.Bool.{Bool, true, false, _||_, cond}
+use mathlib.Core.Bool.{Bool, _||_, cond}
 use mathlib.Core.List.{List}
 use lib.Dec.{leb, eqb}
 use lib.ListN.{length, getD}
 use Rattle.sets.specs.Below.{any, count, sum, find}
 use Rattle.image.specs.Image.{endA, endB}
 use Rattle.image.specs.Questions.{openOf}
-use Rattle.image.specs.declared.Refusal.{Refusal}
 use Rattle.image.specs.declared.Opened.{Opened}
 use Rattle.image.specs.declared.Opened.the-variants as O
 use Rattle.community.specs.Network.{contains}

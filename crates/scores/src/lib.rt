@@ -1,8 +1,7 @@
 // The scores of a list of handsets: how many pairs of its places are tied, and how many edges leave it.
 //
-// Callers that have opened the image already use `tally_part`, on the part that the edge records stand in, and then `scores_of`; one that counts the
-// edges of many lists at once uses `pairs_of` for the rest of a tally. The others use `score_list` or `tally_list`, which open the image first. The
-// definitions are in specs/Scored, the laws in proofs/Tallying.
+// `score_list` and `tally_list` open the image and go over its edges. A caller that counts the edges of many lists at once uses `pairs_of` for the rest
+// of each tally, and then `scores_of`. The definitions are in specs/Scored, the laws in proofs/Tallying.
 ghost use mathlib.Core.Path.{_≡_};
 ghost use mathlib.Core.Bool.{_||_};
 ghost use Prim.Native.Nat.{ℕ, _+_, _*_, _-_, _≤_, min};
@@ -160,7 +159,7 @@ fn tally_listed(edges: &[u8], list: &[u16]) -> Tally
 
 // The tally of a list over the part of an image that the edge records stand in, for n handsets. Refuses a list with a bad entry: 13 with the
 // first bad entry's index. More than 512 handsets count as 512, and edges past the first 4,096 are not looked at: no image has them.
-pub fn tally_part(n: u16, edges: &[u8], list: &[u16]) -> Tallied
+fn tally_part(n: u16, edges: &[u8], list: &[u16]) -> Tallied
     ensures { λ r. ⌜ r ≡ talliedAt n (now (edges .entry)) (now (list .entry)) ⌝ }
 {
     let bad = first_bad_entry(smaller(wide(n), 512), list);

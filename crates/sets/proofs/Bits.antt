@@ -6,7 +6,6 @@
 --     ones-sum, ones-and                  the ones of a word, and of the `and` of two
 --     word-bit, cell-word                 a bit by its word
 use mathlib.Core.Path.{_≡_, refl, sym, ap, ap₂, _∙_, subst}
-use mathlib.Core.Logic.{_⊎_, inl, inr, ⊎-elim}
 use mathlib.Core.List.{List}
 use Prim.Native.Nat.{ℕ, zero, suc, _+_, _-_, _*_, _/_, _%_, _^_, _≤_, _<_, min, max}
 use native.Mathlib.Nat.{zero-lt-suc, mod-lt, div-self, div-eq-of-lt, div-one, pow-suc, mul-mod-left, min-le-left, max-le, lt-of-le-of-lt, le-of-suc-le-suc, le-refl, div-div-eq-div-mul, mul-comm, one-mul, add-zero, add-suc, zero-div}

@@ -5,12 +5,12 @@ use native.Mathlib.Omega.{arith}
 use native.Mathlib.Numerals.{add-one}
 use native.Mathlib.Nat.{le-antisymm, le-trans}
 use mathlib.Core.Path.{_≡_, refl, sym, ap, ap₂, _∙_, subst}
-use mathlib.Core.Logic.{_⊎_, inl, inr, ⊎-elim, _≢_}
+use mathlib.Core.Logic.{_⊎_, ⊎-elim, _≢_}
 use mathlib.Core.Bool.{Bool, true, false, _&&_, _||_, not}
 use lib.Dec.{T, eqb, eqb→eq, eqb-refl, T-not, not-T, ltb, lt→ltb, ltb→lt}
 use Rattle.sets.specs.Below.{any, count, bit, sum}
 use Rattle.sets.specs.Renumbering.{Renumbering}
-use Rattle.sets.proofs.Tests.{and-make, and-left, and-right, or-left, or-right, decide, T-true, T-false, T-ext, below}
+use Rattle.sets.proofs.Tests.{and-make, and-left, and-right, or-left, or-right, decide, T-true, T-ext, below}
 
 pub count-cong : (n : ℕ) (f g : ℕ → Bool) → ((v : ℕ) → v < n → f v ≡ g v) → count n f ≡ count n g
 unfolding count

@@ -1,12 +1,12 @@
 -- Laws of tests, and of tests over the numbers below a bound: a test is decided, `any` is a witness, `find` is the least witness.
-use Prim.Native.Nat.{ℕ, zero, suc, _+_, _≤_, _<_}
+use Prim.Native.Nat.{ℕ, zero, suc, _<_}
 use native.Mathlib.Omega.{arith}
 use native.Mathlib.Decide.{ℕ-discrete}
 use mathlib.Core.Path.{_≡_, refl, sym, ap, ap₂, subst}
 use mathlib.Core.Logic.{_⊎_, inl, inr, ⊎-elim}
 use mathlib.Core.Bool.{Bool, true, false, _&&_, _||_, not, cond}
 use lib.Dec.{T, eqb, eqb→eq, eqb-refl, T-not, not-T}
-use Rattle.sets.specs.Below.{any, find, count, bit}
+use Rattle.sets.specs.Below.{any, find}
 
 pub and-make : (a b : Bool) → T a → T b → T (a && b)
 and-make true b x y = y

@@ -1,5 +1,5 @@
 -- `divanegret::dvg_report` meets its contract: the code of what the report answers, and its buffer.
-use mathlib.Core.Path.{_≡_, ap, _∙_}
+use mathlib.Core.Path.{ap, _∙_}
 use mir.Facts.{toZ-ofZ}
 use Rattle.divanegret.specs.Codes.{reportCode}
 use borrow.Author.Needs.{needs}

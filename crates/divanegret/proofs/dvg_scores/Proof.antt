@@ -1,5 +1,5 @@
 -- `divanegret::dvg_scores` meets its contract: the code of what the tally of the list is.
-use mathlib.Core.Path.{_≡_, sym, ap, ap₂, _∙_}
+use mathlib.Core.Path.{ap, _∙_}
 use mir.Facts.{toZ-ofZ}
 use Rattle.divanegret.specs.Codes.{tallyCode}
 use borrow.Author.Needs.{needs}

@@ -1,9 +1,6 @@
 -- `divanegret::kind_code` meets its contract, by the cases of the role.
-use mathlib.Core.Path.{_≡_, refl, sym, ap, ap₂, _∙_}
+use mathlib.Core.Path.{_≡_, sym, ap, _∙_}
 use native.Mathlib.Omega.{arith}
-use lib.IntN.{pos}
-use mir.Facts.{toZ-ofZ}
-use Rattle.divanegret.proofs.Signed.{is-pos, minus-fits, is-negative}
 use Prim.Native.Nat.{ℕ, _+_, _*_}
 use Rattle.divanegret.specs.Codes.{kindCode}
 use borrow.Author.Needs.{needs}

@@ -1,9 +1,8 @@
 -- `divanegret::refusal_code` meets its contract: the code is below 2 ^ 62, so it can be made negative.
-use mathlib.Core.Path.{_≡_, refl, sym, ap, ap₂, _∙_}
+use mathlib.Core.Path.{ap₂, _∙_}
 use native.Mathlib.Omega.{arith}
 use lib.IntN.{pos, negℤ}
-use mir.Facts.{toZ-ofZ}
-use Rattle.divanegret.proofs.Signed.{is-pos, minus-fits, is-negative}
+use Rattle.divanegret.proofs.Signed.{minus-fits, is-negative}
 use Prim.Native.Nat.{ℕ, _+_, _*_}
 use borrow.Author.Needs.{needs}
 use Rattle.divanegret.proofs.refusal_code.Statement.{statement}

@@ -1,5 +1,5 @@
 -- `divanegret::report_code` meets its contract, by the cases of the answer.
-use mathlib.Core.Path.{_≡_, sym, ap, _∙_}
+use mathlib.Core.Path.{sym, ap, _∙_}
 use native.Mathlib.Omega.{arith}
 use lib.IntN.{pos}
 use Rattle.divanegret.specs.Codes.{reportCode}

@@ -1,13 +1,9 @@
 -- `image::open` meets its contract. A no to one of questions 1 to 6 is the answer; where they all get a yes the tables lie in the image, and the rest
 -- is what questions 7 to 10 answer.
 use native.Mathlib.Omega.{arith}
-use mathlib.Core.Path.{_≡_, sym, ap, _∙_}
+use mathlib.Core.Path.{sym, _∙_}
 use borrow.Author.Needs.{needs}
-use lib.ListN.{length}
-use denote.Ref.{now}
-use Rattle.image.specs.Questions.{headerOf, openOf, openHeader}
-use Rattle.image.specs.declared.Header.{Header}
-use Rattle.image.proofs.Acceptance.{Fits, header-no, header-passed}
+use Rattle.image.proofs.Acceptance.{header-no, header-passed}
 use Rattle.image.proofs.open.Statement.{statement}
 use Rattle.image.proofs.open.Tie as tie
 

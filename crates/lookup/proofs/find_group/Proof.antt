@@ -1,5 +1,4 @@
 -- `lookup::find_group` meets its contract: its answer is the one of the span that it found.
-use mathlib.Core.Path.{sym}
 use denote.Ref.{now}
 use Rattle.lookup.proofs.Agreement.{looked-span}
 use borrow.Author.Needs.{needs}

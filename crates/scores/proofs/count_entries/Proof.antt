@@ -1,7 +1,7 @@
 -- `scores::count_entries` meets its contract. After i entries place v holds how often v stands among them, which is at most i.
 use Prim.Native.Nat.{ℕ, _≤_, _<_, _-_}
 use native.Mathlib.Omega.{arith}
-use mathlib.Core.Path.{_≡_, sym, ap, _∙_}
+use mathlib.Core.Path.{_≡_, sym, _∙_}
 use lib.Dec.{eqb}
 use lib.ListN.{length, getD, length-set}
 use denote.Ref.{now}
