@@ -3,7 +3,7 @@
 --     Joining, Storing      the loops of join_words and of store_words: the words before j are done
 --     Adding                the loop of join_all: the rows of the bits that are no longer in w are added
 --     Sweeping              the loop of sweep: the words before j are gone through
---     Growing               the loop of collect: the set has the rows of the numbers taken out of todo; w is one still to be taken out, or 512
+--     Growing               the loop of collect: the set has the rows of the numbers taken out of todo; w is the first still to be taken out, or 512
 use Prim.Native.Nat.{ℕ, zero, suc, _+_, _*_, _-_, _/_, _%_, _^_, _≤_, _<_, min, max}
 use native.Mathlib.Omega.{arith}
 use native.Mathlib.Nat.{le-refl, mod-lt, zero-lt-suc}
@@ -239,14 +239,15 @@ pub record Sweeping (table todo₀ s₀ todo s : List ℕ) (j : ℕ) : Type 0 wh
       → ((x v : ℕ) → x < 512 → v < 512 → T (f x) → bitAt todo₀ x ≡ 1 → cell table x v ≡ 1 → T (f v))
       → (v : ℕ) → v < 512 → bitAt s v ≡ 1 → T (f v)
 
-pub sweeping-start : (table todo s : List ℕ) → length todo ≡ 8 → length s ≡ 8 → Sweeping table todo s todo s 0
-sweeping-start table todo s a b = record {
+pub sweeping-start : (table todo s : List ℕ) (j : ℕ) → length todo ≡ 8 → length s ≡ 8 → ((x : ℕ) → x < j * 64 → min (bitAt s x) (bitAt todo x) ≡ 0)
+    → Sweeping table todo s todo s j
+sweeping-start table todo s j a b none = record {
   todo-size = a;
   size = b;
   ahead = λ x h. refl;
   sub = λ x. le-refl (bitAt todo x);
   keeps = λ v l e. e;
-  taken = λ x l h. absurd (omega arith);
+  taken = λ x l h p. omega (arith, none x h, p, bitAt-lt todo x);
   out = λ x l p q. absurd (omega arith);
   done = λ x v l m p q. absurd (omega arith);
   least = λ f given step. given;
@@ -390,7 +391,7 @@ pub record Growing (alike todo₀ : List ℕ) (u : ℕ) (s todo : List ℕ) (w :
   pub least : (f : ℕ → Bool) → T (f u)
       → ((x v : ℕ) → x < 512 → v < 512 → T (f x) → bitAt todo₀ x ≡ 1 → cell alike x v ≡ 1 → T (f v))
       → (v : ℕ) → v < 512 → bitAt s v ≡ 1 → T (f v)
-  pub end : w ≡ 512 → (k : ℕ) → k < 512 → min (bitAt s k) (bitAt todo k) ≡ 0
+  pub before : (k : ℕ) → k < w → min (bitAt s k) (bitAt todo k) ≡ 0
 
 pub growing-start : (alike todo : List ℕ) (u : ℕ) → u < 512 → bitAt todo u ≡ 1 → Growing alike todo u (withBit (zeros 8) u) todo u
 growing-start alike todo u h e = record {
@@ -402,7 +403,7 @@ growing-start alike todo u h e = record {
   out = λ x l p q. absurd (omega arith);
   done = λ x v l m p q r. absurd (omega arith);
   least = λ f t step v l p. pick f t v p (ℕ-discrete v u);
-  end = λ q k l. absurd (omega arith);
+  before = λ k l. omega (arith, bitAt-set-other (zeros 8) u k (λ q. omega (arith, l, q)), bitAt-zeros 8 k);
 }
   where
     here : bitAt (withBit (zeros 8) u) u ≡ 1
@@ -427,7 +428,7 @@ module _ (alike todo₀ : List ℕ) (u : ℕ) (s todo s′ todo′ : List ℕ) (
     done = λ x v l m p q r. done′ x v l m p q r (ℕ-discrete (bitAt todo x) 0);
     least = λ f t step.
         swept .least f (now .least f t step) (λ x v l m fx e r. step x v l m fx (omega (arith, e, now .sub x, bitAt-lt todo₀ x)) r);
-    end = λ e k q. first .before k (omega arith);
+    before = first .before;
   }
     where
       out′ : (x : ℕ) → x < 512 → bitAt todo₀ x ≡ 1 → bitAt todo′ x ≡ 0 → Dec (bitAt todo x ≡ 0) → bitAt s′ x ≡ 1
@@ -453,13 +454,13 @@ module _ (alike todo₀ : List ℕ) (u : ℕ) (s todo : List ℕ) (w : ℕ) (now
       pick : Dec (bitAt todo v ≡ 0) → Dec (bitAt todo₀ v ≡ 1) → bitAt todo v ≡ min (bitAt todo₀ v) (1 - bitAt s v)
       pick (yes z) (yes o) = omega (arith, now .out v l o z)
       pick (yes z) (no o) = omega (arith, bitAt-lt todo₀ v)
-      pick (no z) d = omega (arith, bitAt-lt todo₀ v, bitAt-lt todo v, now .sub v, now .end last v l)
+      pick (no z) d = omega (arith, bitAt-lt todo₀ v, bitAt-lt todo v, now .sub v, now .before v (omega (arith, l, last)))
 
   pub growing-end : Collected alike todo₀ u todo s
   growing-end = record {
     size = size;
     start = now .start;
-    closed = λ x v l m p q r. now .done x v l m q (omega (arith, now .end last x l, bitAt-lt todo x)) r;
+    closed = λ x v l m p q r. now .done x v l m q (omega (arith, now .before x (omega (arith, l, last)), bitAt-lt todo x)) r;
     least = now .least;
     rest = rest′;
   }

@@ -3,7 +3,7 @@
 // Sets are eight words; a table has a row for each handset, of as many words as `layout` says. Everything goes a word at a time, over no more words than
 // the site's n handsets need, and each core's row is or'ed once.
 use crate::layout::first_word;
-ghost use Prim.Native.Nat.{ℕ, _+_, _*_, _≤_, _<_};
+ghost use Prim.Native.Nat.{ℕ, _+_, _*_, _≤_, _<_, min};
 ghost use mathlib.Core.Path.{_≡_};
 ghost use mathlib.Core.Logic.{_⊎_};
 ghost use lib.ListN.{length};
@@ -73,13 +73,13 @@ fn join_all(table: &[u64], word: u64, base: usize, set: &mut [u64], n: usize)
     }
 }
 
-// Takes each number of the set out of todo and adds its row to the set, a word at a time. A number that comes into a word that has been gone through
-// is left for the next time.
-fn sweep(table: &[u64], todo: &mut [u64], set: &mut [u64], n: usize)
-    requires { ⌜ (length (now todo) ≡ 8) × (length (now set) ≡ 8) × (n ≤ 512) × (8 * n ≤ length (laid (rowWords n) (now table))) × ((v : ℕ) → n ≤ v → v < 512 → bitAt (now todo) v ≡ 0) × ((x v : ℕ) → x < 512 → n ≤ v → v < 512 → bitAt (now todo) x ≡ 1 → cell (laid (rowWords n) (now table)) x v ≡ 0) ⌝ }
+// Takes each number of the set out of todo and adds its row to the set, a word at a time, from the word of w on: no number before w is in both. A number
+// that comes into a word that has been gone through is left for the next time.
+fn sweep(table: &[u64], todo: &mut [u64], set: &mut [u64], n: usize, w: usize)
+    requires { ⌜ (length (now todo) ≡ 8) × (length (now set) ≡ 8) × (n ≤ 512) × (8 * n ≤ length (laid (rowWords n) (now table))) × ((v : ℕ) → n ≤ v → v < 512 → bitAt (now todo) v ≡ 0) × ((x v : ℕ) → x < 512 → n ≤ v → v < 512 → bitAt (now todo) x ≡ 1 → cell (laid (rowWords n) (now table)) x v ≡ 0) × (w < 512) × ((x : ℕ) → x < w → min (bitAt (now set) x) (bitAt (now todo) x) ≡ 0) ⌝ }
     ensures { λ _. ⌜ Swept (laid (rowWords n) (now (table .entry))) (now (todo .entry)) (now (set .entry)) (now (todo .exit)) (now (set .exit)) ⌝ }
 {
-    let mut j: usize = 0;
+    let mut j: usize = w / 64;
     while 64 * j < n {
         let both = set[j] & todo[j];
         todo[j] = todo[j] ^ both;
@@ -123,7 +123,7 @@ fn collect(alike: &[u64], todo: &mut [u64], u: usize, n: usize) -> [u64; 8]
     sets::mark(&mut set, u);
     let mut w = u;
     while w < 512 {
-        sweep(alike, todo, &mut set, n);
+        sweep(alike, todo, &mut set, n, w);
         w = first_common(&set, todo);
     }
     set

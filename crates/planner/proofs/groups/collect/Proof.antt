@@ -47,6 +47,8 @@ sweep-requires c κs =
       s .pre .4,
       λ v h q. omega (arith, s .pre .5 v h q, l .inv .2 .sub v),
       λ x v a b d e. s .pre .6 x v a b d (omega (arith, e, l .inv .2 .sub x, bitAt-lt (s .args .todo .now) x)),
+      c .before .before .loop-test .taken,
+      l .inv .2 .before,
     )
 
 slice-aggregate-first-common : tie.Need-slice-aggregate-first-common Inv-loop μ-loop

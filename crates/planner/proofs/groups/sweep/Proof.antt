@@ -1,6 +1,6 @@
 -- `planner::groups::sweep` meets its contract. The words before j are gone through: what they had in common with the set is taken out of todo, and its rows
 -- are in the set. The measure is the number of words left.
-use Prim.Native.Nat.{ℕ, _+_, _*_, _-_, _≤_, _<_}
+use Prim.Native.Nat.{ℕ, _+_, _*_, _-_, _/_, _≤_, _<_}
 use native.Mathlib.Decide.{decLt}
 use mathlib.Core.Path.{_≡_, sym, _∙_}
 use lib.ListN.{length}
@@ -12,13 +12,17 @@ use Rattle.planner.proofs.groups.sweep.Statement.{statement}
 use Rattle.planner.proofs.groups.sweep.Tie as tie
 
 abbrev Inv-loop : tie.InvT-loop
-Inv-loop table todo₀ set₀ n j₀ todo set j = (j ≤ 8) × Sweeping (laid (rowWords n) table) todo₀ set₀ todo set j
+Inv-loop table todo₀ set₀ n w j₀ todo set j = (j ≤ 8) × Sweeping (laid (rowWords n) table) todo₀ set₀ todo set j
 
 abbrev μ-loop : tie.MeasureT-loop
-μ-loop table todo₀ set₀ n j₀ todo set j = 8 - j
+μ-loop table todo₀ set₀ n w j₀ todo set j = 8 - j
 
 loop-holds : tie.Need-loop-holds Inv-loop μ-loop
-loop-holds c = let s = c .before .before .before in (omega arith, sweeping-start (laid (rowWords (s .args .n)) (s .args .table .now)) (s .args .todo .now) (s .args .set .now) (s .pre .0) (s .pre .1))
+loop-holds c =
+    let s = c .before .before .before in (
+      omega (arith, s .pre .6),
+      sweeping-start (laid (rowWords (s .args .n)) (s .args .table .now)) (s .args .todo .now) (s .args .set .now) (s .args .w / 64) (s .pre .0) (s .pre .1) (λ x h. s .pre .7 x (omega (arith, h))),
+    )
 
 mul-loop : tie.Need-mul-loop Inv-loop μ-loop
 mul-loop c = omega (arith, c .loop .inv .0)
