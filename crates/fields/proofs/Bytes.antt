@@ -3,8 +3,7 @@
 --     le-cong, number-cong       equal bytes make equal numbers
 --     le-split                   a number of a + b bytes is made of two: how `four` makes four bytes of two, and `read8` eight of four
 --     number-le, number-none     a number whose bytes are all there, and one that lacks some
---     number-halves              the number in eight bytes is made of those in its first and in its last four
-use Prim.Native.Nat.{ℕ, zero, suc, _+_, _*_, _/_, _%_, _^_, _≤_, _<_}
+use Prim.Native.Nat.{ℕ, zero, suc, _+_, _*_, _^_, _≤_, _<_}
 use native.Mathlib.Omega.{arith}
 use native.Mathlib.Nat.{add-zero, zero-add, suc-add, mul-assoc, pow-succ'}
 use mathlib.Core.Path.{_≡_, refl, sym, ap, ap₂, _∙_}
@@ -47,10 +46,3 @@ number-none w s at e = ap (λ (b : Bool). cond b (le w s at) 0) e
 pub number-cong : (w : ℕ) (s t : List ℕ) (a b : ℕ) → a + w ≤ length s → b + w ≤ length t
     → ((i : ℕ) → i < w → getD t (b + i) 0 ≡ getD s (a + i) 0) → number w t b ≡ number w s a
 number-cong w s t a b ha hb e = number-le w t b hb ∙ le-cong w s t a b e ∙ sym (number-le w s a ha)
-
-pub number-halves : (s : List ℕ) (at : ℕ) → ((i : ℕ) → getD s i 0 < 256) → at + 8 ≤ length s
-    → (number 8 s at % 4294967296 ≡ number 4 s at) × (number 8 s at / 4294967296 ≡ number 4 s (at + 4))
-number-halves s at b h =
-    let low : le 4 s at < 4294967296 = omega (arith, b at, b (at + 1), b (at + 1 + 1), b (at + 1 + 1 + 1)) in
-    let whole : number 8 s at ≡ le 4 s at + 4294967296 * le 4 s (at + 4) = number-le 8 s at h ∙ le-split 4 4 s at in
-    (omega (arith, whole, low, number-le 4 s at (omega arith)), omega (arith, whole, low, number-le 4 s (at + 4) (omega arith)))

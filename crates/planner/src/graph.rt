@@ -11,6 +11,7 @@ ghost use lib.Dec.{leb, ltb, eqb};
 ghost use lib.ListN.{length, getD, replicate};
 ghost use Rattle.sets.specs.Below.{sum};
 ghost use Rattle.sets.specs.Bits.{cell, withBit, withoutBit};
+ghost use Rattle.fields.specs.Bytes.{number};
 ghost use Rattle.image.specs.Image.{handsetRecords, edgeRecords, xAt, yAt, gap, endA, endB};
 ghost use Rattle.image.specs.Questions.{Accepted, openHeader, headerOf};
 ghost use Rattle.community.specs.Site.{network};
@@ -20,12 +21,28 @@ use crate::layout::word_of;
 use image::Header;
 use image::Opened;
 
-// The first end of edge k. The record is known to be there, so it is read without the reader's test for that.
+// The number in the two bytes at a place, the lowest first. They are known to be there, so they are read without the reader's test for that.
+fn two(part: &[u8], at: usize) -> usize
+    requires { ⌜ (at < 16384) × (at + 2 ≤ length (now part)) ⌝ }
+    ensures { λ r. ⌜ (r ≡ number 2 (now (part .entry)) at) × (r < 65536) ⌝ }
+{
+    (part[at] as usize) + 256 * (part[at + 1] as usize)
+}
+
+// The number in the four bytes at a place: its two halves, which the compiler reads as one word.
+fn four(part: &[u8], at: usize) -> u32
+    requires { ⌜ (at < 16380) × (at + 4 ≤ length (now part)) ⌝ }
+    ensures { λ r. ⌜ r ≡ number 4 (now (part .entry)) at ⌝ }
+{
+    (two(part, at) + 65536 * two(part, at + 2)) as u32
+}
+
+// The first end of edge k.
 fn end_a(edges: &[u8], k: usize) -> usize
     requires { ⌜ Stands (now edges) k ⌝ }
     ensures { λ r. ⌜ r ≡ endA (now (edges .entry)) k ⌝ }
 {
-    (edges[4 * k] as usize) + 256 * (edges[4 * k + 1] as usize)
+    two(edges, 4 * k)
 }
 
 // The second end of edge k.
@@ -33,7 +50,7 @@ fn end_b(edges: &[u8], k: usize) -> usize
     requires { ⌜ Stands (now edges) k ⌝ }
     ensures { λ r. ⌜ r ≡ endB (now (edges .entry)) k ⌝ }
 {
-    (edges[4 * k + 2] as usize) + 256 * (edges[4 * k + 3] as usize)
+    two(edges, 4 * k + 2)
 }
 
 // Whether v is in row u.
@@ -135,9 +152,8 @@ fn read_positions(handsets: &[u8], n: usize, xs: &mut [u64], ys: &mut [u64]) -> 
 {
     let mut v: usize = 0;
     while v < n {
-        let both = fields::read8(handsets, 8 * v);
-        let x = fields::shift((both % 4294967296) as u32);
-        let y = fields::shift((both / 4294967296) as u32);
+        let x = fields::shift(four(handsets, 8 * v));
+        let y = fields::shift(four(handsets, 8 * v + 4));
         if !(image::in_limits(x) & image::in_limits(y)) {
             return false;
         }

@@ -36,11 +36,13 @@ fn main() {
 
 fn explain(rounds: usize) {
     println!(
-        "Release builds for the default target, without target-cpu flags. Each number is the median\n\
-         of {rounds} rounds; in each round every planner takes its turn on the same image. All calls\n\
-         get the same lent tables and the same text buffer, allocated once and not cleared between\n\
-         calls; whatever a call clears or allocates for itself is part of its time. Before its\n\
-         samples each call has run once, so memory is warm. Times are in microseconds a call.\n"
+        "Release builds for the default target, without target-cpu flags. Each time is the median of\n\
+         {rounds} rounds; in each round every planner takes its turn on every image of the table, and\n\
+         each ratio is the median of those within a round, so that a clock that changes from one\n\
+         round to the next changes no ratio. All calls get the same lent tables and the same text\n\
+         buffer, allocated once and not cleared between calls; whatever a call clears or allocates for\n\
+         itself is part of its time. Before each sample the call has run once, so that no planner\n\
+         finds the image warmer than another. Times are in microseconds a call.\n"
     );
 }
 
@@ -125,12 +127,13 @@ struct Bench<'a> {
     tables: Tables,
 }
 
-/// Microseconds a call, by planner.
-type Times = Vec<f64>;
+/// Microseconds a call, by planner and round.
+type Samples = Vec<Vec<f64>>;
 
 impl Bench<'_> {
-    /// Times every call on each image and prints them with the ratios; gives the times by case.
-    fn compare(&mut self, title: &str, cases: &[Case]) -> Vec<[Times; 3]> {
+    /// Times every call on each image and prints them with the ratios; gives the samples by call and
+    /// case.
+    fn compare(&mut self, title: &str, cases: &[Case]) -> [Vec<Samples>; 3] {
         print!("{title:<40}");
         self.planners.iter().for_each(|planner| print!("{:>12}", planner.name()));
         let first = self.planners[0].name();
@@ -138,53 +141,67 @@ impl Bench<'_> {
             print!("{:>20}", format!("{first}/{}", other.name()));
         }
         println!();
-        let times = cases.iter().map(|case| CALLS.map(|call| self.row(case, call))).collect();
+        let samples = CALLS.map(|(call, _)| self.measure(call, cases));
+        for (i, case) in cases.iter().enumerate() {
+            for ((_, name), samples) in CALLS.iter().zip(&samples) {
+                print!("{:<40}", format!("{} {name}", case.name));
+                let samples = &samples[i];
+                samples.iter().for_each(|times| print!("{:>12.2}", median(times.clone())));
+                samples[1..].iter().for_each(|times| print!("{:>20.3}", ratio(&samples[0], times)));
+                println!();
+            }
+        }
         println!();
-        times
-    }
-
-    fn row(&mut self, case: &Case, (call, name): (Call, &str)) -> Times {
-        let times = self.measure(call, &case.image);
-        print!("{:<40}", format!("{} {name}", case.name));
-        times.iter().for_each(|time| print!("{time:>12.2}"));
-        times[1..].iter().for_each(|time| print!("{:>20.3}", times[0] / time));
-        println!();
-        times
+        samples
     }
 
     /// How many times as long each call takes as with half the ties.
-    fn growth(&self, title: &str, cases: &[Case], times: &[[Times; 3]]) {
+    fn growth(&self, title: &str, cases: &[Case], samples: &[Vec<Samples>; 3]) {
         println!("growth as {title}: the time divided by the one before");
-        for (case, pair) in cases[1..].iter().zip(times.windows(2)) {
-            for (i, (_, name)) in CALLS.iter().enumerate() {
+        for (i, case) in cases.iter().enumerate().skip(1) {
+            for ((_, name), samples) in CALLS.iter().zip(samples) {
                 print!("{:<40}", format!("{} {name}", case.name));
-                let ratios = pair[1][i].iter().zip(&pair[0][i]).map(|(time, before)| time / before);
-                ratios.for_each(|ratio| print!("{ratio:>12.2}"));
+                let pairs = samples[i].iter().zip(&samples[i - 1]);
+                pairs.for_each(|(times, before)| print!("{:>12.2}", ratio(times, before)));
                 println!();
             }
         }
         println!();
     }
 
-    fn measure(&mut self, call: Call, image: &[u8]) -> Times {
-        let tables = &mut self.tables;
-        let repeats: Vec<u32> = self
-            .planners
+    /// The samples of one call, by case: a round goes over all cases and planners.
+    fn measure(&mut self, call: Call, cases: &[Case]) -> Vec<Samples> {
+        let Bench { planners, rounds, tables } = self;
+        let repeats: Vec<Vec<u32>> = cases
             .iter()
-            .map(|planner| {
-                run(*planner, call, image, tables);
-                let once = time(*planner, call, image, tables, 1);
-                (SAMPLE.as_secs_f64() / once.max(1e-7)).ceil().max(1.0) as u32
+            .map(|case| {
+                planners.iter().map(|planner| repeats(*planner, call, case, tables)).collect()
             })
             .collect();
-        let mut samples = vec![Vec::new(); self.planners.len()];
-        for _ in 0..self.rounds {
-            for (i, planner) in self.planners.iter().enumerate() {
-                samples[i].push(1e6 * time(*planner, call, image, tables, repeats[i]));
+        let mut samples = vec![vec![Vec::new(); planners.len()]; cases.len()];
+        for _ in 0..*rounds {
+            for (i, case) in cases.iter().enumerate() {
+                for (k, planner) in planners.iter().enumerate() {
+                    run(*planner, call, &case.image, tables);
+                    let seconds = time(*planner, call, &case.image, tables, repeats[i][k]);
+                    samples[i][k].push(1e6 * seconds);
+                }
             }
         }
-        samples.into_iter().map(median).collect()
+        samples
     }
+}
+
+/// How often a call is made for one sample.
+fn repeats(planner: &dyn Planner, call: Call, case: &Case, tables: &mut Tables) -> u32 {
+    run(planner, call, &case.image, tables);
+    let once = time(planner, call, &case.image, tables, 1);
+    (SAMPLE.as_secs_f64() / once.max(1e-7)).ceil().max(1.0) as u32
+}
+
+/// The median of the ratios of two calls' times, round by round.
+fn ratio(times: &[f64], others: &[f64]) -> f64 {
+    median(times.iter().zip(others).map(|(time, other)| time / other).collect())
 }
 
 /// Seconds a call, over a number of calls.

@@ -1,6 +1,6 @@
 -- `planner::graph::read_positions` meets its contract. At v no handset below v is out of its limits and each has its two coordinates in the tables; the
--- eight bytes read at v are those of its coordinates, and the stores at v leave the others alone. The measure is what is left of n.
-use Prim.Native.Nat.{ℕ, _*_, _+_, _-_, _/_, _%_, _≤_, _<_}
+-- stores at v leave the others alone. The measure is what is left of n.
+use Prim.Native.Nat.{ℕ, _-_, _≤_, _<_}
 use mathlib.Core.Path.{_≡_, refl, sym, ap, ap₂, _∙_, subst}
 use mathlib.Core.Bool.{Bool, _&&_, not}
 use borrow.Author.Count.{below-more}
@@ -9,9 +9,7 @@ use lib.ListN.{length, getD, set, length-set}
 use lib.Seq.{getD-set-same, getD-set-other}
 use Rattle.sets.specs.Below.{any}
 use Rattle.sets.proofs.Tests.{any-make, T-true}
-use Rattle.fields.specs.Bytes.{number}
 use Rattle.fields.specs.Fields.{shifted}
-use Rattle.fields.proofs.Bytes.{number-halves}
 use Rattle.image.specs.Image.{xAt, yAt}
 use Rattle.image.specs.Questions.{inLimits, outOfLimits}
 use Rattle.image.proofs.Scanning.{scan-none, scan-more}
@@ -30,30 +28,23 @@ abbrev μ-loop : tie.MeasureT-loop
 loop-holds : tie.Need-loop-holds Inv-loop μ-loop
 loop-holds c = (omega arith, scan-none _, refl, refl, λ x h. absurd (omega arith), λ x h. absurd (omega arith))
 
-mul-read8 : tie.Need-mul-read8 Inv-loop μ-loop
-mul-read8 c = omega (arith, c .before .before .before .before .before .pre .0, c .loop-test .taken)
+mul-four : tie.Need-mul-four Inv-loop μ-loop
+mul-four c = omega (arith, c .before .before .before .before .before .pre .0, c .loop-test .taken)
 
-read8-requires : tie.Need-read8-requires Inv-loop μ-loop
-read8-requires c κs = tt
-
--- the two halves of the eight bytes
-halves : (c : tie.After-read8 Inv-loop μ-loop)
-    → (let s = c .before .before .before .before .before .before .args .handsets .now in let at = 8 * c .before .before .loop .v in
-    (c .read8 .result % 4294967296 ≡ number 4 s at) × (c .read8 .result / 4294967296 ≡ number 4 s (at + 4)))
-halves c =
-    let s = c .before .before .before .before .before .before .args .handsets .now in
-    let at = 8 * c .before .before .loop .v in
-    let h = number-halves s at (λ i. c .before .before .before .before .before .shared-slice-known .given i .fits) (omega (arith, c .before .loop-test .taken, c .before .before .before .before .before .before .pre .1)) in
-    (ap (λ (x : ℕ). x % 4294967296) (c .read8 .ensures) ∙ h .0, ap (λ (x : ℕ). x / 4294967296) (c .read8 .ensures) ∙ h .1)
-
-cast-shift : tie.Need-cast-shift Inv-loop μ-loop
-cast-shift c = omega arith
+four-requires : tie.Need-four-requires Inv-loop μ-loop
+four-requires c κs = (omega (arith, c .before .before .before .before .before .pre .0, c .loop-test .taken), omega (arith, c .before .before .before .before .before .pre .1, c .loop-test .taken))
 
 shift-requires : tie.Need-shift-requires Inv-loop μ-loop
 shift-requires c κs = tt
 
-cast-shift-2 : tie.Need-cast-shift-2 Inv-loop μ-loop
-cast-shift-2 c = omega arith
+mul-four-2 : tie.Need-mul-four-2 Inv-loop μ-loop
+mul-four-2 c = omega (arith, c .before .before .before .before .before .before .before .pre .0, c .before .before .loop-test .taken)
+
+add-four : tie.Need-add-four Inv-loop μ-loop
+add-four c = omega (arith, c .before .before .before .before .before .before .before .pre .0, c .before .before .loop-test .taken)
+
+four-requires-2 : tie.Need-four-requires-2 Inv-loop μ-loop
+four-requires-2 c κs = (omega (arith, c .before .before .before .before .before .before .before .pre .0, c .before .before .loop-test .taken), omega (arith, c .before .before .before .before .before .before .before .pre .1, c .before .before .loop-test .taken))
 
 shift-requires-2 : tie.Need-shift-requires-2 Inv-loop μ-loop
 shift-requires-2 c κs = tt
@@ -65,63 +56,61 @@ in-limits-requires-2 : tie.Need-in-limits-requires-2 Inv-loop μ-loop
 in-limits-requires-2 c κs = tt
 
 -- what was read are the two coordinates
-x-read : (c : tie.After-shift2 Inv-loop μ-loop) → c .before .shift .result ≡ xAt (c .before .before .before .before .before .before .before .before .args .handsets .now) (c .before .before .before .before .loop .v)
+x-read : (c : tie.After-shift2 Inv-loop μ-loop) → c .before .before .shift .result ≡ xAt (c .before .before .before .before .before .before .before .before .before .args .handsets .now) (c .before .before .before .before .before .loop .v)
 unfolding xAt
-x-read c = c .before .shift .ensures ∙ ap shifted (halves (c .before .before) .0)
+x-read c = c .before .before .shift .ensures ∙ ap shifted (c .before .before .before .four .ensures)
 
-y-read : (c : tie.After-shift2 Inv-loop μ-loop) → c .shift2 .result ≡ yAt (c .before .before .before .before .before .before .before .before .args .handsets .now) (c .before .before .before .before .loop .v)
+y-read : (c : tie.After-shift2 Inv-loop μ-loop) → c .shift2 .result ≡ yAt (c .before .before .before .before .before .before .before .before .before .args .handsets .now) (c .before .before .before .before .before .loop .v)
 unfolding yAt
-y-read c = c .shift2 .ensures ∙ ap shifted (halves (c .before .before) .1)
+y-read c = c .shift2 .ensures ∙ ap shifted (c .before .four2 .ensures)
 
 -- and the test of them is question 7's
-told : (c : tie.After-in-limits2 Inv-loop μ-loop)
-    → not (c .before .in-limits .result && c .in-limits2 .result) ≡ outOfLimits (c .before .before .before .before .before .before .before .before .before .before .args .handsets .now) (c .before .before .before .before .before .before .loop .v)
+told : (c : tie.After-in-limits2 Inv-loop μ-loop) → not (c .before .in-limits .result && c .in-limits2 .result) ≡ outOfLimits (c .before .before .before .before .before .before .before .before .before .before .before .args .handsets .now) (c .before .before .before .before .before .before .before .loop .v)
 unfolding outOfLimits
 told c =
-    ap₂ (λ (a b : Bool). not (a && b))
-    (c .before .in-limits .ensures ∙ ap inLimits (x-read (c .before .before)))
-    (c .in-limits2 .ensures ∙ ap inLimits (y-read (c .before .before)))
+    ap₂ (λ (a b : Bool). not (a && b)) (c .before .in-limits .ensures ∙ ap inLimits (x-read (c .before .before))) (c .in-limits2 .ensures ∙ ap inLimits (y-read (c .before .before)))
 
 same-length : tie.Need-same-length Inv-loop μ-loop
-same-length c = c .before .before .before .before .before .before .before .loop .inv .2
+same-length c = c .before .before .before .before .before .before .before .before .loop .inv .2
 
 same-length-2 : tie.Need-same-length-2 Inv-loop μ-loop
-same-length-2 c = c .before .before .before .before .before .before .before .loop .inv .3
+same-length-2 c = c .before .before .before .before .before .before .before .before .loop .inv .3
 
 returns : tie.Need-returns Inv-loop μ-loop
 returns c =
-    let a = c .before .before .before .before .before .before .before .before .before .before .before .args in
-    let bad : T (outOfLimits (a .handsets .now) (c .before .before .before .before .before .before .before .loop .v)) = subst (λ (b : Bool). T b) (sym (sym (told (c .before)) ∙ c .if1 .taken)) tt in
+    let a = c .before .before .before .before .before .before .before .before .before .before .before .before .args in
+    let v = c .before .before .before .before .before .before .before .before .loop .v in
+    let bad : T (outOfLimits (a .handsets .now) v) = subst (λ (b : Bool). T b) (sym (sym (told (c .before)) ∙ c .if1 .taken)) tt in
     record {
-      answer = sym (ap not (T-true (any (a .n) (outOfLimits (a .handsets .now))) (any-make (a .n) (outOfLimits (a .handsets .now)) (c .before .before .before .before .before .before .before .loop .v) (c .before .before .before .before .before .before .loop-test .taken) bad)));
+      answer = sym (ap not (T-true (any (a .n) (outOfLimits (a .handsets .now))) (any-make (a .n) (outOfLimits (a .handsets .now)) v (c .before .before .before .before .before .before .before .loop-test .taken) bad)));
       x-is = λ t. absurd t;
       y-is = λ t. absurd t;
     }
 
 mul-xs : tie.Need-mul-xs Inv-loop μ-loop
-mul-xs c = omega (arith, c .before .before .before .before .before .before .before .before .before .before .before .pre .0, c .before .before .before .before .before .before .loop-test .taken)
+mul-xs c = omega (arith, c .before .before .before .before .before .before .before .before .before .before .before .before .pre .0, c .before .before .before .before .before .before .before .loop-test .taken)
 
 slice-write-xs : tie.Need-slice-write-xs Inv-loop μ-loop
-slice-write-xs c = omega (arith, c .before .before .before .before .before .before .before .before .before .before .before .pre .2, c .before .before .before .before .before .before .loop-test .taken, c .before .before .before .before .before .before .before .loop .inv .2)
+slice-write-xs c = omega (arith, c .before .before .before .before .before .before .before .before .before .before .before .before .pre .2, c .before .before .before .before .before .before .before .loop-test .taken, c .before .before .before .before .before .before .before .before .loop .inv .2)
 
 mul-ys : tie.Need-mul-ys Inv-loop μ-loop
-mul-ys c = omega (arith, c .before .before .before .before .before .before .before .before .before .before .before .pre .0, c .before .before .before .before .before .before .loop-test .taken)
+mul-ys c = omega (arith, c .before .before .before .before .before .before .before .before .before .before .before .before .pre .0, c .before .before .before .before .before .before .before .loop-test .taken)
 
 slice-write-ys : tie.Need-slice-write-ys Inv-loop μ-loop
-slice-write-ys c = omega (arith, c .before .before .before .before .before .before .before .before .before .before .before .pre .3, c .before .before .before .before .before .before .loop-test .taken, c .before .before .before .before .before .before .before .loop .inv .3)
+slice-write-ys c = omega (arith, c .before .before .before .before .before .before .before .before .before .before .before .before .pre .3, c .before .before .before .before .before .before .before .loop-test .taken, c .before .before .before .before .before .before .before .before .loop .inv .3)
 
 add-v : tie.Need-add-v Inv-loop μ-loop
-add-v c = omega (arith, c .before .before .before .before .before .before .before .before .before .before .before .pre .0, c .before .before .before .before .before .before .loop-test .taken)
+add-v c = omega (arith, c .before .before .before .before .before .before .before .before .before .before .before .before .pre .0, c .before .before .before .before .before .before .before .loop-test .taken)
 
 loop-less : tie.Need-loop-less Inv-loop μ-loop
-loop-less c = omega (arith, c .before .before .before .before .before .before .loop-test .taken)
+loop-less c = omega (arith, c .before .before .before .before .before .before .before .loop-test .taken)
 
 loop-again : tie.Need-loop-again Inv-loop μ-loop
 loop-again c =
-    let l = c .before .before .before .before .before .before .before .loop in
-    let h = c .before .before .before .before .before .before .loop-test .taken in
-    let s = c .before .before .before .before .before .before .before .before .before .before .before in
-    let x = c .before .before .before .before .shift .result in
+    let l = c .before .before .before .before .before .before .before .before .loop in
+    let h = c .before .before .before .before .before .before .before .loop-test .taken in
+    let s = c .before .before .before .before .before .before .before .before .before .before .before .before in
+    let x = c .before .before .before .before .before .shift .result in
     let y = c .before .before .before .shift2 .result in
     let r = c .before .before .before in (
       omega (arith, h),
@@ -160,11 +149,12 @@ read-positions-spec =
     Inv-loop
     μ-loop
     loop-holds
-    mul-read8
-    read8-requires
-    cast-shift
+    mul-four
+    four-requires
     shift-requires
-    cast-shift-2
+    mul-four-2
+    add-four
+    four-requires-2
     shift-requires-2
     in-limits-requires
     in-limits-requires-2
