@@ -4,8 +4,7 @@
 --     row-narrow, row-wide, by-rows    up to 64 handsets rows have one word, above that eight
 --     laid-one, laid-more, by-words    what laying out does
 --     laid-empty, laid-length          it leaves empty tables empty, and lengths in step; laid-room: a table with room for n rows
---     laid-get, laid-put, laid-in      the word that has a bit, and that it is there
---     first-get, first-put, first-in   the same for the words of a row
+--     word-in, word-get, word-put      the words of a row; first-..: the first few; bit-..: the one that has a bit
 --     behind                           a row has nothing behind its words
 --     narrow-cell, wide-cell           a bit of a row, counted by the row's own words
 use Prim.Native.Nat.{ℕ, zero, suc, _+_, _*_, _/_, _%_, _≤_, _<_}
@@ -20,7 +19,7 @@ use lib.ListN.{length, getD, set}
 use Rattle.sets.specs.Bits.{bitOf, bitAt, cell}
 use Rattle.sets.proofs.Tests.{T-true, T-false, eqb-not}
 use Rattle.sets.proofs.Bits.{bitOf-none}
-use Rattle.planner.specs.Held.{rowWords, spread, laid, wordOf, firstWord, Fit, Empty}
+use Rattle.planner.specs.Held.{rowWords, spread, laid, firstWord, Fit, Empty}
 
 pub row-narrow : (n : ℕ) → n ≤ 64 → rowWords n ≡ 1
 unfolding rowWords
@@ -88,14 +87,6 @@ pub laid-more : (words : ℕ) (ws : List ℕ) → (words ≡ 1 → ⊥) → laid
 unfolding laid
 laid-more words ws d = ap (λ (b : Bool). cond b (spread ws) ws) (T-false (eqb words 1) (eqb-not words 1 d))
 
-pub word-one : (u v : ℕ) → wordOf 1 u v ≡ u
-unfolding wordOf
-word-one u v = refl
-
-pub word-more : (words u v : ℕ) → (words ≡ 1 → ⊥) → wordOf words u v ≡ (u * 512 + v) / 64
-unfolding wordOf
-word-more words u v d = ap (λ (b : Bool). cond b u ((u * 512 + v) / 64)) (T-false (eqb words 1) (eqb-not words 1 d))
-
 pub first-one : (u : ℕ) → firstWord 1 u ≡ u
 unfolding firstWord
 first-one u = refl
@@ -124,59 +115,62 @@ laid-room n ws narrow wide =
     by-rows (λ k. 8 * n ≤ length (laid k ws)) n
     (λ h. omega (arith, narrow h, ap length (laid-one ws), spread-length ws)) (λ h. omega (arith, wide h, ap length (laid-more 8 ws (λ e. omega (arith, e)))))
 
--- ---- the word that has a bit
-pub laid-in : (words : ℕ) (ws : List ℕ) (u v : ℕ) → v < 512 → u * 8 + 8 ≤ length (laid words ws) → wordOf words u v < length ws
-laid-in words ws u v f h =
-    by-words (λ k. u * 8 + 8 ≤ length (laid k ws) → wordOf k u v < length ws)
-    (λ l. omega (arith, l, word-one u v, ap length (laid-one ws), spread-length ws))
-    (λ k d l. omega (arith, l, f, word-more k u v d, ap length (laid-more k ws d))) words h
+-- ---- the words of a row: of a row of one word, the first only
+pub word-in : (words : ℕ) (ws : List ℕ) (u j : ℕ) → u * 8 + 8 ≤ length (laid words ws) → j < 8 → (words ≡ 1 → j ≡ 0) → firstWord words u + j < length ws
+word-in words ws u j h l only =
+    by-words (λ k. u * 8 + 8 ≤ length (laid k ws) → (k ≡ 1 → j ≡ 0) → firstWord k u + j < length ws)
+    (λ a b. omega (arith, a, b refl, first-one u, ap length (laid-one ws), spread-length ws))
+    (λ k d a b. omega (arith, a, l, first-more k u d, ap length (laid-more k ws d))) words h only
 
-pub laid-get : (words : ℕ) (ws : List ℕ) (u v : ℕ) → Fit words v → getD (laid words ws) ((u * 512 + v) / 64) 0 ≡ getD ws (wordOf words u v) 0
-laid-get words ws u v f =
-    by-words (λ k. Fit k v → getD (laid k ws) ((u * 512 + v) / 64) 0 ≡ getD ws (wordOf k u v) 0)
-    (λ l.
-    let e : (u * 512 + v) / 64 ≡ u * 8 = omega (arith, l .1 refl) in
-    ap₂ (λ (x : List ℕ) (i : ℕ). getD x i 0) (laid-one ws) e ∙ spread-get ws u ∙ sym (ap (λ (i : ℕ). getD ws i 0) (word-one u v)))
-    (λ k d l. ap (λ (x : List ℕ). getD x ((u * 512 + v) / 64) 0) (laid-more k ws d) ∙ sym (ap (λ (i : ℕ). getD ws i 0) (word-more k u v d))) words f
-
-pub laid-put : (words : ℕ) (ws : List ℕ) (u v x : ℕ) → Fit words v → laid words (set ws (wordOf words u v) x) ≡ set (laid words ws) ((u * 512 + v) / 64) x
-laid-put words ws u v x f =
-    by-words (λ k. Fit k v → laid k (set ws (wordOf k u v) x) ≡ set (laid k ws) ((u * 512 + v) / 64) x)
-    (λ l.
-    let e : (u * 512 + v) / 64 ≡ u * 8 = omega (arith, l .1 refl) in
-    laid-one (set ws (wordOf 1 u v) x) ∙ ap (λ (i : ℕ). spread (set ws i x)) (word-one u v) ∙ spread-put ws u x
-    ∙ sym (ap₂ (λ (y : List ℕ) (i : ℕ). set y i x) (laid-one ws) e))
-    (λ k d l.
-    laid-more k (set ws (wordOf k u v) x) d ∙ ap (λ (i : ℕ). set ws i x) (word-more k u v d)
-    ∙ sym (ap (λ (y : List ℕ). set y ((u * 512 + v) / 64) x) (laid-more k ws d))) words f
-
--- ---- the words of a row
-pub first-in : (words : ℕ) (ws : List ℕ) (u j : ℕ) → u * 8 + 8 ≤ length (laid words ws) → j < words → words ≤ 8 → firstWord words u + j < length ws
-first-in words ws u j h l m =
-    by-words (λ k. u * 8 + 8 ≤ length (laid k ws) → j < k → k ≤ 8 → firstWord k u + j < length ws)
-    (λ a b c. omega (arith, a, b, first-one u, ap length (laid-one ws), spread-length ws))
-    (λ k d a b c. omega (arith, a, b, c, first-more k u d, ap length (laid-more k ws d))) words h l m
-
-pub first-get : (words : ℕ) (ws : List ℕ) (u j : ℕ) → j < words → getD (laid words ws) (u * 8 + j) 0 ≡ getD ws (firstWord words u + j) 0
-first-get words ws u j h =
-    by-words (λ k. j < k → getD (laid k ws) (u * 8 + j) 0 ≡ getD ws (firstWord k u + j) 0)
-    (λ l.
-    let e : u * 8 + j ≡ u * 8 = omega arith in
-    let d : firstWord 1 u + j ≡ u = omega (arith, l, first-one u) in
+pub word-get : (words : ℕ) (ws : List ℕ) (u j : ℕ) → (words ≡ 1 → j ≡ 0) → getD (laid words ws) (u * 8 + j) 0 ≡ getD ws (firstWord words u + j) 0
+word-get words ws u j only =
+    by-words (λ k. (k ≡ 1 → j ≡ 0) → getD (laid k ws) (u * 8 + j) 0 ≡ getD ws (firstWord k u + j) 0)
+    (λ b.
+    let e : u * 8 + j ≡ u * 8 = omega (arith, b refl) in
+    let d : firstWord 1 u + j ≡ u = omega (arith, b refl, first-one u) in
     ap₂ (λ (x : List ℕ) (i : ℕ). getD x i 0) (laid-one ws) e ∙ spread-get ws u ∙ sym (ap (λ (i : ℕ). getD ws i 0) d))
-    (λ k d l. ap (λ (x : List ℕ). getD x (u * 8 + j) 0) (laid-more k ws d) ∙ sym (ap (λ (i : ℕ). getD ws (i + j) 0) (first-more k u d))) words h
+    (λ k d b. ap (λ (x : List ℕ). getD x (u * 8 + j) 0) (laid-more k ws d) ∙ sym (ap (λ (i : ℕ). getD ws (i + j) 0) (first-more k u d))) words only
 
-pub first-put : (words : ℕ) (ws : List ℕ) (u j x : ℕ) → j < words → laid words (set ws (firstWord words u + j) x) ≡ set (laid words ws) (u * 8 + j) x
-first-put words ws u j x h =
-    by-words (λ k. j < k → laid k (set ws (firstWord k u + j) x) ≡ set (laid k ws) (u * 8 + j) x)
-    (λ l.
-    let e : u * 8 + j ≡ u * 8 = omega arith in
-    let d : firstWord 1 u + j ≡ u = omega (arith, l, first-one u) in
+pub word-put : (words : ℕ) (ws : List ℕ) (u j x : ℕ) → (words ≡ 1 → j ≡ 0) → laid words (set ws (firstWord words u + j) x) ≡ set (laid words ws) (u * 8 + j) x
+word-put words ws u j x only =
+    by-words (λ k. (k ≡ 1 → j ≡ 0) → laid k (set ws (firstWord k u + j) x) ≡ set (laid k ws) (u * 8 + j) x)
+    (λ b.
+    let e : u * 8 + j ≡ u * 8 = omega (arith, b refl) in
+    let d : firstWord 1 u + j ≡ u = omega (arith, b refl, first-one u) in
     laid-one (set ws (firstWord 1 u + j) x) ∙ ap (λ (i : ℕ). spread (set ws i x)) d ∙ spread-put ws u x
     ∙ sym (ap₂ (λ (y : List ℕ) (i : ℕ). set y i x) (laid-one ws) e))
-    (λ k d l.
+    (λ k d b.
     laid-more k (set ws (firstWord k u + j) x) d ∙ ap (λ (i : ℕ). set ws (i + j) x) (first-more k u d)
-    ∙ sym (ap (λ (y : List ℕ). set y (u * 8 + j) x) (laid-more k ws d))) words h
+    ∙ sym (ap (λ (y : List ℕ). set y (u * 8 + j) x) (laid-more k ws d))) words only
+
+-- so are the first few
+only-first : (words j : ℕ) → j < words → words ≡ 1 → j ≡ 0
+only-first words j h e = omega (arith, h, e)
+
+pub first-in : (words : ℕ) (ws : List ℕ) (u j : ℕ) → u * 8 + 8 ≤ length (laid words ws) → j < words → words ≤ 8 → firstWord words u + j < length ws
+first-in words ws u j h l m = word-in words ws u j h (omega (arith, l, m)) (only-first words j l)
+
+pub first-get : (words : ℕ) (ws : List ℕ) (u j : ℕ) → j < words → getD (laid words ws) (u * 8 + j) 0 ≡ getD ws (firstWord words u + j) 0
+first-get words ws u j h = word-get words ws u j (only-first words j h)
+
+pub first-put : (words : ℕ) (ws : List ℕ) (u j x : ℕ) → j < words → laid words (set ws (firstWord words u + j) x) ≡ set (laid words ws) (u * 8 + j) x
+first-put words ws u j x h = word-put words ws u j x (only-first words j h)
+
+-- and the word that has a bit
+bit-only : (words v : ℕ) → Fit words v → words ≡ 1 → v / 64 ≡ 0
+bit-only words v f e = omega (arith, f .1 e)
+
+bit-word : (u v : ℕ) → (u * 512 + v) / 64 ≡ u * 8 + v / 64
+bit-word u v = omega arith
+
+pub bit-in : (words : ℕ) (ws : List ℕ) (u v : ℕ) → u * 8 + 8 ≤ length (laid words ws) → Fit words v → firstWord words u + v / 64 < length ws
+bit-in words ws u v h f = word-in words ws u (v / 64) h (omega (arith, f .0)) (bit-only words v f)
+
+pub bit-get : (words : ℕ) (ws : List ℕ) (u v : ℕ) → Fit words v → getD (laid words ws) ((u * 512 + v) / 64) 0 ≡ getD ws (firstWord words u + v / 64) 0
+bit-get words ws u v f = ap (λ (i : ℕ). getD (laid words ws) i 0) (bit-word u v) ∙ word-get words ws u (v / 64) (bit-only words v f)
+
+pub bit-put : (words : ℕ) (ws : List ℕ) (u v x : ℕ) → Fit words v → laid words (set ws (firstWord words u + v / 64) x) ≡ set (laid words ws) ((u * 512 + v) / 64) x
+bit-put words ws u v x f = word-put words ws u (v / 64) x (bit-only words v f) ∙ sym (ap (λ (i : ℕ). set (laid words ws) i x) (bit-word u v))
 
 -- a row of one word has nothing from 64 on
 pub behind-one : (ws : List ℕ) (u v : ℕ) → 64 ≤ v → v < 512 → cell (laid 1 ws) u v ≡ 0
@@ -198,8 +192,9 @@ unfolding bitAt
 narrow-cell n ws k v h l =
     let e : (k * 64 + v) / 64 ≡ k = omega arith in
     let d : (k * 64 + v) % 64 ≡ (k * 512 + v) % 64 = omega arith in
-    let f : Fit 1 v = (omega arith, λ q. omega arith) in
-    ap₂ bitOf (ap (λ (i : ℕ). getD ws i 0) (e ∙ sym (word-one k v)) ∙ sym (laid-get 1 ws k v f)) d ∙ ap (λ (w : ℕ). cell (laid w ws) k v) (sym (row-narrow n h))
+    let q : (k * 512 + v) / 64 ≡ k * 8 = omega arith in
+    ap₂ bitOf (ap (λ (i : ℕ). getD ws i 0) e ∙ sym (ap₂ (λ (x : List ℕ) (i : ℕ). getD x i 0) (laid-one ws) q ∙ spread-get ws k)) d
+    ∙ ap (λ (w : ℕ). cell (laid w ws) k v) (sym (row-narrow n h))
 
 pub wide-cell : (n : ℕ) (ws : List ℕ) (k v : ℕ) → 64 < n → bitAt ws (k * 512 + v) ≡ cell (laid (rowWords n) ws) k v
 wide-cell n ws k v h = ap (λ (x : List ℕ). cell x k v) (sym (laid-more 8 ws (λ e. omega (arith, e)))) ∙ ap (λ (w : ℕ). cell (laid w ws) k v) (sym (row-wide n h))

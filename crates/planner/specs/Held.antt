@@ -2,7 +2,7 @@
 --
 --     rowWords n              how many words a row has in a table for n handsets: one up to 64 handsets, else eight
 --     laid words ws           a table whose rows have so many words, as one of rows of eight words, which is what all else here is said of
---     wordOf words u v        the word that has v's bit of row u; firstWord words u: the first word of row u; Fit words v: a row has room for v
+--     firstWord words u       where row u begins; Fit words v: a row has room for v
 --     Empty ws                each word is 0
 --     WordOf w f              the word holds the k below 64 that pass f; SetOf ws f: eight words hold the v below 512 that do
 --     Table ws f              rows of eight words hold the relation f between numbers below 512; a row past the last is empty
@@ -22,7 +22,7 @@
 --     Grouped g ws k          the first k rows are the communities of the network, in their order
 --     Found g ..              all that a call works out of an accepted site
 --     rowMembers ws k         the members of row k, ascending; rowsOf ws k: those of the first k rows
-use Prim.Native.Nat.{ℕ, zero, suc, _+_, _*_, _/_, _≤_, _<_, min}
+use Prim.Native.Nat.{ℕ, zero, suc, _+_, _*_, _≤_, _<_, min}
 use mathlib.Core.Path.{_≡_}
 use mathlib.Core.Bool.{Bool, _&&_, _||_, not, cond}
 use mathlib.Core.List.{List, [], _∷_, _++_}
@@ -47,9 +47,6 @@ spread (w ∷ ws) = w ∷ 0 ∷ 0 ∷ 0 ∷ 0 ∷ 0 ∷ 0 ∷ 0 ∷ spread ws
 
 unfoldable pub laid : ℕ → List ℕ → List ℕ
 laid words ws = cond (eqb words 1) (spread ws) ws
-
-unfoldable pub wordOf : ℕ → ℕ → ℕ → ℕ
-wordOf words u v = cond (eqb words 1) u ((u * 512 + v) / 64)
 
 unfoldable pub firstWord : ℕ → ℕ → ℕ
 firstWord words u = cond (eqb words 1) u (u * 8)

@@ -7,7 +7,7 @@ use native.Mathlib.Nat.{mod-lt, zero-lt-suc}
 use Rattle.sets.specs.Bits.{withBit}
 use Rattle.sets.proofs.Bits.{shl-one}
 use Rattle.planner.specs.Held.{laid}
-use Rattle.planner.proofs.Laid.{laid-in, laid-get, laid-put}
+use Rattle.planner.proofs.Laid.{bit-in, bit-get, bit-put}
 use Rattle.planner.proofs.Rows.{row-most, counted-add}
 use native.Mathlib.Omega.{arith}
 use borrow.Author.Needs.{needs}
@@ -15,11 +15,11 @@ use Rattle.planner.proofs.graph.add.Statement.{statement}
 use Rattle.planner.proofs.graph.add.Tie as tie
 
 word-of-requires : tie.Need-word-of-requires
-word-of-requires c κs = (c .before .before .pre .0 .0, c .before .before .pre .1 .0)
+word-of-requires c κs = (c .before .before .pre .0 .0, c .before .before .pre .1)
 
 -- the word that has the bit is there
 place : (c : tie.After-word-of) → c .word-of .result < length (c .before .before .before .args .table .now)
-place c = let a = c .before .before .before .args in omega (arith, laid-in (a .words) (a .table .now) (a .u) (a .v) (c .before .before .before .pre .1 .0) (c .before .before .before .pre .0 .1), c .word-of .ensures .0)
+place c = let a = c .before .before .before .args in omega (arith, bit-in (a .words) (a .table .now) (a .u) (a .v) (c .before .before .before .pre .0 .1) (c .before .before .before .pre .1), c .word-of .ensures .0)
 
 mul-table : tie.Need-mul-table
 mul-table c = omega (arith, c .word-of .ensures .1)
@@ -70,10 +70,10 @@ returns c =
     let a = s .args in
     let t = a .table .now in
     let i : ℕ = a .u * 512 + a .v in
-    let w = laid-get (a .words) t (a .u) (a .v) (s .pre .1) in
+    let w = bit-get (a .words) t (a .u) (a .v) (s .pre .1) in
     let e : laid (a .words) (set t (c .before .before .word-of .result) (bitOr (getD t (c .before .before .word-of .result) 0) (1 * 2 ^ (i % 64) % 2 ^ 64))) ≡ withBit (laid (a .words) t) i =
     ap (λ (k : ℕ). laid (a .words) (set t k (bitOr (getD t k 0) (1 * 2 ^ (i % 64) % 2 ^ 64)))) (c .before .before .word-of .ensures .0)
-    ∙ laid-put (a .words) t (a .u) (a .v) _ (s .pre .1)
+    ∙ bit-put (a .words) t (a .u) (a .v) _ (s .pre .1)
     ∙ ap₂ (λ (x y : ℕ). set (laid (a .words) t) (i / 64) (bitOr x y)) (sym w) (shl-one (i % 64) (mod-lt i (zero-lt-suc 63))) in
     (e, rw e (counted-add (laid (a .words) t) (a .sizes .now) (a .u) (a .v) (s .pre .0) (s .pre .1 .0) (s .pre .2) (s .pre .3)))
 

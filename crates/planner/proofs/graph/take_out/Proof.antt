@@ -8,7 +8,7 @@ use native.Mathlib.Nat.{mod-lt, zero-lt-suc}
 use Rattle.sets.specs.Bits.{bitOf, bitAt, cell, withoutBit}
 use Rattle.sets.proofs.Bits.{shl-one}
 use Rattle.planner.specs.Held.{laid, Counted}
-use Rattle.planner.proofs.Laid.{laid-in, laid-get, laid-put}
+use Rattle.planner.proofs.Laid.{bit-in, bit-get, bit-put}
 use Rattle.planner.proofs.Rows.{row-bit, counted-out}
 use native.Mathlib.Omega.{arith}
 use borrow.Author.Needs.{needs}
@@ -16,7 +16,7 @@ use Rattle.planner.proofs.graph.take_out.Statement.{statement}
 use Rattle.planner.proofs.graph.take_out.Tie as tie
 
 word-of-requires : tie.Need-word-of-requires
-word-of-requires c κs = (c .before .before .pre .0 .0, c .before .before .pre .1 .0)
+word-of-requires c κs = (c .before .before .pre .0 .0, c .before .before .pre .1)
 
 mul-k : tie.Need-mul-k
 mul-k c = omega (arith, c .before .before .before .pre .0 .0)
@@ -26,7 +26,7 @@ add-k c = omega (arith, c .before .before .before .pre .0 .0, c .before .before 
 
 -- the word that has the bit is there
 place : (c : tie.After-word-of) → c .word-of .result < length (c .before .before .before .args .table .now)
-place c = let a = c .before .before .before .args in omega (arith, laid-in (a .words) (a .table .now) (a .u) (a .v) (c .before .before .before .pre .1 .0) (c .before .before .before .pre .0 .1), c .word-of .ensures .0)
+place c = let a = c .before .before .before .args in omega (arith, bit-in (a .words) (a .table .now) (a .u) (a .v) (c .before .before .before .pre .0 .1) (c .before .before .before .pre .1), c .word-of .ensures .0)
 
 -- the bit looked at is the cell's
 looked : (c : tie.After-word-of) → (let a = c .before .before .before .args in getD (a .table .now) (c .word-of .result) 0 / 2 ^ ((a .u * 512 + a .v) % 64) % 2 ≡ cell (laid (a .words) (a .table .now)) (a .u) (a .v))
@@ -34,7 +34,7 @@ unfolding bitAt bitOf
 looked c =
     let a = c .before .before .before .args in
     ap (λ (w : ℕ). w / 2 ^ ((a .u * 512 + a .v) % 64) % 2)
-    (ap (λ (i : ℕ). getD (a .table .now) i 0) (c .word-of .ensures .0) ∙ sym (laid-get (a .words) (a .table .now) (a .u) (a .v) (c .before .before .before .pre .1)))
+    (ap (λ (i : ℕ). getD (a .table .now) i 0) (c .word-of .ensures .0) ∙ sym (bit-get (a .words) (a .table .now) (a .u) (a .v) (c .before .before .before .pre .1)))
 
 mul-w : tie.Need-mul-w
 mul-w c = omega (arith, c .word-of .ensures .1)
@@ -89,12 +89,12 @@ returns c =
     let t = a .table .now in
     let ws : List ℕ = laid (a .words) t in
     let i : ℕ = a .u * 512 + a .v in
-    let w = laid-get (a .words) t (a .u) (a .v) (s .pre .1) in
+    let w = bit-get (a .words) t (a .u) (a .v) (s .pre .1) in
     let put : ℕ → ℕ → ℕ = λ x y. bitXor x (bitAnd x y) in
     let next : List ℕ = set t (c .before .before .word-of .result) (put (getD t (c .before .before .word-of .result) 0) (1 * 2 ^ (i % 64) % 2 ^ 64)) in
     let e : laid (a .words) next ≡ withoutBit ws i =
     ap (λ (k : ℕ). laid (a .words) (set t k (put (getD t k 0) (1 * 2 ^ (i % 64) % 2 ^ 64)))) (c .before .before .word-of .ensures .0)
-    ∙ laid-put (a .words) t (a .u) (a .v) _ (s .pre .1)
+    ∙ bit-put (a .words) t (a .u) (a .v) _ (s .pre .1)
     ∙ ap₂ (λ (x y : ℕ). set ws (i / 64) (put x y)) (sym w) (shl-one (i % 64) (mod-lt i (zero-lt-suc 63))) in (
       e,
       subst (λ (x : ℕ). Counted (laid (a .words) next) (set (a .sizes .now) (a .u) (getD (a .sizes .now) (a .u) 0 - x))) (sym (looked (c .before .before)))
