@@ -47,7 +47,7 @@ sweep-requires c κs =
       s .pre .4,
       λ v h q. omega (arith, s .pre .5 v h q, l .inv .2 .sub v),
       λ x v a b d e. s .pre .6 x v a b d (omega (arith, e, l .inv .2 .sub x, bitAt-lt (s .args .todo .now) x)),
-      c .before .before .loop-test .taken,
+      omega (arith, c .before .before .loop-test .taken),
       l .inv .2 .before,
     )
 
@@ -61,7 +61,7 @@ loop-less : tie.Need-loop-less Inv-loop μ-loop
 loop-less c =
     let l = c .before .before .before .before .before .before .before .before .before .before .loop in
     let a = c .before .before .before .before .before .before .before .before .before .before .before .before .before .before .before .before .args in
-    growing-falls (laid (rowWords (a .n)) (a .alike .now)) (a .todo .now) (a .u) (l .set) (l .todo) (c .before .before .before .before .before .before .sweep .last .1 .1 .0) (c .before .before .before .before .before .before .sweep .last .1 .0) (l .w) (c .first-common .result) (l .inv .2) (c .before .before .before .before .before .before .before .before .before .loop-test .taken) (c .before .before .before .before .before .before .sweep .ensures) (c .first-common .ensures)
+    growing-falls (laid (rowWords (a .n)) (a .alike .now)) (a .todo .now) (a .u) (l .set) (l .todo) (c .before .before .before .before .before .before .sweep .last .1 .1 .0) (c .before .before .before .before .before .before .sweep .last .1 .0) (l .w) (c .first-common .result) (l .inv .2) (omega (arith, c .before .before .before .before .before .before .before .before .before .loop-test .taken)) (c .before .before .before .before .before .before .sweep .ensures) (c .first-common .ensures)
 
 loop-again : tie.Need-loop-again Inv-loop μ-loop
 loop-again c =
@@ -69,7 +69,7 @@ loop-again c =
     let a = c .before .before .before .before .before .before .before .before .before .before .before .before .before .before .before .before .args in (
       c .before .before .before .before .before .before .sweep .kept .1 .0 ∙ l .inv .0,
       c .before .before .before .before .before .before .sweep .ensures .size,
-      growing-on (laid (rowWords (a .n)) (a .alike .now)) (a .todo .now) (a .u) (l .set) (l .todo) (c .before .before .before .before .before .before .sweep .last .1 .1 .0) (c .before .before .before .before .before .before .sweep .last .1 .0) (l .w) (c .first-common .result) (l .inv .2) (c .before .before .before .before .before .before .before .before .before .loop-test .taken) (c .before .before .before .before .before .before .sweep .ensures) (c .first-common .ensures),
+      growing-on (laid (rowWords (a .n)) (a .alike .now)) (a .todo .now) (a .u) (l .set) (l .todo) (c .before .before .before .before .before .before .sweep .last .1 .1 .0) (c .before .before .before .before .before .before .sweep .last .1 .0) (l .w) (c .first-common .result) (l .inv .2) (omega (arith, c .before .before .before .before .before .before .before .before .before .loop-test .taken)) (c .before .before .before .before .before .before .sweep .ensures) (c .first-common .ensures),
     )
 
 same-length : tie.Need-same-length Inv-loop μ-loop
@@ -79,7 +79,7 @@ returns : tie.Need-returns Inv-loop μ-loop
 returns c =
     let a = c .before .before .before .before .before .before .before .args in
     let l = c .before .loop in
-    growing-end (laid (rowWords (a .n)) (a .alike .now)) (a .todo .now) (a .u) (l .set) (l .todo) (l .w) (l .inv .2) (c .loop-test .left) (l .inv .1)
+    growing-end (laid (rowWords (a .n)) (a .alike .now)) (a .todo .now) (a .u) (l .set) (l .todo) (l .w) (l .inv .2) (omega (arith, c .loop-test .left)) (l .inv .1)
 
 pub collect-spec : {M : Type 1} → statement M
 collect-spec =
