@@ -3,6 +3,7 @@
 --     le-cong, number-cong       equal bytes make equal numbers
 --     le-split                   a number of a + b bytes is made of two: how `four` makes four bytes of two, and `read8` eight of four
 --     number-le, number-none     a number whose bytes are all there, and one that lacks some
+--     number-part                a number in a part of a list
 use Prim.Native.Nat.{ℕ, zero, suc, _+_, _*_, _^_, _≤_, _<_}
 use native.Mathlib.Omega.{arith}
 use native.Mathlib.Nat.{add-zero, zero-add, suc-add, mul-assoc, pow-succ'}
@@ -10,7 +11,8 @@ use mathlib.Core.Path.{_≡_, refl, sym, ap, ap₂, _∙_}
 use mathlib.Core.Bool.{Bool, false, cond}
 use mathlib.Core.List.{List}
 use lib.Dec.{leb, le→leb}
-use lib.ListN.{length, getD}
+use lib.ListN.{length, getD, take, drop, length-take, length-drop}
+use lib.Seq.{getD-take, getD-drop}
 use Rattle.sets.proofs.Tests.{T-true}
 use Rattle.fields.specs.Bytes.{le, number}
 
@@ -46,3 +48,9 @@ number-none w s at e = ap (λ (b : Bool). cond b (le w s at) 0) e
 pub number-cong : (w : ℕ) (s t : List ℕ) (a b : ℕ) → a + w ≤ length s → b + w ≤ length t
     → ((i : ℕ) → i < w → getD t (b + i) 0 ≡ getD s (a + i) 0) → number w t b ≡ number w s a
 number-cong w s t a b ha hb e = number-le w t b hb ∙ le-cong w s t a b e ∙ sym (number-le w s a ha)
+
+-- a number in a part of a list that has all of its bytes
+pub number-part : (w : ℕ) (s : List ℕ) (from n at : ℕ) → at + w ≤ n → from + n ≤ length s → number w (take n (drop from s)) at ≡ number w s (from + at)
+number-part w s from n at h k =
+    number-cong w s (take n (drop from s)) (from + at) at (omega arith) (simp (length-take, length-drop) (omega arith))
+    (λ i l. getD-take n (drop from s) (at + i) 0 (omega arith) ∙ getD-drop from s (at + i) 0 ∙ ap (λ (x : ℕ). getD s x 0) (omega arith))

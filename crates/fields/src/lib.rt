@@ -1,12 +1,24 @@
-// The fields of a site image: numbers in bytes, the lowest byte first, a coordinate, and the core size.
+// The fields of a site image: numbers in bytes, the lowest byte first, a coordinate, the ends of an edge, and the core size.
 //
-// Every read is of a place that may not be there, and then gives 0. Callers cite `number-cong` of proofs/Bytes where the same bytes stand at two places.
+// Every read is of a place that may not be there, and then gives 0. Callers cite `number-cong` of proofs/Bytes where the same bytes stand at two places, and
+// `number-part` where they read from a part.
 ghost use mathlib.Core.Path.{_≡_};
 ghost use Prim.Native.Nat.{_+_, _≤_, _<_};
 ghost use lib.Dec.{leb};
 ghost use lib.ListN.{length};
 ghost use Rattle.fields.specs.Bytes.{le, number};
-ghost use Rattle.fields.specs.Fields.{coreSize, shifted};
+ghost use Rattle.fields.specs.Fields.{coreSize, shifted, endsOf};
+
+// How many coordinates a handset's record has, of four bytes each, and how many bytes that makes.
+pub const COORDINATES: usize = 2;
+
+pub const HANDSET_BYTES: usize = 8;
+
+// How many bytes an edge's record has.
+pub const EDGE_BYTES: usize = 4;
+
+// What a blank mu, 0, means.
+pub const BLANK_MU: u16 = 3;
 
 // Whether w bytes stand at a place in len bytes. No place is so far off that the sum wraps.
 fn stands(len: usize, at: usize, w: usize) -> bool
@@ -71,23 +83,32 @@ pub fn read8(s: &[u8], at: usize) -> u64
     }
 }
 
-// The coordinate that four bytes hold, by their number, plus 2 ^ 31, so that it is never negative.
-pub fn shift(x: u32) -> u64
-    ensures { λ r. ⌜ r ≡ shifted x ⌝ }
-{
-    (x as u64 + 2147483648) % 4294967296
-}
-
-// The coordinate at a place, plus 2 ^ 31.
+// The coordinate in the four bytes at a place, plus 2 ^ 31, so that it is never negative.
 pub fn coordinate(part: &[u8], at: usize) -> u64
     ensures { λ r. ⌜ r ≡ shifted (number 4 (now (part .entry)) at) ⌝ }
 {
-    shift(read4(part, at))
+    (read4(part, at) as u64 + 2147483648) % 4294967296
 }
 
-// How many handsets make a core: a blank mu, 0, means 3.
+// The two ends of an edge.
+pub struct Ends {
+    pub a: usize,
+    pub b: usize,
+}
+
+// The two ends of an edge, from its record; 0 for one that is not there.
+pub fn read_ends(edge: &[u8]) -> Ends
+    ensures { λ r. ⌜ r ≡ endsOf (now (edge .entry)) ⌝ }
+{
+    Ends {
+        a: read2(edge, 0) as usize,
+        b: read2(edge, 2) as usize,
+    }
+}
+
+// How many handsets make a core: mu, or BLANK_MU where it is 0.
 pub fn core_size(mu: u16) -> u16
     ensures { λ r. ⌜ r ≡ coreSize mu ⌝ }
 {
-    if mu == 0 { 3 } else { mu }
+    if mu == 0 { BLANK_MU } else { mu }
 }

@@ -3,22 +3,28 @@
 --
 --     accepted            openOf s ≡ Site h gives Accepted s, and h is headerOf s
 --     opened              Accepted s gives openOf s ≡ Site (headerOf s)
---     Fits, fits          what a header's numbers keep to, for the proofs of the calls; x-limits, y-limits, ends-below: what the records do
+--     acceptance          the theorem of specs/Acceptance
+--     Fits, fits          what a header's numbers keep to, for the proofs of the calls
+--     handsets-length, edges-length     both tables of records are whole
+--     accepted-fits, length-is, ends-below, coordinate-limits     what an accepted image keeps to: its header, its length, its edges' ends, its coordinates
 --     header-short, header-other, header-on     how questions 1 and 2 go, with the header in hand
 --     header-no           where one of questions 1 to 6 gets a no, that is the answer; header-yes: where all get a yes, what that says of the image
 --     header-passed       and then the answer is that of questions 7 to 10
-use Prim.Native.Nat.{ℕ, _+_, _*_, _≤_, _<_}
+use Prim.Native.Nat.{ℕ, _+_, _*_, _-_, _≤_, _<_}
 use native.Mathlib.Omega.{arith}
 use mathlib.Core.Path.{_≡_, refl, sym, ap, _∙_, subst}
 use borrow.Author.Tests.{lt-leb, ne-eqb}
 use mathlib.Core.Bool.{Bool, true, false, _&&_, not}
 use mathlib.Core.List.{List}
 use lib.Dec.{T, leb, ltb, eqb, leb→le, le→leb, ltb→lt, eqb→eq}
-use lib.ListN.{length, take, drop}
+use lib.ListN.{length, take, drop, length-take, length-drop}
 use Rattle.sets.specs.Below.{any}
 use Rattle.sets.proofs.Tests.{and-left, and-right, any-none, none-any, eqb-of}
-use Rattle.image.specs.Image.{handsetCount, edgeCount, imageLength, reserved, handsetRecords, edgeRecords, xAt, yAt, endA, endB}
-use Rattle.image.specs.Questions.{headerOf, countsFit, thresholdsFit, tablesFit, inLimits, outOfLimits, badEnd, isLoop, repeatsEarlier, ask, askEach, askRecords, askHeader, openHeader, openOf, Accepted}
+use Rattle.fields.specs.Fields.{coordinateCount, handsetBytes, edgeBytes}
+use Rattle.image.specs.Image.{handsetCount, edgeCount, imageLength, reserved, handsetRecords, edgeRecords, handsetRecord, coordinateOf, endA, endB}
+use Rattle.image.specs.Questions.{coordinateLimit, limitSquaredMost, reservedValue, headerOf, countsFit, thresholdsFit, tablesFit, inLimits, outOfLimits, badEnd, isLoop, repeatsEarlier, ask, askEach, askEdges, askRecords, askHeader, openOf, Accepted}
+use Rattle.image.specs.Acceptance.{Acceptance}
+use Rattle.image.specs.Scan.{openHeader}
 use Rattle.image.specs.declared.Header.{Header}
 use Rattle.image.specs.declared.Refusal.{Refusal}
 use Rattle.image.specs.declared.Opened.{Opened}
@@ -42,15 +48,15 @@ same : {h g : Header} → Site g ≡ Site h → g ≡ h
 same e = cc
 
 pub accepted : (s : List ℕ) (h : Header) → openOf s ≡ Site h → Accepted s × (h ≡ headerOf s)
-unfolding openOf askHeader askRecords headerOf
+unfolding openOf askHeader askRecords askEdges headerOf
 accepted s h e =
     let a1 = pass (leb 32 (length s)) _ _ _ e in
     let a2 = pass (eqb (headerOf s .len) (length s)) _ _ _ (a1 .1) in
     let a3 = pass (countsFit (headerOf s)) _ _ _ (a2 .1) in
-    let a4 = pass (eqb (headerOf s .reserved) 0) _ _ _ (a3 .1) in
+    let a4 = pass (eqb (headerOf s .reserved) reservedValue) _ _ _ (a3 .1) in
     let a5 = pass (thresholdsFit (headerOf s)) _ _ _ (a4 .1) in
     let a6 = pass (tablesFit (headerOf s)) _ _ _ (a5 .1) in
-    let a7 = pass-each (headerOf s .n) (outOfLimits (handsetRecords s)) _ _ (a6 .1) in
+    let a7 = pass-each (headerOf s .n) (λ v. outOfLimits (handsetRecord (handsetRecords s) v)) _ _ (a6 .1) in
     let a8 = pass-each (headerOf s .m) (badEnd (edgeRecords s) (headerOf s .n)) _ _ (a7 .1) in
     let a9 = pass-each (headerOf s .m) (isLoop (edgeRecords s)) _ _ (a8 .1) in
     let a10 = pass-each (headerOf s .m) (repeatsEarlier (edgeRecords s)) _ _ (a9 .1) in (
@@ -61,7 +67,7 @@ accepted s h e =
         q4 = a4 .0;
         q5 = a5 .0;
         q6 = a6 .0;
-        q7 = any-none (handsetCount s) (outOfLimits (handsetRecords s)) (a7 .0);
+        q7 = any-none (handsetCount s) (λ v. outOfLimits (handsetRecord (handsetRecords s) v)) (a7 .0);
         q8 = any-none (edgeCount s) (badEnd (edgeRecords s) (handsetCount s)) (a8 .0);
         q9 = any-none (edgeCount s) (isLoop (edgeRecords s)) (a9 .0);
         q10 = any-none (edgeCount s) (repeatsEarlier (edgeRecords s)) (a10 .0);
@@ -70,54 +76,57 @@ accepted s h e =
     )
 
 pub opened : (s : List ℕ) → Accepted s → openOf s ≡ Site (headerOf s)
-unfolding openOf askHeader askRecords askEach headerOf
+unfolding openOf askHeader askRecords askEdges askEach headerOf
 opened s a =
     go-on (leb 32 (length s)) _ _ _ (a .q1)
     ∙ go-on (eqb (headerOf s .len) (length s)) _ _ _ (a .q2)
     ∙ go-on (countsFit (headerOf s)) _ _ _ (a .q3)
-    ∙ go-on (eqb (headerOf s .reserved) 0) _ _ _ (a .q4)
+    ∙ go-on (eqb (headerOf s .reserved) reservedValue) _ _ _ (a .q4)
     ∙ go-on (thresholdsFit (headerOf s)) _ _ _ (a .q5)
     ∙ go-on (tablesFit (headerOf s)) _ _ _ (a .q6)
-    ∙ go-on (not (any (handsetCount s) (outOfLimits (handsetRecords s)))) _ _ _ (none-any (handsetCount s) (outOfLimits (handsetRecords s)) (a .q7))
+    ∙ go-on (not (any (handsetCount s) (λ v. outOfLimits (handsetRecord (handsetRecords s) v)))) _ _ _ (none-any (handsetCount s) (λ v. outOfLimits (handsetRecord (handsetRecords s) v)) (a .q7))
     ∙ go-on (not (any (edgeCount s) (badEnd (edgeRecords s) (handsetCount s)))) _ _ _ (none-any (edgeCount s) (badEnd (edgeRecords s) (handsetCount s)) (a .q8))
     ∙ go-on (not (any (edgeCount s) (isLoop (edgeRecords s)))) _ _ _ (none-any (edgeCount s) (isLoop (edgeRecords s)) (a .q9))
     ∙ go-on (not (any (edgeCount s) (repeatsEarlier (edgeRecords s)))) _ _ _ (none-any (edgeCount s) (repeatsEarlier (edgeRecords s)) (a .q10))
+
+pub acceptance : Acceptance
+acceptance = record { only-accepted = λ s h e. accepted s h e .0; the-header = λ s h e. accepted s h e .1; every-accepted = opened }
 
 -- a header whose counts, thresholds and tables fit
 pub record Fits (h : Header) : Type 0 where
   pub n-limit : h .n ≤ 512
   pub m-limit : h .m ≤ 4096
-  pub square-limit : h .limit ≤ 8000000000000
+  pub square-limit : h .limit ≤ limitSquaredMost
   pub p-some : 1 ≤ h .p
   pub p-q : h .p ≤ h .q
   pub q-limit : h .q ≤ 1000
   pub mu-limit : h .mu ≤ 512
   pub handsets-from : 32 ≤ h .handsets
   pub edges-from : 32 ≤ h .edges
-  pub handsets-to : h .handsets + 8 * h .n ≤ h .len
-  pub edges-to : h .edges + 4 * h .m ≤ h .len
+  pub handsets-to : h .handsets + handsetBytes * h .n ≤ h .len
+  pub edges-to : h .edges + edgeBytes * h .m ≤ h .len
 
 pub fits : (h : Header) → T (countsFit h) → T (thresholdsFit h) → T (tablesFit h) → Fits h
 unfolding countsFit thresholdsFit tablesFit
 fits h c t f =
-    let t1 = and-right (leb (h .limit) 8000000000000) _ t in
+    let t1 = and-right (leb (h .limit) limitSquaredMost) _ t in
     let t2 = and-right (leb 1 (h .p)) _ t1 in
     let t3 = and-right (leb (h .p) (h .q)) _ t2 in
     let f1 = and-right (leb 32 (h .handsets)) _ f in
     let f2 = and-right (leb 32 (h .edges)) _ f1 in
-    let f3 = and-right (leb (h .handsets + 8 * h .n) (h .len)) _ f2 in
+    let f3 = and-right (leb (h .handsets + handsetBytes * h .n) (h .len)) _ f2 in
     record {
       n-limit = leb→le (h .n) 512 (and-left (leb (h .n) 512) _ c);
       m-limit = leb→le (h .m) 4096 (and-right (leb (h .n) 512) _ c);
-      square-limit = leb→le (h .limit) 8000000000000 (and-left (leb (h .limit) 8000000000000) _ t);
+      square-limit = leb→le (h .limit) limitSquaredMost (and-left (leb (h .limit) limitSquaredMost) _ t);
       p-some = leb→le 1 (h .p) (and-left (leb 1 (h .p)) _ t1);
       p-q = leb→le (h .p) (h .q) (and-left (leb (h .p) (h .q)) _ t2);
       q-limit = leb→le (h .q) 1000 (and-left (leb (h .q) 1000) _ t3);
       mu-limit = leb→le (h .mu) 512 (and-right (leb (h .q) 1000) _ t3);
       handsets-from = leb→le 32 (h .handsets) (and-left (leb 32 (h .handsets)) _ f);
       edges-from = leb→le 32 (h .edges) (and-left (leb 32 (h .edges)) _ f1);
-      handsets-to = leb→le (h .handsets + 8 * h .n) (h .len) (and-left (leb (h .handsets + 8 * h .n) (h .len)) _ f2);
-      edges-to = leb→le (h .edges + 4 * h .m) (h .len) (and-left (leb (h .edges + 4 * h .m) (h .len)) _ f3);
+      handsets-to = leb→le (h .handsets + handsetBytes * h .n) (h .len) (and-left (leb (h .handsets + handsetBytes * h .n) (h .len)) _ f2);
+      edges-to = leb→le (h .edges + edgeBytes * h .m) (h .len) (and-left (leb (h .edges + edgeBytes * h .m) (h .len)) _ f3);
     }
 
 yes-of : (c : Bool) → T (not (not c)) → T c
@@ -168,7 +177,7 @@ header-no s r e =
     stop (leb 32 (length s)) _ _ _ _
     (stop (eqb (headerOf s .len) (length s)) _ _ _ _
     (stop (countsFit (headerOf s)) _ _ _ _
-    (stop (eqb (headerOf s .reserved) 0) _ _ _ _
+    (stop (eqb (headerOf s .reserved) reservedValue) _ _ _ _
     (stop (thresholdsFit (headerOf s)) _ _ _ _
     (stop (tablesFit (headerOf s)) _ _ (Site (headerOf s)) _ (λ z. let w : _≡_ {A = ℕ} 0 1 = cc in absurd (omega arith))))))) e
 
@@ -177,7 +186,7 @@ pub record Checked (s : List ℕ) : Type 0 where
   pub q1 : T (leb 32 (length s))
   pub q2 : T (eqb (imageLength s) (length s))
   pub q3 : T (countsFit (headerOf s))
-  pub q4 : T (eqb (reserved s) 0)
+  pub q4 : T (eqb (reserved s) reservedValue)
   pub q5 : T (thresholdsFit (headerOf s))
   pub q6 : T (tablesFit (headerOf s))
 
@@ -187,7 +196,7 @@ header-yes s h e =
     let a1 = pass (leb 32 (length s)) _ _ _ e in
     let a2 = pass (eqb (headerOf s .len) (length s)) _ _ _ (a1 .1) in
     let a3 = pass (countsFit (headerOf s)) _ _ _ (a2 .1) in
-    let a4 = pass (eqb (headerOf s .reserved) 0) _ _ _ (a3 .1) in
+    let a4 = pass (eqb (headerOf s .reserved) reservedValue) _ _ _ (a3 .1) in
     let a5 = pass (thresholdsFit (headerOf s)) _ _ _ (a4 .1) in
     let a6 = pass (tablesFit (headerOf s)) _ _ _ (a5 .1) in
     (record { q1 = a1 .0; q2 = a2 .0; q3 = a3 .0; q4 = a4 .0; q5 = a5 .0; q6 = a6 .0 }, sym (same (a6 .1)))
@@ -203,18 +212,27 @@ module _ (s : List ℕ) (c : Checked s) where
       go-on (leb 32 (length s)) _ _ _ (c .q1)
       ∙ go-on (eqb (headerOf s .len) (length s)) _ _ _ (c .q2)
       ∙ go-on (countsFit (headerOf s)) _ _ _ (c .q3)
-      ∙ go-on (eqb (headerOf s .reserved) 0) _ _ _ (c .q4)
+      ∙ go-on (eqb (headerOf s .reserved) reservedValue) _ _ _ (c .q4)
       ∙ go-on (thresholdsFit (headerOf s)) _ _ _ (c .q5)
       ∙ go-on (tablesFit (headerOf s)) _ _ _ (c .q6)
 
 -- for the reader: with the header in hand, what its numbers keep to, and what is left to ask
 pub header-passed : (s : List ℕ) (h : Header) → openHeader s ≡ Site h
-    → Fits h × (h .len ≡ length s) × (openOf s ≡ askRecords (take (8 * h .n) (drop (h .handsets) s)) (take (4 * h .m) (drop (h .edges) s)) h)
+    → Fits h × (h .len ≡ length s) × (openOf s ≡ askRecords (take (handsetBytes * h .n) (drop (h .handsets) s)) (take (edgeBytes * h .m) (drop (h .edges) s)) h)
 unfolding headerOf handsetRecords edgeRecords
 header-passed s h e =
     let y = header-yes s h e in
-    subst (λ (x : Header). Fits x × (x .len ≡ length s) × (openOf s ≡ askRecords (take (8 * x .n) (drop (x .handsets) s)) (take (4 * x .m) (drop (x .edges) s)) x)) (sym (y .1))
+    subst (λ (x : Header). Fits x × (x .len ≡ length s) × (openOf s ≡ askRecords (take (handsetBytes * x .n) (drop (x .handsets) s)) (take (edgeBytes * x .m) (drop (x .edges) s)) x)) (sym (y .1))
     (checked-fits s (y .0), eqb→eq (imageLength s) (length s) (y .0 .q2), open-on s (y .0))
+
+module _ (s : List ℕ) (f : Fits (headerOf s)) (l : imageLength s ≡ length s) where
+  pub handsets-length : length (handsetRecords s) ≡ handsetBytes * handsetCount s
+  unfolding handsetRecords headerOf
+  handsets-length = simp (length-take, length-drop) (omega (arith, f .handsets-to, l))
+
+  pub edges-length : length (edgeRecords s) ≡ edgeBytes * edgeCount s
+  unfolding edgeRecords headerOf
+  edges-length = simp (length-take, length-drop) (omega (arith, f .edges-to, l))
 
 module _ (s : List ℕ) (a : Accepted s) where
   pub accepted-fits : Fits (headerOf s)
@@ -228,18 +246,13 @@ module _ (s : List ℕ) (a : Accepted s) where
   ends-below k h = good-ends (edgeRecords s) (handsetCount s) k (a .q8 k h)
 
   -- every coordinate, shifted by 2 ^ 31, keeps its limits
-  in-limits : (x : ℕ) → T (inLimits x) → (2146483648 ≤ x) × (x ≤ 2148483648)
-  in-limits x t =
-      (leb→le 2146483648 x (and-left (leb 2146483648 x) (leb x 2148483648) t), leb→le x 2148483648 (and-right (leb 2146483648 x) (leb x 2148483648) t))
-
-  both-limits : (v : ℕ) → v < handsetCount s → T (inLimits (xAt (handsetRecords s) v) && inLimits (yAt (handsetRecords s) v))
+  pub coordinate-limits : (v i : ℕ) → v < handsetCount s → i < coordinateCount
+      → (2147483648 - coordinateLimit ≤ coordinateOf (handsetRecord (handsetRecords s) v) i) × (coordinateOf (handsetRecord (handsetRecords s) v) i ≤ 2147483648 + coordinateLimit)
   unfolding outOfLimits
-  both-limits v h = yes-of (inLimits (xAt (handsetRecords s) v) && inLimits (yAt (handsetRecords s) v)) (a .q7 v h)
-
-  pub x-limits : (v : ℕ) → v < handsetCount s → (2146483648 ≤ xAt (handsetRecords s) v) × (xAt (handsetRecords s) v ≤ 2148483648)
-  x-limits v h =
-      in-limits (xAt (handsetRecords s) v) (and-left (inLimits (xAt (handsetRecords s) v)) (inLimits (yAt (handsetRecords s) v)) (both-limits v h))
-
-  pub y-limits : (v : ℕ) → v < handsetCount s → (2146483648 ≤ yAt (handsetRecords s) v) × (yAt (handsetRecords s) v ≤ 2148483648)
-  y-limits v h =
-      in-limits (yAt (handsetRecords s) v) (and-right (inLimits (xAt (handsetRecords s) v)) (inLimits (yAt (handsetRecords s) v)) (both-limits v h))
+  coordinate-limits v i h l =
+      let r : List ℕ = handsetRecord (handsetRecords s) v in
+      let x : ℕ = coordinateOf r i in
+      let t : T (inLimits x) = yes-of (inLimits x) (any-none coordinateCount (λ j. not (inLimits (coordinateOf r j))) (a .q7 v h) i l) in (
+        leb→le (2147483648 - coordinateLimit) x (and-left (leb (2147483648 - coordinateLimit) x) (leb x (2147483648 + coordinateLimit)) t),
+        leb→le x (2147483648 + coordinateLimit) (and-right (leb (2147483648 - coordinateLimit) x) (leb x (2147483648 + coordinateLimit)) t),
+      )

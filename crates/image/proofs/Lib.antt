@@ -1,4 +1,9 @@
+pub mod Answers
+pub mod Records
 pub mod Acceptance
 pub mod Signed
 pub mod Scanning
-pub mod Repeats
+pub mod Rows
+pub mod Edges
+pub mod Faults
+pub mod Unique

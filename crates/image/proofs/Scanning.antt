@@ -1,21 +1,53 @@
 -- Laws of a scan of the records from 0 up, which stops at the first bad one: what its loop keeps, and what the reader makes of its answer.
 --
---     scan-none, scan-more       no record passed was bad: at the start, and after one more
---     scan-found, scan-ended     so the place where the scan stops is `find`
---     each-no, each-yes          a question to each record, by whether the scan came to the end
---     each-passed                none is bad where it did
+--     bad-handset, bad-end, bad-loop           what makes a record bad, by its question
+--     handset-found, end-found, loop-found     the first bad record is the question's
+--     scan-none, scan-more                     no record passed was bad: at the start, and after one more
+--     scan-found, scan-ended                   so the place where the scan stops is `find`
+--     none-bad                                 none is bad where the first is the end
+--     each-no, each-yes, each-passed           a question to each record, by whether the scan came to the end
 use Prim.Native.Nat.{ℕ, _+_, _≤_, _<_}
 use native.Mathlib.Omega.{arith}
 use native.Mathlib.Numerals.{add-one}
-use mathlib.Core.Path.{_≡_, sym, _∙_, subst}
+use mathlib.Core.Path.{_≡_, sym, ap, _∙_, subst}
 use mathlib.Core.Logic.{⊎-elim}
 use mathlib.Core.Bool.{Bool, true, false, _||_, not}
+use mathlib.Core.List.{List}
 use lib.Dec.{T}
+use borrow.Author.Tests.{ne-eqb}
 use Rattle.sets.specs.Below.{any, find}
 use Rattle.sets.proofs.Tests.{decide, any-none, find-law, find-none, find-is, T-true, T-false}
-use Rattle.image.specs.Questions.{ask, askEach}
+use Rattle.image.specs.Image.{handsetRecord}
+use Rattle.image.specs.Questions.{outOfLimits, badEnd, isLoop, ask, askEach}
+use Rattle.image.specs.Scan.{badRecord}
 use Rattle.image.specs.declared.Opened.{Opened}
 use Rattle.image.specs.declared.Opened.the-variants.{Refused}
+
+module _ (question : ℕ) (part : List ℕ) (n k : ℕ) where
+  pub bad-handset : question ≡ 7 → badRecord question part n k ≡ outOfLimits (handsetRecord part k)
+  unfolding badRecord
+  bad-handset e = ap (λ (q : ℕ). badRecord q part n k) e
+
+  pub bad-end : question ≡ 8 → badRecord question part n k ≡ badEnd part n k
+  unfolding badRecord
+  bad-end e = ap (λ (q : ℕ). badRecord q part n k) e
+
+  pub bad-loop : (question ≡ 7 → ⊥) → (question ≡ 8 → ⊥) → badRecord question part n k ≡ isLoop part k
+  unfolding badRecord
+  bad-loop d e = rw (ne-eqb question 7 d, ne-eqb question 8 e)
+
+module _ (part : List ℕ) (n count r : ℕ) where
+  pub handset-found : r ≡ find count (badRecord 7 part n) → r ≡ find count (λ v. outOfLimits (handsetRecord part v))
+  unfolding badRecord
+  handset-found e = e
+
+  pub end-found : r ≡ find count (badRecord 8 part n) → r ≡ find count (badEnd part n)
+  unfolding badRecord
+  end-found e = e
+
+  pub loop-found : r ≡ find count (badRecord 9 part n) → r ≡ find count (isLoop part)
+  unfolding badRecord
+  loop-found e = e
 
 pub scan-none : (f : ℕ → Bool) → T (not (any 0 f))
 unfolding any
@@ -31,7 +63,7 @@ scan-found n f k h t e = sym (find-is n f k h (subst T (sym e) tt) t)
 pub scan-ended : (n : ℕ) (f : ℕ → Bool) (k : ℕ) → k ≡ n → T (not (any k f)) → k ≡ find n f
 scan-ended n f k e t = e ∙ sym (find-none n f (subst (λ (x : ℕ). T (not (any x f))) e t))
 
-none-bad : (n : ℕ) (bad : ℕ → Bool) → n ≤ find n bad → T (not (any n bad))
+pub none-bad : (n : ℕ) (bad : ℕ → Bool) → n ≤ find n bad → T (not (any n bad))
 none-bad n bad h = ⊎-elim (λ t. absurd (omega (arith, find-law n bad t .0))) (λ t. t) (decide (any n bad))
 
 some-bad : (n : ℕ) (bad : ℕ → Bool) → find n bad < n → T (any n bad)

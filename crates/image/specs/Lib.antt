@@ -1,3 +1,7 @@
 pub mod Image
-pub mod Signed
 pub mod Questions
+pub mod Acceptance
+pub mod Signed
+pub mod Answers
+pub mod Rows
+pub mod Scan

@@ -1,20 +1,38 @@
 -- The ten questions put to an image (paper 01, "Questions put to an image"), and the reader's answer.
 --
---     headerOf s     the header's numbers, as they stand
---     openHeader s   questions 1 to 6, of the header: the header, or the number of the first no
---     openOf s       the questions in the paper's order, each of the whole image before the next: the header, or the number and place of the first no
---     Accepted s     every question gets a yes (proofs/Acceptance: exactly when the reader answers the header)
-use Prim.Native.Nat.{ℕ, _+_, _*_, _<_}
+--     coordinateLimit                    how far from 0 a coordinate may be
+--     limitSquaredMost                   the most that G may be
+--     reservedValue                      what the reserved bytes, 30 and 31, hold
+--     headerOf s                         the header's numbers, as they stand
+--     countsFit, thresholdsFit, tablesFit            questions 3, 5 and 6, of a header
+--     outOfLimits, badEnd, isLoop, repeatsEarlier    where questions 7 to 10 get a no, of a record
+--     ask, askEach                       a question, and a question to each record: a yes goes on, a no is the refusal
+--     askHeader, askRecords, askEdges    questions 3 to 6, 7 to 10 and 8 to 10, in their order
+--     openOf s                           the questions in the paper's order, each of the whole image before the next: the header, or the number and
+--                                        place of the first no
+--     refusalOf o                        the number and place of an answer
+--     Accepted s                         every question gets a yes (specs/Acceptance: exactly when the reader answers the header)
+use Prim.Native.Nat.{ℕ, _+_, _*_, _-_, _<_}
 use mathlib.Core.Bool.{Bool, true, false, _&&_, _||_, not}
 use mathlib.Core.List.{List}
 use lib.Dec.{T, leb, ltb, eqb}
 use lib.ListN.{length}
 use Rattle.sets.specs.Below.{any, find}
-use Rattle.image.specs.Image.{handsetCount, edgeCount, handsetOffset, edgeOffset, imageLength, limitSquared, epsilonNum, epsilonDen, muField, reserved, handsetRecords, edgeRecords, xAt, yAt, endA, endB, joins}
+use Rattle.fields.specs.Fields.{coordinateCount, handsetBytes, edgeBytes}
+use Rattle.image.specs.Image.{handsetCount, edgeCount, handsetOffset, edgeOffset, imageLength, limitSquared, epsilonNum, epsilonDen, muField, reserved, handsetRecords, edgeRecords, handsetRecord, coordinateOf, endA, endB, joins}
 use Rattle.image.specs.declared.Header.{Header}
 use Rattle.image.specs.declared.Refusal.{Refusal}
 use Rattle.image.specs.declared.Opened.{Opened}
 use Rattle.image.specs.declared.Opened.the-variants.{Site, Refused}
+
+abbrev pub coordinateLimit : ℕ
+coordinateLimit = 1000000
+
+abbrev pub limitSquaredMost : ℕ
+limitSquaredMost = 8000000000000
+
+abbrev pub reservedValue : ℕ
+reservedValue = 0
 
 unfoldable pub headerOf : List ℕ → Header
 unfolding handsetCount edgeCount handsetOffset edgeOffset imageLength limitSquared epsilonNum epsilonDen muField reserved
@@ -37,22 +55,22 @@ countsFit h = leb (h .n) 512 && leb (h .m) 4096
 
 -- question 5
 unfoldable pub thresholdsFit : Header → Bool
-thresholdsFit h = leb (h .limit) 8000000000000 && (leb 1 (h .p) && (leb (h .p) (h .q) && (leb (h .q) 1000 && leb (h .mu) 512)))
+thresholdsFit h = leb (h .limit) limitSquaredMost && (leb 1 (h .p) && (leb (h .p) (h .q) && (leb (h .q) 1000 && leb (h .mu) 512)))
 
 -- question 6
 unfoldable pub tablesFit : Header → Bool
 tablesFit h =
-    leb 32 (h .handsets) && (leb 32 (h .edges) && (leb (h .handsets + 8 * h .n) (h .len) && (leb (h .edges + 4 * h .m) (h .len)
-    && (leb (h .handsets + 8 * h .n) (h .edges) || leb (h .edges + 4 * h .m) (h .handsets)))))
+    leb 32 (h .handsets) && (leb 32 (h .edges) && (leb (h .handsets + handsetBytes * h .n) (h .len) && (leb (h .edges + edgeBytes * h .m) (h .len)
+    && (leb (h .handsets + handsetBytes * h .n) (h .edges) || leb (h .edges + edgeBytes * h .m) (h .handsets)))))
 
--- a coordinate, shifted by 2 ^ 31, is from -1,000,000 to 1,000,000
+-- a coordinate, shifted by 2 ^ 31, is from -1,000,000 to 1,000,000 (specs/Signed: exactly when the signed number is)
 abbrev pub inLimits : ℕ → Bool
-inLimits x = leb 2146483648 x && leb x 2148483648
+inLimits x = leb (2147483648 - coordinateLimit) x && leb x (2147483648 + coordinateLimit)
 
--- question 7, of handset v of the handset records
-unfoldable pub outOfLimits : List ℕ → ℕ → Bool
-unfolding xAt yAt
-outOfLimits part v = not (inLimits (xAt part v) && inLimits (yAt part v))
+-- question 7, of a handset's record: some coordinate is out of its limits
+unfoldable pub outOfLimits : List ℕ → Bool
+unfolding any coordinateOf
+outOfLimits r = any coordinateCount (λ i. not (inLimits (coordinateOf r i)))
 
 -- question 8, of edge k of the edge records
 unfoldable pub badEnd : List ℕ → ℕ → ℕ → Bool
@@ -79,33 +97,29 @@ unfoldable pub askEach : ℕ → (ℕ → Bool) → ℕ → Opened → Opened
 unfolding ask any find
 askEach n bad number next = ask (not (any n bad)) number (find n bad) next
 
--- questions 7 to 10, of the two tables
-unfoldable pub askRecords : List ℕ → List ℕ → Header → Opened
-unfolding askEach outOfLimits badEnd isLoop repeatsEarlier
-askRecords handsets edges h =
-    askEach (h .n) (outOfLimits handsets) 7
-    (askEach (h .m) (badEnd edges (h .n)) 8
+-- questions 8 to 10, of the edges
+unfoldable pub askEdges : List ℕ → Header → Opened
+unfolding askEach badEnd isLoop repeatsEarlier
+askEdges edges h =
+    askEach (h .m) (badEnd edges (h .n)) 8
     (askEach (h .m) (isLoop edges) 9
     (askEach (h .m) (repeatsEarlier edges) 10
-    (Site h))))
+    (Site h)))
+
+-- questions 7 to 10, of the two tables
+unfoldable pub askRecords : List ℕ → List ℕ → Header → Opened
+unfolding askEach outOfLimits handsetRecord askEdges
+askRecords handsets edges h = askEach (h .n) (λ v. outOfLimits (handsetRecord handsets v)) 7 (askEdges edges h)
 
 -- questions 3 to 6, of the header
 unfoldable pub askHeader : Header → Opened → Opened
 unfolding ask countsFit thresholdsFit tablesFit
 askHeader h next =
     ask (countsFit h) 3 0
-    (ask (eqb (h .reserved) 0) 4 0
+    (ask (eqb (h .reserved) reservedValue) 4 0
     (ask (thresholdsFit h) 5 0
     (ask (tablesFit h) 6 0
     next)))
-
-unfoldable pub openHeader : List ℕ → Opened
-unfolding ask headerOf askHeader
-openHeader s =
-    ask (leb 32 (length s)) 1 0
-    (ask (eqb (headerOf s .len) (length s)) 2 0
-    (askHeader (headerOf s)
-    (Site (headerOf s))))
 
 unfoldable pub openOf : List ℕ → Opened
 unfolding ask headerOf askHeader askRecords handsetRecords edgeRecords
@@ -124,10 +138,10 @@ pub record Accepted (s : List ℕ) : Type 0 where
   pub q1 : T (leb 32 (length s))
   pub q2 : T (eqb (imageLength s) (length s))
   pub q3 : T (countsFit (headerOf s))
-  pub q4 : T (eqb (reserved s) 0)
+  pub q4 : T (eqb (reserved s) reservedValue)
   pub q5 : T (thresholdsFit (headerOf s))
   pub q6 : T (tablesFit (headerOf s))
-  pub q7 : (v : ℕ) → v < handsetCount s → T (not (outOfLimits (handsetRecords s) v))
+  pub q7 : (v : ℕ) → v < handsetCount s → T (not (outOfLimits (handsetRecord (handsetRecords s) v)))
   pub q8 : (k : ℕ) → k < edgeCount s → T (not (badEnd (edgeRecords s) (handsetCount s) k))
   pub q9 : (k : ℕ) → k < edgeCount s → T (not (isLoop (edgeRecords s) k))
   pub q10 : (k : ℕ) → k < edgeCount s → T (not (repeatsEarlier (edgeRecords s) k))

@@ -1,13 +1,32 @@
 // The site image: its header and records, and the reader that puts questions 1 to 10 to it.
 //
-// `open` answers the header of an image that is accepted, or the number and place of the first no. Callers read the records
-// themselves, and cite `accepted`, `accepted-fits`, `ends-below` and `x-limits` of proofs/Acceptance for what an accepted image keeps to.
+// `open` answers the header of an image that is accepted, or the number and place of the first no. `open_rows` also leaves behind what reading the edges
+// makes: a row for each handset, with itself and those that it is adjacent to, and the size of each row. `within` is the one test of whether two handsets are
+// near. Callers read the records themselves, and cite proofs/Answers (`open-same`), proofs/Acceptance (what an accepted image keeps to) and proofs/Records
+// (a record is the part of its table that it is read from).
 ghost use mathlib.Core.Path.{_≡_};
-ghost use Prim.Native.Nat.{ℕ, _+_, _*_, _≤_, _<_, min, max};
+ghost use mathlib.Core.Bool.{_&&_};
+ghost use Prim.Native.Nat.{_+_, _*_, _≤_, _<_};
+ghost use lib.Dec.{leb, ltb, eqb};
 ghost use lib.ListN.{length, take, drop};
 ghost use Rattle.sets.specs.Below.{find};
-ghost use Rattle.image.specs.Image.{endA, endB};
-ghost use Rattle.image.specs.Questions.{headerOf, countsFit, thresholdsFit, tablesFit, inLimits, outOfLimits, badEnd, isLoop, repeatsEarlier, ask, askEach, askRecords, askHeader, openHeader, openOf, refusalOf};
+ghost use Rattle.sets.specs.Bits.{cell, withBit};
+ghost use Rattle.sets.specs.Rows.{Table, Counted};
+ghost use Rattle.fields.specs.Fields.{handsetBytes, edgeBytes};
+ghost use Rattle.image.specs.Image.{gap, distanceBetween};
+ghost use Rattle.image.specs.Questions.{headerOf, countsFit, thresholdsFit, tablesFit, inLimits, outOfLimits, ask, askEdges, askRecords, askHeader, openOf, refusalOf};
+ghost use Rattle.image.specs.Answers.{openAnswer};
+ghost use Rattle.image.specs.Rows.{Room, Cleared, related, Held, Reading};
+ghost use Rattle.image.specs.Scan.{openHeader, badRecord, Stand, linked, Added};
+
+// How far from 0 a coordinate may be.
+const COORDINATE_LIMIT: u64 = 1000000;
+
+// The most that G, the square of the near distance, may be.
+const LIMIT_SQUARED_MOST: u64 = 8000000000000;
+
+// What the reserved bytes, 30 and 31, hold.
+const RESERVED: u16 = 0;
 
 // The header's numbers as they stand: `limit` is G, and a blank `mu` is still 0 (`fields::core_size`).
 pub struct Header {
@@ -64,7 +83,8 @@ fn counts_fit(h: Header) -> bool
 fn thresholds_fit(h: Header) -> bool
     ensures { λ r. ⌜ r ≡ thresholdsFit h ⌝ }
 {
-    (h.limit <= 8000000000000) & ((1 <= h.p) & ((h.p <= h.q) & ((h.q <= 1000) & (h.mu <= 512))))
+    (h.limit <= LIMIT_SQUARED_MOST)
+        & ((1 <= h.p) & ((h.p <= h.q) & ((h.q <= 1000) & (h.mu <= 512))))
 }
 
 // Question 6. The ends are computed in 64 bits, where no offset wraps.
@@ -74,8 +94,8 @@ fn tables_fit(h: Header) -> bool
     let a = h.handsets as u64;
     let b = h.edges as u64;
     let len = h.len as u64;
-    let a_end = a + 8 * (h.n as u64);
-    let b_end = b + 4 * (h.m as u64);
+    let a_end = a + (fields::HANDSET_BYTES as u64) * (h.n as u64);
+    let b_end = b + (fields::EDGE_BYTES as u64) * (h.m as u64);
     (32 <= a) & ((32 <= b) & ((a_end <= len) & ((b_end <= len) & ((a_end <= b) | (b_end <= a)))))
 }
 
@@ -99,62 +119,57 @@ fn ask_header(h: Header) -> Opened
 {
     let q6 = put_question(tables_fit(h), 6, 0, Opened::Site(h));
     let q5 = put_question(thresholds_fit(h), 5, 0, q6);
-    let q4 = put_question(h.reserved == 0, 4, 0, q5);
+    let q4 = put_question(h.reserved == RESERVED, 4, 0, q5);
     put_question(counts_fit(h), 3, 0, q4)
 }
 
-// A shifted coordinate is from -1,000,000 to 1,000,000, both inclusive.
-pub fn in_limits(x: u64) -> bool
+// A shifted coordinate is no farther from 2 ^ 31 than the limit.
+fn in_limits(x: u64) -> bool
     ensures { λ r. ⌜ r ≡ inLimits x ⌝ }
 {
-    (2146483648 <= x) & (x <= 2148483648)
+    (2147483648 - COORDINATE_LIMIT <= x) & (x <= 2147483648 + COORDINATE_LIMIT)
 }
 
-// Whether handset v has a coordinate out of its limits.
-fn out_of_limits(part: &[u8], v: u16) -> bool
-    ensures { λ r. ⌜ r ≡ outOfLimits (now (part .entry)) v ⌝ }
+// Question 7 of a handset's record: whether a coordinate is out of its limits.
+fn out_of_limits(handset: &[u8]) -> bool
+    ensures { λ r. ⌜ r ≡ outOfLimits (now (handset .entry)) ⌝ }
 {
-    let at = 8 * (v as usize);
-    !(in_limits(fields::coordinate(part, at)) & in_limits(fields::coordinate(part, at + 4)))
-}
-
-// Whether edge k has an end that is no handset.
-fn bad_end(part: &[u8], n: u16, k: u16) -> bool
-    ensures { λ r. ⌜ r ≡ badEnd (now (part .entry)) n k ⌝ }
-{
-    let at = 4 * (k as usize);
-    !((fields::read2(part, at) < n) & (fields::read2(part, at + 2) < n))
-}
-
-// Whether edge k goes from a handset to itself.
-fn is_loop(part: &[u8], k: u16) -> bool
-    ensures { λ r. ⌜ r ≡ isLoop (now (part .entry)) k ⌝ }
-{
-    let at = 4 * (k as usize);
-    fields::read2(part, at) == fields::read2(part, at + 2)
-}
-
-// Question 7: the first handset with a coordinate out of its limits, or n where there is none.
-fn first_out_of_limits(part: &[u8], n: u16) -> u16
-    ensures { λ r. ⌜ r ≡ find n (outOfLimits (now (part .entry))) ⌝ }
-{
-    let mut v: u16 = 0;
-    while v < n {
-        if out_of_limits(part, v) {
-            return v;
-        }
-        v += 1;
+    let mut bad = false;
+    let mut i: usize = 0;
+    while i < fields::COORDINATES {
+        bad = bad | !in_limits(fields::coordinate(handset, 4 * i));
+        i += 1;
     }
-    v
+    bad
 }
 
-// Question 8: the first edge with an end that is no handset, or m where there is none.
-fn first_bad_end(part: &[u8], m: u16, n: u16) -> u16
-    ensures { λ r. ⌜ r ≡ find m (badEnd (now (part .entry)) n) ⌝ }
+// Whether question 7, 8 or 9 gets a no for record k of the part.
+fn is_bad(question: u32, part: &[u8], n: usize, k: usize) -> bool
+    requires { ⌜ Stand question (now part) (k + 1) ⌝ }
+    ensures { λ r. ⌜ r ≡ badRecord question (now (part .entry)) n k ⌝ }
 {
-    let mut k: u16 = 0;
-    while k < m {
-        if bad_end(part, n, k) {
+    if question == 7 {
+        let at = fields::HANDSET_BYTES * k;
+        let past = at + fields::HANDSET_BYTES;
+        return out_of_limits(&part[at..past]);
+    }
+    let at = fields::EDGE_BYTES * k;
+    let past = at + fields::EDGE_BYTES;
+    let e = fields::read_ends(&part[at..past]);
+    if question == 8 {
+        return !((e.a < n) & (e.b < n));
+    }
+    e.a == e.b
+}
+
+// The first of the first `count` records of the part for which the question gets a no, or `count` where there is none.
+fn first_bad(question: u32, part: &[u8], count: usize, n: usize) -> usize
+    requires { ⌜ Stand question (now part) count ⌝ }
+    ensures { λ r. ⌜ r ≡ find count (badRecord question (now (part .entry)) n) ⌝ }
+{
+    let mut k: usize = 0;
+    while k < count {
+        if is_bad(question, part, n, k) {
             return k;
         }
         k += 1;
@@ -162,94 +177,147 @@ fn first_bad_end(part: &[u8], m: u16, n: u16) -> u16
     k
 }
 
-// Question 9: the first edge from a handset to itself, or m where there is none.
-fn first_loop(part: &[u8], m: u16) -> u16
-    ensures { λ r. ⌜ r ≡ find m (isLoop (now (part .entry))) ⌝ }
+// The square of how far apart two shifted coordinates are.
+fn squared_gap(a: u64, b: u64) -> u64
+    requires { ⌜ (a < 4294967296) × (b < 4294967296) ⌝ }
+    ensures { λ r. ⌜ r ≡ gap a b * gap a b ⌝ }
 {
-    let mut k: u16 = 0;
+    let d = (a as i64) - (b as i64);
+    let e = if d < 0 { -d } else { d };
+    (e as u64) * (e as u64)
+}
+
+// Whether two handsets, by their records, are no farther apart than the limit's root. What is left of the limit wraps only where the answer is a no.
+pub fn within(a: &[u8], b: &[u8], limit: u64) -> bool
+    ensures { λ r. ⌜ r ≡ leb (distanceBetween (now (a .entry)) (now (b .entry))) limit ⌝ }
+{
+    let mut fits = true;
+    let mut room = limit;
+    let mut i: usize = 0;
+    while i < fields::COORDINATES {
+        let d = squared_gap(fields::coordinate(a, 4 * i), fields::coordinate(b, 4 * i));
+        let near = d <= room;
+        fits = fits & near;
+        room = std::num::wrapping_sub_u64(room, d);
+        i += 1;
+    }
+    fits
+}
+
+// Whether v is in row u.
+fn has(rows: &[u64], u: usize, v: usize) -> bool
+    requires { ⌜ (u < 512) × (v < 512) × (length (now rows) ≡ 4096) ⌝ }
+    ensures { λ r. ⌜ r ≡ eqb (cell (now (rows .entry)) u v) 1 ⌝ }
+{
+    let i = u * 512 + v;
+    (rows[i / 64] >> (i % 64)) % 2 == 1
+}
+
+// Adds v to row u, which does not have it.
+fn add(rows: &mut [u64], sizes: &mut [u32], u: usize, v: usize)
+    requires { ⌜ (u < 512) × (v < 512) × (Room (now rows) (now sizes)) × (Counted (now rows) (now sizes)) × (cell (now rows) u v ≡ 0) ⌝ }
+    ensures added { λ _. ⌜ now (rows .exit) ≡ withBit (now (rows .entry)) (u * 512 + v) ⌝ }
+    ensures counted { λ _. ⌜ Counted (now (rows .exit)) (now (sizes .exit)) ⌝ }
+{
+    sizes[u] = sizes[u] + 1;
+    rows[(u * 512 + v) / 64] = rows[(u * 512 + v) / 64] | (1u64 << ((u * 512 + v) % 64));
+}
+
+// Adds each of the first n handsets to its own row of a cleared table.
+fn add_selves(rows: &mut [u64], sizes: &mut [u32], n: usize)
+    requires { ⌜ (n ≤ 512) × (Cleared (now rows) (now sizes)) ⌝ }
+    ensures added { λ _. ⌜ Table (now (rows .exit)) (λ u v. ltb u n && eqb u v) ⌝ }
+    ensures counted { λ _. ⌜ Counted (now (rows .exit)) (now (sizes .exit)) ⌝ }
+{
+    let mut u: usize = 0;
+    while u < n {
+        add(rows, sizes, u, u);
+        u += 1;
+    }
+}
+
+// Adds the ends of each edge to each other's rows, up to the first edge at fault for question 8, 9 or 10, whose number it gives, or m where there is
+// none. A row that has an end already says that the edge is a loop or a repeat.
+fn add_edges(part: &[u8], m: usize, n: usize, rows: &mut [u64], sizes: &mut [u32]) -> usize
+    requires { ⌜ (n ≤ 512) × (edgeBytes * m ≤ length (now part)) × (Room (now rows) (now sizes)) × (Table (now rows) (λ u v. ltb u n && eqb u v)) × (Counted (now rows) (now sizes)) ⌝ }
+    ensures { λ r. ⌜ Added (now (part .entry)) n m r (now (rows .exit)) (now (sizes .exit)) ⌝ }
+{
+    let mut k: usize = 0;
     while k < m {
-        if is_loop(part, k) {
+        let at = fields::EDGE_BYTES * k;
+        let past = at + fields::EDGE_BYTES;
+        let e = fields::read_ends(&part[at..past]);
+        if !((e.a < n) & (e.b < n)) {
             return k;
         }
+        if has(rows, e.a, e.b) {
+            return k;
+        }
+        add(rows, sizes, e.a, e.b);
+        add(rows, sizes, e.b, e.a);
         k += 1;
     }
     k
 }
 
-// The cell of edge k in a table of 512 by 512: its smaller end, then its larger, so that an edge has one cell either way round.
-fn cell_of(part: &[u8], k: u16) -> usize
-    ensures { λ r. ⌜ r ≡ min (endA (now (part .entry)) k) (endB (now (part .entry)) k) * 512 + max (endA (now (part .entry)) k) (endB (now (part .entry)) k) ⌝ }
+// Questions 8 to 10, each to every edge before the next. Where no edge is at fault, one pass says so; where an edge is, but none for 8 or 9, it is the
+// first repeat. After a yes the cleared table that is lent has the rows of all edges.
+fn ask_edges(part: &[u8], h: Header, rows: &mut [u64], sizes: &mut [u32]) -> Opened
+    requires { ⌜ (h .n ≤ 512) × (edgeBytes * h .m ≤ length (now part)) × (Cleared (now rows) (now sizes)) ⌝ }
+    ensures answer { λ r. ⌜ r ≡ askEdges (now (part .entry)) h ⌝ }
+    ensures held { λ r. ⌜ Held (linked (h .n) (now (part .entry)) (h .m)) r (now (rows .exit)) (now (sizes .exit)) ⌝ }
 {
-    let at = 4 * (k as usize);
-    let a = fields::read2(part, at) as usize;
-    let b = fields::read2(part, at + 2) as usize;
-    if a < b { a * 512 + b } else { b * 512 + a }
-}
-
-// Question 10: the first edge that joins what an earlier one joins, or m where there is none. Each edge seen sets a bit, so each is looked at once.
-fn first_repeat(part: &[u8], m: u16) -> u16
-    requires { ⌜ ((k : ℕ) → k < m → (endA (now part) k < 512) × (endB (now part) k < 512)) ⌝ }
-    ensures { λ r. ⌜ r ≡ find m (repeatsEarlier (now (part .entry))) ⌝ }
-{
-    let mut seen = [0u64; 4096];
-    let mut k: u16 = 0;
-    while k < m {
-        let cell = cell_of(part, k);
-        if sets::has(&seen, cell) {
-            return k;
-        }
-        sets::mark(&mut seen, cell);
-        k += 1;
+    let m = h.m as usize;
+    add_selves(rows, sizes, h.n as usize);
+    let fault = add_edges(part, m, h.n as usize, rows, sizes);
+    if m <= fault {
+        return Opened::Site(h);
     }
-    k
-}
-
-// Questions 8 to 10, each to every edge before the next.
-fn ask_edges(part: &[u8], h: Header) -> Opened
-    requires { ⌜ h .n ≤ 512 ⌝ }
-    ensures { λ r. ⌜ r ≡ askEach (h .m) (badEnd (now (part .entry)) (h .n)) 8 (askEach (h .m) (isLoop (now (part .entry))) 9 (askEach (h .m) (repeatsEarlier (now (part .entry))) 10 (Opened.Site h))) ⌝ }
-{
-    let bad = first_bad_end(part, h.m, h.n);
-    if bad < h.m {
-        return refused(8, bad as usize);
+    let bad = first_bad(8, part, m, h.n as usize);
+    if bad < m {
+        return refused(8, bad);
     }
-    let own = first_loop(part, h.m);
-    if own < h.m {
-        return refused(9, own as usize);
+    let own = first_bad(9, part, m, h.n as usize);
+    if own < m {
+        return refused(9, own);
     }
-    let repeat = first_repeat(part, h.m);
-    if repeat < h.m {
-        return refused(10, repeat as usize);
-    }
-    Opened::Site(h)
+    refused(10, fault)
 }
 
 // Questions 7 to 10, of the two tables of records.
-fn ask_records(handsets: &[u8], edges: &[u8], h: Header) -> Opened
-    requires { ⌜ h .n ≤ 512 ⌝ }
-    ensures { λ r. ⌜ r ≡ askRecords (now (handsets .entry)) (now (edges .entry)) h ⌝ }
+fn ask_records(
+    handsets: &[u8],
+    edges: &[u8],
+    h: Header,
+    rows: &mut [u64],
+    sizes: &mut [u32],
+) -> Opened
+    requires { ⌜ (h .n ≤ 512) × (handsetBytes * h .n ≤ length (now handsets)) × (edgeBytes * h .m ≤ length (now edges)) × (Cleared (now rows) (now sizes)) ⌝ }
+    ensures answer { λ r. ⌜ r ≡ askRecords (now (handsets .entry)) (now (edges .entry)) h ⌝ }
+    ensures held { λ r. ⌜ Held (linked (h .n) (now (edges .entry)) (h .m)) r (now (rows .exit)) (now (sizes .exit)) ⌝ }
 {
-    let far = first_out_of_limits(handsets, h.n);
-    if far < h.n {
-        return refused(7, far as usize);
+    let far = first_bad(7, handsets, h.n as usize, h.n as usize);
+    if far < h.n as usize {
+        return refused(7, far);
     }
-    ask_edges(edges, h)
+    ask_edges(edges, h, rows, sizes)
 }
 
 // Questions 7 to 10, each table read from the part of the image that begins at its offset.
-fn ask_tables(image: &[u8], h: Header) -> Opened
-    requires { ⌜ (h .n ≤ 512) × (h .handsets + 8 * h .n ≤ length (now image)) × (h .edges + 4 * h .m ≤ length (now image)) ⌝ }
-    ensures { λ r. ⌜ r ≡ askRecords (take (8 * h .n) (drop (h .handsets) (now (image .entry)))) (take (4 * h .m) (drop (h .edges) (now (image .entry)))) h ⌝ }
+fn ask_tables(image: &[u8], h: Header, rows: &mut [u64], sizes: &mut [u32]) -> Opened
+    requires { ⌜ (h .n ≤ 512) × (h .handsets + handsetBytes * h .n ≤ length (now image)) × (h .edges + edgeBytes * h .m ≤ length (now image)) × (Cleared (now rows) (now sizes)) ⌝ }
+    ensures answer { λ r. ⌜ r ≡ askRecords (take (handsetBytes * h .n) (drop (h .handsets) (now (image .entry)))) (take (edgeBytes * h .m) (drop (h .edges) (now (image .entry)))) h ⌝ }
+    ensures held { λ r. ⌜ Held (linked (h .n) (take (edgeBytes * h .m) (drop (h .edges) (now (image .entry)))) (h .m)) r (now (rows .exit)) (now (sizes .exit)) ⌝ }
 {
     let a = h.handsets as usize;
-    let a_end = a + 8 * (h.n as usize);
+    let a_end = a + fields::HANDSET_BYTES * (h.n as usize);
     let b = h.edges as usize;
-    let b_end = b + 4 * (h.m as usize);
-    ask_records(&image[a..a_end], &image[b..b_end], h)
+    let b_end = b + fields::EDGE_BYTES * (h.m as usize);
+    ask_records(&image[a..a_end], &image[b..b_end], h, rows, sizes)
 }
 
 // Puts questions 1 to 6 to an image, in order, and stops at the first no: an image that gets a yes to all has both tables in it.
-pub fn open_header(image: &[u8]) -> Opened
+fn open_header(image: &[u8]) -> Opened
     ensures { λ r. ⌜ r ≡ openHeader (now (image .entry)) ⌝ }
 {
     if image.len() < 32 {
@@ -262,15 +330,42 @@ pub fn open_header(image: &[u8]) -> Opened
     ask_header(h)
 }
 
-// Puts questions 1 to 10 to an image, in order, and stops at the first no.
-pub fn open(image: &[u8]) -> Opened
-    ensures { λ r. ⌜ r ≡ openOf (now (image .entry)) ⌝ }
+// Puts questions 1 to 10 to an image, in order, and stops at the first no. After a yes the cleared table that is lent has the rows of all edges.
+fn read_image(image: &[u8], rows: &mut [u64], sizes: &mut [u32]) -> Opened
+    requires { ⌜ Cleared (now rows) (now sizes) ⌝ }
+    ensures answer { λ r. ⌜ r ≡ openOf (now (image .entry)) ⌝ }
+    ensures held { λ r. ⌜ Held (related (now (image .entry))) r (now (rows .exit)) (now (sizes .exit)) ⌝ }
 {
     let checked = open_header(image);
     let Opened::Site(h) = checked else {
         return checked;
     };
-    ask_tables(image, h)
+    ask_tables(image, h, rows, sizes)
+}
+
+// Puts questions 1 to 10 to an image, and leaves the rows of all edges and their sizes in the tables that are lent, or 0 everywhere after a no. What they
+// had before is gone.
+pub fn open_rows(image: &[u8], rows: &mut [u64; 4096], sizes: &mut [u32; 512]) -> Opened
+    ensures { λ r. ⌜ Reading (now (image .entry)) r (now (rows .exit)) (now (sizes .exit)) ⌝ }
+{
+    *rows = [0u64; 4096];
+    *sizes = [0u32; 512];
+    let answer = read_image(image, rows, sizes);
+    let Opened::Refused(_) = answer else {
+        return answer;
+    };
+    *rows = [0u64; 4096];
+    *sizes = [0u32; 512];
+    answer
+}
+
+// The same, without the rows.
+pub fn open(image: &[u8]) -> Opened
+    ensures { λ r. ⌜ openAnswer r ≡ openAnswer (openOf (now (image .entry))) ⌝ }
+{
+    let mut rows = [0u64; 4096];
+    let mut sizes = [0u32; 512];
+    read_image(image, &mut rows, &mut sizes)
 }
 
 // The refusal of an answer, for the else of a caller's let .. else; number 0 where the image was accepted.

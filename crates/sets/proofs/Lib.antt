@@ -3,3 +3,5 @@ pub mod Counting
 pub mod Selecting
 pub mod Bits
 pub mod Writing
+pub mod Lowest
+pub mod Words

@@ -1,45 +1,84 @@
--- `image::out_of_limits` meets its contract: the code is the definition, of the two coordinates read.
+-- `image::out_of_limits` meets its contract. At i it is told whether one of the first i coordinates is out of its limits. The measure is what is left of
+-- the coordinates.
+use Prim.Native.Nat.{ℕ, _-_, _≤_}
 use native.Mathlib.Omega.{arith}
-use mathlib.Core.Path.{ap, ap₂, _∙_}
-use mathlib.Core.Bool.{Bool, _&&_, not}
-use Rattle.image.specs.Image.{xAt, yAt}
+use native.Mathlib.Numerals.{add-one}
+use mathlib.Core.Path.{_≡_, refl, ap, ap₂, _∙_}
+use mathlib.Core.Bool.{Bool, _||_, not}
+use mathlib.Core.List.{List}
+use Rattle.sets.specs.Below.{any}
+use Rattle.sets.proofs.Tests.{or-comm}
+use Rattle.fields.specs.Fields.{coordinateCount}
+use Rattle.image.specs.Image.{coordinateOf}
 use Rattle.image.specs.Questions.{inLimits, outOfLimits}
 use Rattle.image.proofs.out_of_limits.Statement.{statement}
 use Rattle.image.proofs.out_of_limits.Tie as tie
 
-mul-at : tie.Need-mul-at
-mul-at c = omega arith
+abbrev out : List ℕ → ℕ → Bool
+out r i = not (inLimits (coordinateOf r i))
 
-coordinate-requires : tie.Need-coordinate-requires
+abbrev Inv-loop : tie.InvT-loop
+Inv-loop handset bad₀ i₀ bad i = (i ≤ coordinateCount) × (bad ≡ any i (out handset))
+
+abbrev μ-loop : tie.MeasureT-loop
+μ-loop handset bad₀ i₀ bad i = coordinateCount - i
+
+-- the places that the answers speak of
+abbrev start : tie.At-loop Inv-loop μ-loop → tie.Start Inv-loop μ-loop
+start c = c .before .before
+
+abbrev loop : tie.After-in-limits Inv-loop μ-loop → tie.At-loop Inv-loop μ-loop
+loop c = c .before .before .before
+
+loop-holds : tie.Need-loop-holds Inv-loop μ-loop
+unfolding any
+loop-holds c = (omega arith, refl)
+
+mul-coordinate : tie.Need-mul-coordinate Inv-loop μ-loop
+mul-coordinate c = omega arith
+
+coordinate-requires : tie.Need-coordinate-requires Inv-loop μ-loop
 coordinate-requires c κs = tt
 
-in-limits-requires : tie.Need-in-limits-requires
+in-limits-requires : tie.Need-in-limits-requires Inv-loop μ-loop
 in-limits-requires c κs = tt
 
-add-coordinate : tie.Need-add-coordinate
-add-coordinate c = omega arith
+add-i : tie.Need-add-i Inv-loop μ-loop
+add-i c = omega arith
 
-coordinate-requires-2 : tie.Need-coordinate-requires-2
-coordinate-requires-2 c κs = tt
+loop-less : tie.Need-loop-less Inv-loop μ-loop
+loop-less c = omega arith
 
-in-limits-requires-2 : tie.Need-in-limits-requires-2
-in-limits-requires-2 c κs = tt
+loop-again : tie.Need-loop-again Inv-loop μ-loop
+unfolding any coordinateOf
+loop-again c =
+    let at = loop c in
+    let l = at .loop in
+    let r = start at .args .handset .now in (
+      omega arith,
+      rw (add-one (l .i))
+          (ap₂ (λ (x y : Bool). x || not y) (l .inv .1) (c .in-limits .ensures ∙ ap inLimits (c .before .coordinate .ensures)) ∙ or-comm (any (l .i) (out r)) (out r (l .i))),
+    )
 
-returns : tie.Need-returns
-unfolding outOfLimits xAt yAt
+returns : tie.Need-returns Inv-loop μ-loop
+unfolding outOfLimits
 returns c =
-    let x = c .before .before in
-    ap₂ (λ (a b : Bool). not (a && b)) (x .in-limits .ensures ∙ ap inLimits (x .before .coordinate .ensures))
-    (c .in-limits2 .ensures ∙ ap inLimits (c .before .coordinate2 .ensures))
+    let l = c .before .loop in
+    let r = start (c .before) .args .handset .now in
+    let e : l .i ≡ coordinateCount = omega (arith, l .inv .0, c .loop-test .left) in
+    l .inv .1 ∙ ap (λ (n : ℕ). any n (out r)) e
 
 pub out-of-limits-spec : {M : Type 1} → statement M
 out-of-limits-spec =
     tie.close
     (tie.spec
-    mul-at
+    Inv-loop
+    μ-loop
+    loop-holds
+    mul-coordinate
     coordinate-requires
     in-limits-requires
-    add-coordinate
-    coordinate-requires-2
-    in-limits-requires-2
+    add-i
+    loop-less
+    loop-again
     returns)

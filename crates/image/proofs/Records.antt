@@ -1,0 +1,36 @@
+-- The records of the two tables as code reads them: each is the part of its table from its place on, and a number in it is the table's.
+--
+--     part-is           the part from a to a + k is the k bytes from a on
+--     handset-part      the part that a handset's record stands in is its record
+--     ends-part         the ends that the part of an edge's record holds are the edge's ends
+--     within-records    two handsets of an image are within its distance just where their records are
+use Prim.Native.Nat.{ℕ, _+_, _*_, _-_, _≤_}
+use native.Mathlib.Omega.{arith}
+use native.Mathlib.Nat.{add-zero, add-sub-cancel-left}
+use mathlib.Core.Path.{_≡_, refl, ap, _∙_}
+use mathlib.Core.List.{List}
+use lib.Dec.{leb}
+use lib.ListN.{length, take, drop}
+use Rattle.fields.specs.Bytes.{number}
+use Rattle.fields.specs.Fields.{handsetBytes, edgeBytes, endsOf}
+use Rattle.fields.proofs.Bytes.{number-part}
+use Rattle.image.specs.Image.{limitSquared, handsetRecords, handsetRecord, distanceBetween, distanceSquared, endA, endB, within}
+
+pub part-is : (s : List ℕ) (a k : ℕ) → take (a + k - a) (drop a s) ≡ take k (drop a s)
+part-is s a k = ap (λ (x : ℕ). take x (drop a s)) (add-sub-cancel-left a k)
+
+pub handset-part : (part : List ℕ) (v : ℕ) → take (handsetBytes * v + handsetBytes - handsetBytes * v) (drop (handsetBytes * v) part) ≡ handsetRecord part v
+unfolding handsetRecord
+handset-part part v = part-is part (handsetBytes * v) handsetBytes
+
+pub ends-part : (part : List ℕ) (k : ℕ) → edgeBytes * k + edgeBytes ≤ length part
+    → endsOf (take (edgeBytes * k + edgeBytes - edgeBytes * k) (drop (edgeBytes * k) part)) ≡ record { a = endA part k; b = endB part k }
+unfolding endsOf endA endB
+ends-part part k h =
+    ap endsOf (part-is part (edgeBytes * k) edgeBytes)
+    ∙ (λ i. record { a = (number-part 2 part (edgeBytes * k) edgeBytes 0 (omega arith) h ∙ ap (number 2 part) (add-zero (edgeBytes * k))) i; b = number-part 2 part (edgeBytes * k) edgeBytes 2 (omega arith) h i })
+
+pub within-records : (s : List ℕ) (u v : ℕ)
+    → within s u v ≡ leb (distanceBetween (handsetRecord (handsetRecords s) u) (handsetRecord (handsetRecords s) v)) (limitSquared s)
+unfolding within distanceSquared
+within-records s u v = refl

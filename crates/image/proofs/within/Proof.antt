@@ -1,0 +1,120 @@
+-- `image::within` meets its contract. While the answer is a yes, what is left of the limit and the sum of the squares so far make the limit, so the next
+-- square fits in what is left just where the sum with it keeps the limit; and a sum past the limit stays past it. The measure is what is left of the
+-- coordinates.
+use Prim.Native.Nat.{ℕ, _+_, _*_, _-_, _%_, _^_, _≤_, _<_}
+use native.Mathlib.Omega.{arith}
+use native.Mathlib.Numerals.{add-one}
+use mathlib.Core.Path.{_≡_, sym, ap, ap₂, _∙_, subst}
+use mathlib.Core.Bool.{Bool, true, _&&_}
+use lib.Dec.{T, leb, leb→le, le→leb}
+use Rattle.sets.specs.Below.{sum}
+use Rattle.sets.proofs.Tests.{T-true, T-ext, and-make, and-left, and-right}
+use Rattle.fields.specs.Fields.{coordinateCount}
+use Rattle.image.specs.Image.{coordinateOf, gap, gapSquared, distanceBetween}
+use Rattle.image.proofs.within.Statement.{statement}
+use Rattle.image.proofs.within.Tie as tie
+
+-- the answer so far, for a sum of squares, and what is left of the limit
+pub record Left (total limit : ℕ) (fits : Bool) (room : ℕ) : Type 0 where
+  pub answer : fits ≡ leb total limit
+  pub rest : T fits → room + total ≡ limit
+
+left-none : (limit : ℕ) → Left 0 limit true limit
+left-none limit = record { answer = sym (T-true (leb 0 limit) (le→leb 0 limit (omega arith))); rest = λ t. omega arith }
+
+left-more : (total limit room d next : ℕ) (fits : Bool) → Left total limit fits room → d < 2 ^ 64 → next < 2 ^ 64 → (next + d) % 2 ^ 64 ≡ room
+    → Left (d + total) limit (fits && leb d room) next
+left-more total limit room d next fits l hd hn e = record {
+  answer = T-ext (fits && leb d room) (leb (d + total) limit)
+      (λ t. le→leb (d + total) limit (omega (arith, l .rest (and-left fits (leb d room) t), leb→le d room (and-right fits (leb d room) t))))
+      (λ t. let f : T fits = subst T (sym (l .answer)) (le→leb total limit (omega (arith, leb→le (d + total) limit t))) in
+      and-make fits (leb d room) f (le→leb d room (omega (arith, l .rest f, leb→le (d + total) limit t))));
+  rest = λ t. omega (arith, l .rest (and-left fits (leb d room) t), leb→le d room (and-right fits (leb d room) t), e);
+}
+
+abbrev Inv-loop : tie.InvT-loop
+Inv-loop a b limit fits₀ room₀ i₀ fits room i = (i ≤ coordinateCount) × Left (sum i (gapSquared a b)) limit fits room
+
+abbrev μ-loop : tie.MeasureT-loop
+μ-loop a b limit fits₀ room₀ i₀ fits room i = coordinateCount - i
+
+-- the places that the answers speak of: the start, the loop's test, both coordinates read, their gap squared
+abbrev start : tie.At-loop Inv-loop μ-loop → tie.Start Inv-loop μ-loop
+start c = c .before .before .before
+
+abbrev loop : tie.After-squared-gap Inv-loop μ-loop → tie.At-loop Inv-loop μ-loop
+loop c = c .before .before .before .before
+
+-- the square is that of the definition
+square-is : (c : tie.After-squared-gap Inv-loop μ-loop)
+    → (let s = start (loop c) .args in c .squared-gap .result ≡ gapSquared (s .a .now) (s .b .now) (loop c .loop .i))
+unfolding coordinateOf
+square-is c = c .squared-gap .ensures ∙ ap₂ (λ (x y : ℕ). gap x y * gap x y) (c .before .before .coordinate .ensures) (c .before .coordinate2 .ensures)
+
+loop-holds : tie.Need-loop-holds Inv-loop μ-loop
+unfolding sum
+loop-holds c = (omega arith, left-none _)
+
+mul-coordinate : tie.Need-mul-coordinate Inv-loop μ-loop
+mul-coordinate c = omega arith
+
+coordinate-requires : tie.Need-coordinate-requires Inv-loop μ-loop
+coordinate-requires c κs = tt
+
+mul-coordinate-2 : tie.Need-mul-coordinate-2 Inv-loop μ-loop
+mul-coordinate-2 c = omega arith
+
+coordinate-requires-2 : tie.Need-coordinate-requires-2 Inv-loop μ-loop
+coordinate-requires-2 c κs = tt
+
+squared-gap-requires : tie.Need-squared-gap-requires Inv-loop μ-loop
+squared-gap-requires c κs = (omega (arith, c .before .coordinate .ensures), omega (arith, c .coordinate2 .ensures))
+
+wrapping-sub-u64-requires : tie.Need-wrapping-sub-u64-requires Inv-loop μ-loop
+wrapping-sub-u64-requires c κs = tt
+
+add-i : tie.Need-add-i Inv-loop μ-loop
+add-i c = omega arith
+
+loop-less : tie.Need-loop-less Inv-loop μ-loop
+loop-less c = omega arith
+
+loop-again : tie.Need-loop-again Inv-loop μ-loop
+unfolding sum
+loop-again c =
+    let g = c .before in
+    let at = loop g in
+    let l = at .loop in
+    let s = start at .args in
+    let f : ℕ → ℕ = gapSquared (s .a .now) (s .b .now) in (
+      omega arith,
+      rw (add-one (l .i))
+          (subst (λ (x : ℕ). Left (x + sum (l .i) f) (s .limit) (l .fits && leb (g .squared-gap .result) (l .room)) (c .wrapping-sub-u64 .result)) (square-is g)
+          (left-more (sum (l .i) f) (s .limit) (l .room) (g .squared-gap .result) (c .wrapping-sub-u64 .result) (l .fits) (l .inv .1) (g .squared-gap .ok) (c .wrapping-sub-u64 .ok) (c .wrapping-sub-u64 .ensures))),
+    )
+
+returns : tie.Need-returns Inv-loop μ-loop
+unfolding distanceBetween
+returns c =
+    let l = c .before .loop in
+    let s = start (c .before) .args in
+    let e : l .i ≡ coordinateCount = omega (arith, l .inv .0, c .loop-test .left) in
+    l .inv .1 .answer ∙ ap (λ (n : ℕ). leb (sum n (gapSquared (s .a .now) (s .b .now))) (s .limit)) e
+
+pub within-spec : {M : Type 1} → statement M
+within-spec =
+    tie.close
+    (tie.spec
+    Inv-loop
+    μ-loop
+    loop-holds
+    mul-coordinate
+    coordinate-requires
+    mul-coordinate-2
+    coordinate-requires-2
+    squared-gap-requires
+    wrapping-sub-u64-requires
+    add-i
+    loop-less
+    loop-again
+    returns)

@@ -1,0 +1,28 @@
+-- Answers in the paper's terms (paper 01, "When an answer is an enum, a definition gives this paper's number and values for each of its cases").
+--
+--     Answer          a number, which is 0 where nothing is refused, a place, and the values of the case
+--     refused r       a refusal: its number and place, and no values
+--     given vs        nothing is refused, and these are the values
+--     openAnswer o    the reader's answer: the header's numbers in their order, or the refusal
+--
+-- proofs/Answers: two answers of the reader with the same number, place and values are the same.
+use Prim.Native.Nat.{ℕ}
+use mathlib.Core.List.{List, [], _∷_}
+use Rattle.image.specs.declared.Refusal.{Refusal}
+use Rattle.image.specs.declared.Opened.{Opened}
+use Rattle.image.specs.declared.Opened.the-variants.{Site, Refused}
+
+pub record Answer : Type 0 where
+  pub number : ℕ
+  pub place : ℕ
+  pub values : List ℕ
+
+abbrev pub refused : Refusal → Answer
+refused r = record { number = r .number; place = r .place; values = [] }
+
+abbrev pub given : List ℕ → Answer
+given vs = record { number = 0; place = 0; values = vs }
+
+abbrev pub openAnswer : Opened → Answer
+openAnswer (Site h) = given (h .n ∷ h .m ∷ h .handsets ∷ h .edges ∷ h .len ∷ h .limit ∷ h .p ∷ h .q ∷ h .mu ∷ h .reserved ∷ [])
+openAnswer (Refused r) = refused r

@@ -1,0 +1,52 @@
+-- These definitions serve the proofs of this crate, and no caller: the reader's questions in the order of its code, what it looks
+-- for in the records, and what it has of the edges that it has passed.
+--
+--     openHeader s                   questions 1 to 6, of the header: the header, or the number of the first no
+--     badRecord question part n k    question 7, 8 or 9 gets a no for record k of the part: a handset's for 7, an edge's for 8 and 9
+--     Stand question part count      as many such records stand in the part
+--     linked n edges k               each of n handsets is related to itself, and the ends of each of the first k edges to each other
+--     faulty edges n k               one of questions 8 to 10 gets a no for edge k
+--     Added ..                       what adding the edges tells and leaves
+use Prim.Native.Nat.{ℕ, _*_, _≤_}
+use mathlib.Core.Path.{_≡_}
+use mathlib.Core.Bool.{Bool, _&&_, _||_, cond}
+use mathlib.Core.List.{List}
+use lib.Dec.{leb, ltb, eqb}
+use lib.ListN.{length}
+use Rattle.sets.specs.Below.{any, find}
+use Rattle.sets.specs.Rows.{Table, Counted}
+use Rattle.fields.specs.Fields.{handsetBytes, edgeBytes}
+use Rattle.image.specs.Image.{handsetRecord, joins}
+use Rattle.image.specs.Questions.{headerOf, outOfLimits, badEnd, isLoop, repeatsEarlier, ask, askHeader}
+use Rattle.image.specs.declared.Opened.{Opened}
+use Rattle.image.specs.declared.Opened.the-variants.{Site}
+
+unfoldable pub openHeader : List ℕ → Opened
+unfolding ask headerOf askHeader
+openHeader s =
+    ask (leb 32 (length s)) 1 0
+    (ask (eqb (headerOf s .len) (length s)) 2 0
+    (askHeader (headerOf s)
+    (Site (headerOf s))))
+
+unfoldable pub badRecord : ℕ → List ℕ → ℕ → ℕ → Bool
+unfolding outOfLimits handsetRecord badEnd isLoop
+badRecord question part n k = cond (eqb question 7) (outOfLimits (handsetRecord part k)) (cond (eqb question 8) (badEnd part n k) (isLoop part k))
+
+pub record Stand (question : ℕ) (part : List ℕ) (count : ℕ) : Type 0 where
+  pub handsets : question ≡ 7 → handsetBytes * count ≤ length part
+  pub edges : (question ≡ 7 → ⊥) → edgeBytes * count ≤ length part
+
+unfoldable pub linked : ℕ → List ℕ → ℕ → ℕ → ℕ → Bool
+unfolding any joins
+linked n edges k u v = (ltb u n && eqb u v) || any k (joins edges u v)
+
+unfoldable pub faulty : List ℕ → ℕ → ℕ → Bool
+unfolding badEnd isLoop repeatsEarlier
+faulty edges n k = badEnd edges n k || (isLoop edges k || repeatsEarlier edges k)
+
+-- the first edge at fault is found, and where there is none the tables have all edges
+pub record Added (edges : List ℕ) (n m found : ℕ) (rows sizes : List ℕ) : Type 0 where
+  pub first : found ≡ find m (faulty edges n)
+  pub table : m ≤ found → Table rows (linked n edges m)
+  pub counted : m ≤ found → Counted rows sizes
