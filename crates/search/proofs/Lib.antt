@@ -1,0 +1,4 @@
+pub mod Growth
+pub mod Closures
+pub mod Unique
+pub mod Communities
