@@ -1,34 +1,21 @@
 -- An edge joins u and v exactly when u and v are its two ends, in either order; and how pairs of numbers follow one another.
 use Prim.Native.Nat.{ℕ, _<_}
-use mathlib.Core.Path.{_≡_, sym, ap, _∙_}
-use mathlib.Core.Logic.{_⊎_, inl, inr, ⊎-elim}
-use mathlib.Core.Bool.{_&&_}
+use mathlib.Core.Path.{sym, ap, _∙_}
+use mathlib.Core.Logic.{inl, inr}
 use mathlib.Core.List.{List}
-use lib.Dec.{T, eqb, eqb→eq}
+use lib.Dec.{T}
 use Rattle.sets.specs.Renumbering.{Renumbering}
-use Rattle.sets.proofs.Tests.{and-make, and-left, and-right, or-left, or-right, or-cases, eqb-of}
 use Rattle.sets.proofs.Counting.{to-apart}
 use Rattle.image.specs.Image.{joins, endA, endB}
+use Rattle.image.proofs.Edges.{joins-cases, joins-one, joins-other}
 use Rattle.community.specs.Renumbered.{SamePair}
 
-both-eqb : (a b u v : ℕ) → a ≡ u → b ≡ v → T (eqb a u && eqb b v)
-both-eqb a b u v x y = and-make (eqb a u) (eqb b v) (eqb-of a u x) (eqb-of b v y)
-
-eqb-both : (a b u v : ℕ) → T (eqb a u && eqb b v) → (a ≡ u) × (b ≡ v)
-eqb-both a b u v t = (eqb→eq a u (and-left (eqb a u) (eqb b v) t), eqb→eq b v (and-right (eqb a u) (eqb b v) t))
-
 pub joins-make : (part : List ℕ) (u v k : ℕ) → SamePair (endA part k) (endB part k) u v → T (joins part u v k)
-unfolding joins
-joins-make part u v k (inl x) =
-    or-left (eqb (endA part k) u && eqb (endB part k) v) (eqb (endA part k) v && eqb (endB part k) u) (both-eqb (endA part k) (endB part k) u v (x .0) (x .1))
-joins-make part u v k (inr x) =
-    or-right (eqb (endA part k) u && eqb (endB part k) v) (eqb (endA part k) v && eqb (endB part k) u) (both-eqb (endA part k) (endB part k) v u (x .0) (x .1))
+joins-make part u v k (inl x) = joins-one part u v k (x .0) (x .1)
+joins-make part u v k (inr x) = joins-other part u v k (x .0) (x .1)
 
 pub joins-take : (part : List ℕ) (u v k : ℕ) → T (joins part u v k) → SamePair (endA part k) (endB part k) u v
-unfolding joins
-joins-take part u v k t =
-    ⊎-elim (λ x. inl (eqb-both (endA part k) (endB part k) u v x)) (λ x. inr (eqb-both (endA part k) (endB part k) v u x))
-    (or-cases (eqb (endA part k) u && eqb (endB part k) v) (eqb (endA part k) v && eqb (endB part k) u) t)
+joins-take = joins-cases
 
 pub pair-sym : (a b c d : ℕ) → SamePair a b c d → SamePair c d a b
 pair-sym a b c d (inl x) = inl (sym (x .0), sym (x .1))

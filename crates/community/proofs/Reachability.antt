@@ -1,4 +1,10 @@
--- The computed test `reachable` says what `Reached` says.
+-- The computed test `reachable` says what `Reachable` says. A chain over any relation holds its steps and each two chains that meet, and nothing else: it is
+-- the least such relation.
+--
+--     chain-step              a step is a chain
+--     chain-meet              two chains that meet below the bound are one
+--     chain-least             what holds of steps and is transitive holds of chains
+--     reachable-sound         the test passes only where there is a chain of steps; reachable-complete: and wherever there is one
 use Prim.Native.Nat.{ℕ, zero, suc, _≤_, _<_}
 use native.Mathlib.Omega.{arith}
 use mathlib.Core.Logic.{_⊎_, inl, inr, ⊎-elim}
@@ -58,39 +64,41 @@ module _ (st : ℕ → ℕ → Bool) where
       go (inr x) = x .1
 
   -- two chains that meet at w below k are one
-  meet : (k w : ℕ) → w < k → (u v : ℕ) → T (chain st k u w) → T (chain st k w v) → T (chain st k u v)
+  pub chain-meet : (k w : ℕ) → w < k → (u v : ℕ) → T (chain st k u w) → T (chain st k w v) → T (chain st k u v)
   unfolding Ways
-  meet zero w h u v x y = absurd (omega arith)
-  meet (suc k) w h u v x y =
+  chain-meet zero w h u v x y = absurd (omega arith)
+  chain-meet (suc k) w h u v x y =
       ⊎-elim
       (λ e. via k u v (to-end k u (rw e at x)) (from-end k v (rw e at y)))
       (λ l.
       ⊎-elim
-      (λ a. ⊎-elim (λ b. keep k u v (meet k w l u v a b)) (λ b. via k u v (meet k w l u k a (b .0)) (b .1)) (ways k w v y))
-      (λ a. ⊎-elim (λ b. via k u v (a .0) (meet k w l k v (a .1) b)) (λ b. via k u v (a .0) (b .1)) (ways k w v y))
+      (λ a. ⊎-elim (λ b. keep k u v (chain-meet k w l u v a b)) (λ b. via k u v (chain-meet k w l u k a (b .0)) (b .1)) (ways k w v y))
+      (λ a. ⊎-elim (λ b. via k u v (a .0) (chain-meet k w l k v (a .1) b)) (λ b. via k u v (a .0) (b .1)) (ways k w v y))
       (ways k u w x))
       (below h)
 
   -- a step is a chain
-  lift : (k u v : ℕ) → T (st u v) → T (chain st k u v)
+  pub chain-step : (k u v : ℕ) → T (st u v) → T (chain st k u v)
   unfolding chain
-  lift zero u v t = t
-  lift (suc k) u v t = keep k u v (lift k u v t)
+  chain-step zero u v t = t
+  chain-step (suc k) u v t = keep k u v (chain-step k u v t)
 
-from-chain : (g : Network) (k : ℕ) → k ≤ g .n → (u v : ℕ) → u < g .n → v < g .n → T (chain (step g) k u v) → Reachable g u v
-unfolding chain Ways
-from-chain g zero l u v a b t = one a b t
-from-chain g (suc k) l u v a b t =
-    ⊎-elim
-    (λ x. from-chain g k (omega arith) u v a b x)
-    (λ x. Reachable-trans (from-chain g k (omega arith) u k a (omega arith) (x .0)) (from-chain g k (omega arith) k v (omega arith) b (x .1)))
-    (ways (step g) k u v t)
+  module _ (n : ℕ) (R : ℕ → ℕ → Type 0) (R-step : (u v : ℕ) → u < n → v < n → T (st u v) → R u v) (R-trans : (u v w : ℕ) → R u v → R v w → R u w) where
+    pub chain-least : (k : ℕ) → k ≤ n → (u v : ℕ) → u < n → v < n → T (chain st k u v) → R u v
+    unfolding chain Ways
+    chain-least zero l u v a b t = R-step u v a b t
+    chain-least (suc k) l u v a b t =
+        ⊎-elim
+        (λ x. chain-least k (omega arith) u v a b x)
+        (λ x. R-trans u k v (chain-least k (omega arith) u k a (omega arith) (x .0)) (chain-least k (omega arith) k v (omega arith) b (x .1)))
+        (ways k u v t)
 
 pub reachable-sound : (g : Network) (u v : ℕ) → u < g .n → v < g .n → T (reachable g u v) → Reachable g u v
 unfolding reachable
-reachable-sound g u v a b t = from-chain g (g .n) (omega arith) u v a b t
+reachable-sound g u v a b t =
+    chain-least (step g) (g .n) (Reachable g) (λ x y l m s. one l m s) (λ x y z r s. Reachable-trans r s) (g .n) (omega arith) u v a b t
 
 pub reachable-complete : (g : Network) {u v : ℕ} → Reachable g u v → T (reachable g u v)
 unfolding reachable
-reachable-complete g (one {u} {v} a b t) = lift (step g) (g .n) u v t
-reachable-complete g (more {u} {v} {w} r b t) = meet (step g) (g .n) v (to-below r) u w (reachable-complete g r) (lift (step g) (g .n) v w t)
+reachable-complete g (one {u} {v} a b t) = chain-step (step g) (g .n) u v t
+reachable-complete g (more {u} {v} {w} r b t) = chain-meet (step g) (g .n) v (to-below r) u w (reachable-complete g r) (chain-step (step g) (g .n) v w t)

@@ -9,22 +9,23 @@
 --     image-roles       each handset has the same role, but for a core's number, and the same near count
 use Prim.Native.Nat.{ℕ, _+_, _*_, _≤_, _<_}
 use native.Mathlib.Omega.{arith}
-use mathlib.Core.Path.{_≡_, refl, sym, ap, ap₂, _∙_, subst}
-use mathlib.Core.Logic.{_⊎_, ⊎-elim}
+use mathlib.Core.Path.{_≡_, sym, ap, ap₂, _∙_, subst}
+use mathlib.Core.Logic.{⊎-elim}
 use mathlib.Core.Bool.{Bool, true, false, _&&_, _||_, not}
 use mathlib.Core.List.{List}
 use lib.Dec.{T, T-not, not-T, leb→le, ltb, lt→ltb, eqb, eqb→eq}
-use lib.ListN.{length, getD, length-take, length-drop}
+use lib.ListN.{length, getD, drop, length-take, length-drop}
+use lib.Seq.{getD-take, getD-drop, ext-getD}
 use Rattle.sets.specs.Below.{any}
 use Rattle.sets.proofs.Tests.{and-make, any-make, any-take, eqb-of, T-ext, three}
 use Rattle.sets.proofs.Counting.{to-apart, inverse, count-le, sum-across}
 use Rattle.fields.specs.Bytes.{number}
-use Rattle.fields.specs.Fields.{coreSize, shifted}
+use Rattle.fields.specs.Fields.{handsetBytes, coreSize}
 use Rattle.fields.proofs.Bytes.{number-cong}
-use Rattle.image.specs.Image.{handsetCount, edgeCount, handsetOffset, edgeOffset, imageLength, limitSquared, epsilonNum, epsilonDen, muField, mu, reserved, handsetRecords, edgeRecords, xAt, yAt, distanceAt, distanceSquared, endA, endB, joins, adjacent, within, neighbour}
-use Rattle.image.specs.Questions.{headerOf, inLimits, outOfLimits, badEnd, isLoop, repeatsEarlier, Accepted}
+use Rattle.image.specs.Image.{handsetCount, edgeCount, handsetOffset, edgeOffset, imageLength, limitSquared, epsilonNum, epsilonDen, muField, mu, reserved, handsetRecords, edgeRecords, handsetRecord, distanceSquared, endA, endB, joins, adjacent, within, neighbour}
+use Rattle.image.specs.Questions.{reservedValue, headerOf, outOfLimits, badEnd, isLoop, repeatsEarlier, Accepted}
 use Rattle.image.specs.declared.Header.{Header}
-use Rattle.image.proofs.Acceptance.{accepted-fits, length-is, ends-below}
+use Rattle.image.proofs.Acceptance.{Fits, accepted-fits, length-is, handsets-length, ends-below}
 use Rattle.community.specs.Network.{Network, IsCommunity, isLeader, reachable, communities, role, neighbourhoodSize}
 use Rattle.community.specs.Tables.{memberTable}
 use Rattle.community.specs.Site.{network}
@@ -83,42 +84,37 @@ module _ (s t : List ℕ) (r : Renumbered s t) (ok : Accepted s) where
   unfolding headerOf mu
   same-mu = ap (λ (h : Header). coreSize (h .mu)) same-header
 
-  -- ---- positions
-  handsets-long : (x : List ℕ) → headerOf x ≡ headerOf s → length x ≡ length s → length (handsetRecords x) ≡ 8 * handsetCount s
-  unfolding handsetRecords headerOf
-  handsets-long x e l =
-      let f = accepted-fits s ok in
-      let n : handsetCount x ≡ handsetCount s = ap (λ (h : Header). h .n) e in
-      let o : handsetOffset x ≡ handsetOffset s = ap (λ (h : Header). h .handsets) e in
-      simp (length-take, length-drop) (omega (arith, f .handsets-to, length-is s ok))
+  -- ---- handset records
+  fits : Fits (headerOf s)
+  fits = accepted-fits s ok
 
-  moved-number : (v i : ℕ) → v < handsetCount s → i + 4 ≤ 8 → number 4 (handsetRecords t) (8 * r .map .to v + i) ≡ number 4 (handsetRecords s) (8 * v + i)
-  moved-number v i h l =
-      number-cong 4 (handsetRecords s) (handsetRecords t) (8 * v + i) (8 * r .map .to v + i)
-      (omega (arith, handsets-long s refl refl))
-      (omega (arith, handsets-long t same-header (r .same-length), r .map .to-below v h))
-      (λ j k. ap (λ (x : ℕ). getD (handsetRecords t) x 0) (shift (r .map .to v) j) ∙ r .records v (i + j) h (omega arith)
-      ∙ ap (λ (x : ℕ). getD (handsetRecords s) x 0) (sym (shift v j)))
-    where
-      shift : (x j : ℕ) → 8 * x + i + j ≡ 8 * x + (i + j)
-      shift x j = omega arith
+  fits-t : Fits (headerOf t)
+  fits-t = subst Fits (sym same-header) fits
 
-  x-moved : (v : ℕ) → v < handsetCount s → xAt (handsetRecords t) (r .map .to v) ≡ xAt (handsetRecords s) v
-  unfolding xAt
-  x-moved v h =
-      ap shifted
-      (ap (number 4 (handsetRecords t)) (zero-more (r .map .to v)) ∙ moved-number v 0 h (omega arith) ∙ ap (number 4 (handsetRecords s)) (sym (zero-more v)))
-    where
-      zero-more : (x : ℕ) → 8 * x ≡ 8 * x + 0
-      zero-more x = omega arith
+  length-t : imageLength t ≡ length t
+  unfolding headerOf
+  length-t = ap (λ (h : Header). h .len) same-header ∙ length-is s ok ∙ sym (r .same-length)
 
-  y-moved : (v : ℕ) → v < handsetCount s → yAt (handsetRecords t) (r .map .to v) ≡ yAt (handsetRecords s) v
-  unfolding yAt
-  y-moved v h = ap shifted (moved-number v 4 h (omega arith))
+  record-long : (part : List ℕ) (v : ℕ) → length part ≡ handsetBytes * handsetCount s → v < handsetCount s → length (handsetRecord part v) ≡ handsetBytes
+  unfolding handsetRecord
+  record-long part v e h = simp (length-take, length-drop) (omega arith)
+
+  record-at : (part : List ℕ) (v i : ℕ) → i < handsetBytes → getD (handsetRecord part v) i 0 ≡ getD part (handsetBytes * v + i) 0
+  unfolding handsetRecord
+  record-at part v i h = getD-take handsetBytes (drop (handsetBytes * v) part) i 0 h ∙ getD-drop (handsetBytes * v) part i 0
+
+  record-moved : (v : ℕ) → v < handsetCount s → handsetRecord (handsetRecords t) (r .map .to v) ≡ handsetRecord (handsetRecords s) v
+  record-moved v h =
+      let to = r .map .to v in
+      let long-t = record-long (handsetRecords t) to (handsets-length t fits-t length-t ∙ ap (λ (n : ℕ). handsetBytes * n) same-handsets) (r .map .to-below v h) in
+      let long-s = record-long (handsetRecords s) v (handsets-length s fits (length-is s ok)) h in
+      ext-getD 0 (handsetRecord (handsetRecords t) to) (handsetRecord (handsetRecords s) v) (long-t ∙ sym long-s)
+      (λ i l. let k : i < handsetBytes = omega (arith, long-t, l) in
+      record-at (handsetRecords t) to i k ∙ r .records v i h k ∙ sym (record-at (handsetRecords s) v i k))
 
   within-moved : (u v : ℕ) → u < handsetCount s → v < handsetCount s → within t (r .map .to u) (r .map .to v) ≡ within s u v
-  unfolding within distanceSquared distanceAt
-  within-moved u v h k = rw (x-moved u h, x-moved v k, y-moved u h, y-moved v k, same-limit)
+  unfolding within distanceSquared
+  within-moved u v h k = rw (record-moved u h, record-moved v k, same-limit)
 
   -- ---- edges
 
@@ -193,15 +189,13 @@ module _ (s t : List ℕ) (r : Renumbered s t) (ok : Accepted s) where
   not-not true f = tt
   not-not false f = absurd (f tt)
 
-  limits : (v : ℕ) → v < handsetCount t → T (not (outOfLimits (handsetRecords t) v))
-  unfolding outOfLimits
+  limits : (v : ℕ) → v < handsetCount t → T (not (outOfLimits (handsetRecord (handsetRecords t) v)))
   limits v h =
       let l : v < handsetCount s = subst (λ (m : ℕ). v < m) same-handsets h in
       let w : ℕ = r .map .back v in
       let hw : w < handsetCount s = r .map .back-below v l in
       let e : r .map .to w ≡ v = r .map .to-back v l in
-      subst (λ (x : ℕ). T (not (outOfLimits (handsetRecords t) x))) e
-      (subst T (sym (ap₂ (λ (p q : ℕ). not (not (inLimits p && inLimits q))) (x-moved w hw) (y-moved w hw))) (ok .q7 w hw))
+      subst (λ (x : ℕ). T (not (outOfLimits (handsetRecord (handsetRecords t) x)))) e (rw (record-moved w hw) (ok .q7 w hw))
 
   good-ends : (k : ℕ) → k < edgeCount t → T (not (badEnd (edgeRecords t) (handsetCount t) k))
   unfolding badEnd
@@ -278,7 +272,7 @@ module _ (s t : List ℕ) (r : Renumbered s t) (ok : Accepted s) where
     q1 = rw (r .same-length) (ok .q1);
     q2 = subst T (ap₂ eqb (sym (ap (λ (h : Header). h .len) same-header)) (sym (r .same-length))) (ok .q2);
     q3 = rw same-header (ok .q3);
-    q4 = subst T (ap (λ (x : ℕ). eqb x 0) (sym (ap (λ (h : Header). h .reserved) same-header))) (ok .q4);
+    q4 = subst T (ap (λ (x : ℕ). eqb x reservedValue) (sym (ap (λ (h : Header). h .reserved) same-header))) (ok .q4);
     q5 = rw same-header (ok .q5);
     q6 = rw same-header (ok .q6);
     q7 = limits;

@@ -1,14 +1,16 @@
 -- The network of a site image is sound: its neighbour relation is reflexive and symmetric, epsilon is at most 1, mu is not 0.
-use Prim.Native.Nat.{ℕ, zero, suc, _-_, _≤_}
+use Prim.Native.Nat.{ℕ, zero, suc, _*_, _≤_}
 use native.Mathlib.Omega.{arith}
 use mathlib.Core.Path.{_≡_, ap, ap₂}
 use mathlib.Core.Bool.{_&&_, _||_}
 use mathlib.Core.List.{List}
 use lib.Dec.{T, leb, eqb, eqb-refl}
-use Rattle.sets.proofs.Tests.{or-left, or-comm, eqb-comm, any-cong}
-use Rattle.fields.specs.Fields.{coreSize}
-use Rattle.image.specs.Image.{gap, xAt, yAt, distanceAt, distanceSquared, handsetRecords, edgeRecords, joins, endA, endB, adjacent, within, edgeCount, neighbour, limitSquared, epsilonNum, epsilonDen, mu, muField}
+use Rattle.sets.proofs.Tests.{or-left, eqb-comm, any-cong}
+use Rattle.sets.proofs.Counting.{sum-cong}
+use Rattle.fields.specs.Fields.{coordinateCount, coreSize}
+use Rattle.image.specs.Image.{gap, gapSquared, coordinateOf, distanceBetween, distanceSquared, handsetRecords, handsetRecord, edgeRecords, joins, adjacent, within, edgeCount, neighbour, limitSquared, epsilonNum, epsilonDen, mu, muField}
 use Rattle.image.specs.Questions.{Accepted, headerOf}
+use Rattle.image.proofs.Edges.{joins-comm}
 use Rattle.image.proofs.Acceptance.{accepted-fits}
 use Rattle.community.specs.Site.{network}
 use Rattle.community.specs.Network.{Sound}
@@ -16,18 +18,15 @@ use Rattle.community.specs.Network.{Sound}
 gap-comm : (a b : ℕ) → gap a b ≡ gap b a
 gap-comm a b = omega arith
 
-distance-comm : (s : List ℕ) (u v : ℕ) → distanceSquared s u v ≡ distanceSquared s v u
-unfolding distanceSquared distanceAt
-distance-comm s u v =
-    rw (gap-comm (xAt (handsetRecords s) u) (xAt (handsetRecords s) v), gap-comm (yAt (handsetRecords s) u) (yAt (handsetRecords s) v))
+distance-comm : (a b : List ℕ) → distanceBetween a b ≡ distanceBetween b a
+unfolding distanceBetween
+distance-comm a b =
+    sum-cong coordinateCount (gapSquared a b) (gapSquared b a) (λ i h. ap (λ (d : ℕ). d * d) (gap-comm (coordinateOf a i) (coordinateOf b i)))
 
 pub within-comm : (s : List ℕ) (u v : ℕ) → within s u v ≡ within s v u
-unfolding within
-within-comm s u v = ap (λ (d : ℕ). leb d (limitSquared s)) (distance-comm s u v)
-
-pub joins-comm : (part : List ℕ) (u v k : ℕ) → joins part u v k ≡ joins part v u k
-unfolding joins
-joins-comm part u v k = or-comm (eqb (endA part k) u && eqb (endB part k) v) (eqb (endA part k) v && eqb (endB part k) u)
+unfolding within distanceSquared
+within-comm s u v =
+    ap (λ (d : ℕ). leb d (limitSquared s)) (distance-comm (handsetRecord (handsetRecords s) u) (handsetRecord (handsetRecords s) v))
 
 pub adjacent-comm : (s : List ℕ) (u v : ℕ) → adjacent s u v ≡ adjacent s v u
 unfolding adjacent

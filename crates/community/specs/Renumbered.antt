@@ -6,6 +6,7 @@ use mathlib.Core.Logic.{_⊎_}
 use mathlib.Core.List.{List}
 use lib.ListN.{length, getD}
 use Rattle.sets.specs.Renumbering.{Renumbering}
+use Rattle.fields.specs.Fields.{handsetBytes}
 use Rattle.image.specs.Image.{handsetCount, edgeCount, handsetRecords, edgeRecords, endA, endB}
 use Rattle.community.specs.declared.Role.{Role}
 use Rattle.community.specs.declared.Role.the-variants.{Core, Border, Outlier}
@@ -19,8 +20,8 @@ pub record Renumbered (s t : List ℕ) : Type 0 where
   pub order : Renumbering (edgeCount s)
   pub same-length : length t ≡ length s
   pub header : (i : ℕ) → i < 32 → getD t i 0 ≡ getD s i 0
-  pub records : (v i : ℕ) → v < handsetCount s → i < 8
-      → getD (handsetRecords t) (8 * map .to v + i) 0 ≡ getD (handsetRecords s) (8 * v + i) 0
+  pub records : (v i : ℕ) → v < handsetCount s → i < handsetBytes
+      → getD (handsetRecords t) (handsetBytes * map .to v + i) 0 ≡ getD (handsetRecords s) (handsetBytes * v + i) 0
   pub ends : (k : ℕ) → k < edgeCount s
       → SamePair (endA (edgeRecords t) (order .to k)) (endB (edgeRecords t) (order .to k))
       (map .to (endA (edgeRecords s) k)) (map .to (endB (edgeRecords s) k))

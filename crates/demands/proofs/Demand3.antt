@@ -5,7 +5,7 @@ use native.Mathlib.Omega.{arith}
 use mathlib.Core.Path.{_≡_, refl, sym, ap, ap₂, _∙_, subst}
 use mathlib.Core.Logic.{_↔_}
 use mathlib.Core.Bool.{Bool, true, false, cond}
-use mathlib.Core.List.{List, [], _++_, List·Memᴰ}
+use mathlib.Core.List.{List, [], _∷_, _++_, List·Memᴰ}
 use lib.Dec.{T, ltb, leb, lt→ltb, ltb→lt, le→leb, leb→le}
 use lib.ListN.{length, getD, drop}
 use Rattle.sets.proofs.Tests.{T-true}
@@ -23,14 +23,19 @@ use Rattle.community.proofs.Tables.{table-community}
 use Rattle.community.proofs.Site.{accepted-sound}
 use Rattle.community.proofs.Bound.{memberships-bound}
 use Rattle.community.proofs.RenumberSite.{accepted-too, same-handsets, image-communities, image-memberships, image-roles, image-neighbours, community-numbered-back, community-numbered-on}
-use Rattle.planner.specs.Plan.{PlanCall, communitiesOf, planOf, startsAfter, membersAfter, planFor, tableFor, planned, byRoom, over, knownOf, knownFor, standing, refusal}
-use Rattle.planner.specs.declared.Planned.{Planned}
-use Rattle.planner.specs.declared.Planned.the-variants as P
+use Rattle.tables.specs.Plan.{made, planned, planAnswer, byRoom, over, refusal}
+use Rattle.tables.proofs.Answers.{plan-same}
+use Rattle.planner.specs.Plan.{PlanCall, communitiesOf, planOf, startsAfter, membersAfter, planFor, tableFor, knownOf, knownFor, standing}
+use Rattle.tables.specs.declared.Planned.{Planned}
+use Rattle.tables.specs.declared.Planned.the-variants as P
 use Rattle.planner.specs.declared.Known.the-variants.{Handset, Refused}
 use Rattle.demands.specs.Demand3 as D
 use Rattle.demands.specs.Demand3.{group, ListedAs, Plan, SameStanding, Again, LongEnough, Demand3}
 
 -- ---- what an accepted image and tables long enough make of a call
+
+answer-is : {s ss ms : List ℕ} {a : Planned} {ss′ ms′ : List ℕ} → PlanCall s ss ms a ss′ ms′ → a ≡ planOf s (length ss) (length ms)
+answer-is call = plan-same _ _ (call .answer)
 
 module _ (s ss ms : List ℕ) (ok : Accepted s) (room : LongEnough s ss ms) where
   room-1 : ltb (length (communitiesOf s)) (length ss) ≡ true
@@ -42,11 +47,11 @@ module _ (s ss ms : List ℕ) (ok : Accepted s) (room : LongEnough s ss ms) wher
   by-room : {X : Type 0} (a b c : X) → byRoom (communitiesOf s) (length ss) (length ms) a b c ≡ c
   by-room a b c = rw (room-1, room-2)
 
-  plan-made : planOf s (length ss) (length ms) ≡ P.Made (length (communitiesOf s)) (length (memberTable (communitiesOf s)))
+  plan-made : planOf s (length ss) (length ms) ≡ made (length (communitiesOf s)) (length (memberTable (communitiesOf s)))
   unfolding planOf
   plan-made =
       ap (λ (o : Opened). planFor s o (length ss) (length ms)) (opened s ok)
-      ∙ by-room (P.Refused (refusal 11)) (P.Refused (refusal 12)) (P.Made (length (communitiesOf s)) (length (memberTable (communitiesOf s))))
+      ∙ by-room (P.Refused (refusal 11)) (P.Refused (refusal 12)) (made (length (communitiesOf s)) (length (memberTable (communitiesOf s))))
 
   pub starts-made : startsAfter s ss (length ms) ≡ over (startTable (communitiesOf s)) ss
   unfolding startsAfter
@@ -61,14 +66,15 @@ module _ (s ss ms : List ℕ) (ok : Accepted s) (room : LongEnough s ss ms) wher
       ∙ by-room ms ms (over (memberTable (communitiesOf s)) ms)
 
 -- a call that was not refused had room for the plan
-made-room : (gs : List (List ℕ)) (a b g c : ℕ) → planned gs a b ≡ P.Made g c
+made-room : (gs : List (List ℕ)) (a b g c : ℕ) → planned gs a b ≡ made g c
     → (length gs + 1 ≤ a) × (length (memberTable gs) ≤ b) × (length gs ≡ g) × (length (memberTable gs) ≡ c)
 made-room gs a b g c e = go (ltb (length gs) a) refl (leb (length (memberTable gs)) b) refl e
   where
     go : (x : Bool) → ltb (length gs) a ≡ x → (y : Bool) → leb (length (memberTable gs)) b ≡ y
-        → cond x (cond y (P.Made (length gs) (length (memberTable gs))) (P.Refused (refusal 12))) (P.Refused (refusal 11)) ≡ P.Made g c
+        → cond x (cond y (made (length gs) (length (memberTable gs))) (P.Refused (refusal 12))) (P.Refused (refusal 11)) ≡ made g c
         → (length gs + 1 ≤ a) × (length (memberTable gs) ≤ b) × (length gs ≡ g) × (length (memberTable gs) ≡ c)
     go true p true q e =
+        let v : length gs ∷ (length (memberTable gs) ∷ []) ≡ g ∷ (c ∷ []) = ap (λ (x : Planned). planAnswer x .values) e in
         (omega (arith, ltb→lt (length gs) a (subst T (sym p) tt)), leb→le (length (memberTable gs)) b (subst T (sym q) tt), cc, cc)
     go true p false q e = let z : _≡_ {A = ℕ} 0 1 = cc in absurd (omega arith)
     go false p y q e = let z : _≡_ {A = ℕ} 0 1 = cc in absurd (omega arith)
@@ -112,7 +118,7 @@ module _ (s : List ℕ) (ok : Accepted s) (x y : List ℕ) where
   }
 
 planned-law : (s ss ms : List ℕ) (a : Planned) (ss′ ms′ : List ℕ) → Accepted s → LongEnough s ss ms → PlanCall s ss ms a ss′ ms′
-    → (g : ℕ) × (c : ℕ) × (a ≡ P.Made g c) × Plan s ss′ ms′ g c
+    → (g : ℕ) × (c : ℕ) × (a ≡ made g c) × Plan s ss′ ms′ g c
 planned-law s ss ms a ss′ ms′ ok room call =
     let gs : List (List ℕ) = communitiesOf s in
     let x : List ℕ = drop (length (startTable gs)) ss in
@@ -121,18 +127,18 @@ planned-law s ss ms a ss′ ms′ ok room call =
     let q : ms′ ≡ memberTable gs ++ y = call .members ∙ members-made s ss ms ok room in (
       length gs,
       length (memberTable gs),
-      call .answer ∙ plan-made s ss ms ok room,
+      answer-is call ∙ plan-made s ss ms ok room,
       subst (λ (l : List ℕ). Plan s l ms′ (length gs) (length (memberTable gs))) (sym p)
           (subst (λ (l : List ℕ). Plan s (startTable gs ++ x) l (length gs) (length (memberTable gs))) (sym q) (the-plan s ok x y)),
     )
 
 -- a call on an accepted image that answered counts had room, and counted the communities
-pub room-of : (s ss ms ss′ ms′ : List ℕ) (g c : ℕ) → Accepted s → PlanCall s ss ms (P.Made g c) ss′ ms′
+pub room-of : (s ss ms ss′ ms′ : List ℕ) (g c : ℕ) → Accepted s → PlanCall s ss ms (made g c) ss′ ms′
     → LongEnough s ss ms × (length (communitiesOf s) ≡ g) × (length (memberTable (communitiesOf s)) ≡ c)
 unfolding planOf
 room-of s ss ms ss′ ms′ g c ok call =
-    let e : planned (communitiesOf s) (length ss) (length ms) ≡ P.Made g c =
-    ap (λ (o : Opened). planFor s o (length ss) (length ms)) (sym (opened s ok)) ∙ sym (call .answer) in
+    let e : planned (communitiesOf s) (length ss) (length ms) ≡ made g c =
+    ap (λ (o : Opened). planFor s o (length ss) (length ms)) (sym (opened s ok)) ∙ sym (answer-is call) in
     let r = made-room (communitiesOf s) (length ss) (length ms) g c e in
     ((r .0, r .1), r .2, r .3)
 
@@ -211,7 +217,7 @@ module _ (s t : List ℕ) (r : Renumbered s t) (ok : Accepted s) where
 
 -- the second image's call has room where the first one's had
 again-law : (s t : List ℕ) (r : Renumbered s t) (ss ms ss′ ms′ : List ℕ) (g c : ℕ) → Accepted s
-    → PlanCall s ss ms (P.Made g c) ss′ ms′ → Again s t r ss ms ss′ ms′ g c
+    → PlanCall s ss ms (made g c) ss′ ms′ → Again s t r ss ms ss′ ms′ g c
 unfolding InSecond communitiesOf
 again-law s t r ss₀ ms₀ ss′ ms′ g c ok call =
     let f = room-of s ss₀ ms₀ ss′ ms′ g c ok call in
@@ -223,7 +229,7 @@ again-law s t r ss₀ ms₀ ss′ ms′ g c ok call =
     record {
       accepted = opened t ok′;
       not-refused = λ a b z a′ b′ p q call′.
-          call′ .answer ∙ plan-made t a b ok′ (room a b p q) ∙ ap₂ P.Made (sym n ∙ f .1) (sym m ∙ f .2);
+          answer-is call′ ∙ plan-made t a b ok′ (room a b p q) ∙ ap₂ made (sym n ∙ f .1) (sym m ∙ f .2);
       same-sets = λ a b z a′ b′ p q call′ P.
           let e1 : ss′ ≡ over (startTable (communitiesOf s)) ss₀ = call .starts ∙ starts-made s ss₀ ms₀ ok (f .0) in
           let e2 : ms′ ≡ over (memberTable (communitiesOf s)) ms₀ = call .members ∙ members-made s ss₀ ms₀ ok (f .0) in

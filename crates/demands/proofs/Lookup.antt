@@ -2,15 +2,15 @@
 -- yes, and the part between them is the k-th community.
 use Prim.Native.Nat.{ℕ, _+_, _<_}
 use native.Mathlib.Omega.{arith}
-use mathlib.Core.Path.{_≡_, ap₂, _∙_}
+use mathlib.Core.Path.{_≡_, ap, ap₂, _∙_}
 use mathlib.Core.Bool.{true}
 use mathlib.Core.List.{List, [], _++_}
 use lib.ListN.{length, getD, length-append}
 use Rattle.image.specs.Questions.{Accepted}
 use Rattle.community.specs.Tables.{startTable, memberTable}
 use Rattle.community.proofs.Tables.{table-community, starts-ordered, starts-within, length-startTable}
-use Rattle.planner.specs.Plan.{PlanCall, communitiesOf, over}
-use Rattle.planner.specs.declared.Planned.the-variants as P
+use Rattle.tables.specs.Plan.{made, over}
+use Rattle.planner.specs.Plan.{PlanCall, communitiesOf}
 use Rattle.lookup.specs.Lookup.{placed, membersOf, lookedOf}
 use Rattle.lookup.specs.declared.Looked.the-variants.{Found}
 use Rattle.lookup.proofs.Agreement.{placed-yes, looked-yes, members-slice}
@@ -29,7 +29,7 @@ module _ (gs : List (List ℕ)) (x y : List ℕ) (k : ℕ) (h : k < length gs) w
   part : membersOf (startTable gs ++ x) (memberTable gs ++ y) k ≡ getD gs k []
   part = members-slice (startTable gs ++ x) (memberTable gs ++ y) k long (starts-ordered gs x y k h) (starts-within gs x y k h) ∙ table-community gs x y k h
 
-module _ (s ss ms ss′ ms′ : List ℕ) (g c k : ℕ) (ok : Accepted s) (call : PlanCall s ss ms (P.Made g c) ss′ ms′) (h : k < g) where
+module _ (s ss ms ss′ ms′ : List ℕ) (g c k : ℕ) (ok : Accepted s) (call : PlanCall s ss ms (made g c) ss′ ms′) (h : k < g) where
   in-plan : k < length (communitiesOf s)
   in-plan = omega (arith, room-of s ss ms ss′ ms′ g c ok call .1)
 
@@ -42,10 +42,11 @@ module _ (s ss ms ss′ ms′ : List ℕ) (g c k : ℕ) (ok : Accepted s) (call 
   group-found : membersOf ss′ ms′ k ≡ getD (communitiesOf s) k []
   group-found = ap₂ (λ (a b : List ℕ). membersOf a b k) starts-are members-are ∙ part (communitiesOf s) _ _ k in-plan
 
-  none-refused : lookedOf ss′ ms′ k ≡ Found
+  none-refused : lookedOf ss′ ms′ k ≡ Found (length (getD (communitiesOf s) k []))
   none-refused =
       ap₂ (λ (a b : List ℕ). lookedOf a b k) starts-are members-are
       ∙ looked-yes (over (startTable (communitiesOf s)) ss) (over (memberTable (communitiesOf s)) ms) k (yes (communitiesOf s) _ _ k in-plan)
+      ∙ ap (λ (l : List ℕ). Found (length l)) (part (communitiesOf s) _ _ k in-plan)
 
 pub lookup-of-plan : LookupOfPlan
 lookup-of-plan = record { members = group-found; found = none-refused }

@@ -23,8 +23,8 @@ use Rattle.community.specs.Site.{network}
 use Rattle.community.specs.Renumbered.{Renumbered, NumberedBack, SameRole}
 use Rattle.community.specs.declared.Standing.{Standing}
 use Rattle.planner.specs.Plan.{PlanCall, communitiesOf, knownOf}
-use Rattle.planner.specs.declared.Planned.{Planned}
-use Rattle.planner.specs.declared.Planned.the-variants.{Made}
+use Rattle.tables.specs.declared.Planned.{Planned}
+use Rattle.tables.specs.Plan.{made}
 use Rattle.planner.specs.declared.Known.{Known}
 use Rattle.planner.specs.declared.Known.the-variants.{Handset}
 
@@ -60,7 +60,7 @@ pub record SameStanding (a b : Known) : Type 0 where
 pub record Again (s t : List ℕ) (r : Renumbered s t) (ss₀ ms₀ ss ms : List ℕ) (g c : ℕ) : Type 1 where
   pub accepted : openOf t ≡ Site (headerOf t)
   pub not-refused : (ts us : List ℕ) (b : Planned) (ts′ us′ : List ℕ) → length ss₀ ≤ length ts → length ms₀ ≤ length us
-      → PlanCall t ts us b ts′ us′ → b ≡ Made g c
+      → PlanCall t ts us b ts′ us′ → b ≡ made g c
   pub same-sets : (ts us : List ℕ) (b : Planned) (ts′ us′ : List ℕ) → length ss₀ ≤ length ts → length ms₀ ≤ length us
       → PlanCall t ts us b ts′ us′
       → (P : ℕ → Type 0) → Listed ss ms g P ↔ ((k : ℕ) × (k < g) × ((v : ℕ) → P v ↔ NumberedBack (r .map) (λ w. List·Memᴰ w (group ts′ us′ k)) v))
@@ -73,6 +73,6 @@ LongEnough s ss ms = (length (communitiesOf s) + 1 ≤ length ss) × (length (me
 -- The plan call on an accepted image with tables long enough is not refused, and what it writes is the plan; and for every renumbering, again.
 pub record Demand3 : Type 1 where
   pub planned : (s ss ms : List ℕ) (a : Planned) (ss′ ms′ : List ℕ) → Accepted s → LongEnough s ss ms → PlanCall s ss ms a ss′ ms′
-      → (g : ℕ) × (c : ℕ) × (a ≡ Made g c) × Plan s ss′ ms′ g c
+      → (g : ℕ) × (c : ℕ) × (a ≡ made g c) × Plan s ss′ ms′ g c
   pub renumbered : (s t : List ℕ) (r : Renumbered s t) (ss ms : List ℕ) (ss′ ms′ : List ℕ) (g c : ℕ) → Accepted s
-      → PlanCall s ss ms (Made g c) ss′ ms′ → Again s t r ss ms ss′ ms′ g c
+      → PlanCall s ss ms (made g c) ss′ ms′ → Again s t r ss ms ss′ ms′ g c

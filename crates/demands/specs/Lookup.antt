@@ -1,17 +1,17 @@
 -- The lookup on the tables that a plan wrote: for each k below the count of groups, the part that `lookup::members` gives back is exactly the k-th
--- community, and the companion refuses nothing. Of the three calls through their contracts; proved in proofs/Lookup as `lookup-of-plan`.
+-- community, and the companion refuses nothing and answers its size. Of the three calls through their contracts; proved in proofs/Lookup as `lookup-of-plan`.
 use Prim.Native.Nat.{ℕ, _<_}
 use mathlib.Core.Path.{_≡_}
 use mathlib.Core.List.{List, []}
-use lib.ListN.{getD}
+use lib.ListN.{length, getD}
 use Rattle.image.specs.Questions.{Accepted}
 use Rattle.planner.specs.Plan.{PlanCall, communitiesOf}
-use Rattle.planner.specs.declared.Planned.the-variants.{Made}
+use Rattle.tables.specs.Plan.{made}
 use Rattle.lookup.specs.Lookup.{membersOf, lookedOf}
 use Rattle.lookup.specs.declared.Looked.the-variants.{Found}
 
 pub record LookupOfPlan : Type 0 where
-  pub members : (s ss ms ss′ ms′ : List ℕ) (g c k : ℕ) → Accepted s → PlanCall s ss ms (Made g c) ss′ ms′ → k < g
+  pub members : (s ss ms ss′ ms′ : List ℕ) (g c k : ℕ) → Accepted s → PlanCall s ss ms (made g c) ss′ ms′ → k < g
       → membersOf ss′ ms′ k ≡ getD (communitiesOf s) k []
-  pub found : (s ss ms ss′ ms′ : List ℕ) (g c k : ℕ) → Accepted s → PlanCall s ss ms (Made g c) ss′ ms′ → k < g
-      → lookedOf ss′ ms′ k ≡ Found
+  pub found : (s ss ms ss′ ms′ : List ℕ) (g c k : ℕ) → Accepted s → PlanCall s ss ms (made g c) ss′ ms′ → k < g
+      → lookedOf ss′ ms′ k ≡ Found (length (getD (communitiesOf s) k []))

@@ -1,43 +1,80 @@
 -- How the calls' answers follow from what was found of a site: a refused image ends the call with its refusal, and of an accepted one the rows that were
 -- found are its communities, so the counts, the tables and the roles are those of the definitions.
-use Prim.Native.Nat.{ℕ, zero, suc, _≤_, _<_}
+--
+--     Ready, ready, ready-count, reading-no         what the reader tells and leaves, after a yes and after a no
+--     plan-refused, cores-refused, known-refused    the outcome of the calls for a refused image
+--     handsets-most, groups-most                    an accepted image has at most 512 handsets, and so at most 512 communities
+--     plan-found, cores-found                       the outcome of a plan, from the communities found
+--     known-past, known-found, role-found           the role call's answer, for a number past the handsets and for a handset
+use Prim.Native.Nat.{ℕ, _≤_, _<_, min}
 use native.Mathlib.Omega.{arith}
-use mathlib.Core.Path.{_≡_, refl, sym, ap, ap₂, _∙_, subst}
+use mathlib.Core.Path.{_≡_, refl, sym, ap, ap₂, _∙_}
 use mathlib.Core.Bool.{Bool, true, false, _&&_, cond}
 use mathlib.Core.List.{List}
 use lib.Dec.{ltb, eqb, lt→ltb, ltb→lt, not-T}
 use lib.ListN.{length}
 use Rattle.sets.specs.Below.{bit}
 use Rattle.sets.specs.Bits.{bitAt}
+use Rattle.sets.specs.Rows.{SetOf, Table, Counted}
 use Rattle.sets.proofs.Tests.{T-true, T-false}
 use Rattle.sets.proofs.Bits.{zeros, bitAt-zeros}
+use Rattle.sets.proofs.Counting.{count-le}
+use Rattle.sets.proofs.Selecting.{length-select}
 use Rattle.image.specs.Image.{handsetCount}
 use Rattle.image.specs.Questions.{Accepted, openOf, headerOf, refusalOf}
+use Rattle.image.specs.Rows.{Room, related, Reading}
 use Rattle.image.specs.declared.Header.{Header}
 use Rattle.image.specs.declared.Refusal.{Refusal}
 use Rattle.image.specs.declared.Opened.{Opened}
 use Rattle.image.specs.declared.Opened.the-variants as O
-use Rattle.image.proofs.Acceptance.{opened, accepted, accepted-fits}
-use Rattle.community.specs.Network.{isCore, role, neighbourhoodSize, communityNumber, membershipCount, borderOf}
+use Rattle.image.proofs.Acceptance as A
+use Rattle.image.proofs.Acceptance.{opened, accepted-fits}
+use Rattle.image.proofs.Answers.{open-same}
+use Rattle.community.specs.Network.{isCore, isLeader, leaders, role, neighbourhoodSize, communityNumber, membershipCount, borderOf}
 use Rattle.community.specs.Tables.{startTable, memberTable}
 use Rattle.community.specs.Site.{network}
-use Rattle.community.specs.declared.Role.the-variants.{Core, Border}
+use Rattle.community.specs.declared.Role.the-variants.{Core}
 use Rattle.community.specs.declared.Standing.{Standing}
-use Rattle.planner.specs.Plan.{PlanCall, CoreWords, communitiesOf, planOf, planFor, planned, byRoom, startsAfter, membersAfter, tableFor, over, coreFor, knownOf, knownFor, standing, refusal}
-use Rattle.community.proofs.Site.{accepted-sound}
-use Rattle.planner.specs.Held.{SetOf, coreIn, Survey, Found, rowsOf, roleFor}
-use Rattle.planner.specs.Groups.{GroupsFound}
-use Rattle.planner.specs.declared.Planned.{Planned}
-use Rattle.planner.specs.declared.Planned.the-variants as P
+use Rattle.search.specs.Communities.{coreIn, Grouped}
+use Rattle.tables.specs.Plan.{byRoom, refusal, planned, planAnswer, over, rowsOf, roleFor, PlanWritten}
+use Rattle.tables.specs.declared.Planned.{Planned}
+use Rattle.tables.specs.declared.Planned.the-variants as P
+use Rattle.planner.specs.Plan.{PlanCall, CoreWords, communitiesOf, planOf, planFor, startsAfter, membersAfter, tableFor, coreFor, knownOf, knownFor, standing}
 use Rattle.planner.specs.declared.Known.the-variants as K
 use Rattle.planner.proofs.Listing.{grouped-rows}
+
+-- ---- the reader's answer
+
+-- an accepted image, its header, and the rows of its edges with their sizes
+pub record Ready (s : List ℕ) (h : Header) (rows sizes : List ℕ) : Type 0 where
+  pub accepted : Accepted s
+  pub header : h ≡ headerOf s
+  pub room : Room rows sizes
+  pub table : Table rows (related s)
+  pub counted : Counted rows sizes
+
+pub ready-count : {s : List ℕ} {h : Header} {rows sizes : List ℕ} → Ready s h rows sizes → h .n ≡ handsetCount s
+unfolding headerOf
+ready-count r = ap (λ (x : Header). x .n) (r .header)
+
+module _ {s : List ℕ} {a : Opened} {rows sizes : List ℕ} (r : Reading s a rows sizes) where
+  opened-is : a ≡ openOf s
+  opened-is = open-same a (openOf s) (r .answered)
+
+  pub ready : (h : Header) → a ≡ O.Site h → Ready s h rows sizes
+  ready h e =
+      let y = A.accepted s h (sym opened-is ∙ e) in
+      record { accepted = y .0; header = y .1; room = r .room; table = r .held .table h e; counted = r .held .counted h e }
+
+  pub reading-no : (x y : Refusal) → a ≡ O.Refused x → y ≡ refusalOf a → openOf s ≡ O.Refused y
+  reading-no x y e f = sym opened-is ∙ e ∙ ap O.Refused (sym (f ∙ ap refusalOf e))
 
 -- ---- a refused image
 module _ (s : List ℕ) (r : Refusal) (e : openOf s ≡ O.Refused r) where
   pub plan-refused : (ss ms : List ℕ) → PlanCall s ss ms (P.Refused r) ss ms
   unfolding planOf startsAfter membersAfter
   plan-refused ss ms = record {
-    answer = sym (ap (λ (o : Opened). planFor s o (length ss) (length ms)) e);
+    answer = ap planAnswer (sym (ap (λ (o : Opened). planFor s o (length ss) (length ms)) e));
     starts = sym (ap (λ (o : Opened). tableFor s o (length ss) (length ms) (startTable (communitiesOf s)) ss) e);
     members = sym (ap (λ (o : Opened). tableFor s o (length ss) (length ms) (memberTable (communitiesOf s)) ms) e);
   }
@@ -49,42 +86,34 @@ module _ (s : List ℕ) (r : Refusal) (e : openOf s ≡ O.Refused r) where
   unfolding knownOf
   known-refused v = sym (ap (λ (o : Opened). knownFor s o v) e)
 
--- an image that is not accepted is refused
-pub refused-of : (s : List ℕ) → (Accepted s → ⊥) → openOf s ≡ O.Refused (refusalOf (openOf s))
-refused-of s never = go (openOf s) refl
-  where
-    go : (o : Opened) → openOf s ≡ o → o ≡ O.Refused (refusalOf o)
-    go (O.Site h) e = absurd (never (accepted s h e .0))
-    go (O.Refused r) e = refl
-
 -- ---- an accepted image
-pub found-of : (s : List ℕ) {alike cores rows : List ℕ} {k : ℕ} → Accepted s → Survey (network s) alike cores → GroupsFound alike cores rows k
-    → Found (network s) cores rows k
-unfolding headerOf
-found-of s ok y f = record {
-  core-set = y .core-set;
-  most = f .most;
-  grouped = f .groups (network s) (record { sound = accepted-sound s ok; most = accepted-fits s ok .n-limit; similar-table = y .similar-table; core-set = y .core-set });
-}
-
 module _ (s : List ℕ) (ok : Accepted s) where
   pub handsets-most : network s .n ≤ 512
   unfolding headerOf
   handsets-most = accepted-fits s ok .n-limit
 
-  pub plan-found : {cores rows : List ℕ} {k : ℕ} → Found (network s) cores rows k → (ss ms : List ℕ) (a : Planned) (ss′ ms′ : List ℕ)
-      → a ≡ planned (rowsOf rows k) (length ss) (length ms)
-      → ss′ ≡ byRoom (rowsOf rows k) (length ss) (length ms) ss ss (over (startTable (rowsOf rows k)) ss)
-      → ms′ ≡ byRoom (rowsOf rows k) (length ss) (length ms) ms ms (over (memberTable (rowsOf rows k)) ms)
-      → PlanCall s ss ms a ss′ ms′
-  unfolding planOf startsAfter membersAfter communitiesOf
-  plan-found f ss ms a ss′ ms′ p q r =
-      let e = grouped-rows handsets-most (f .grouped) in
+  pub groups-most : {rows : List ℕ} {k : ℕ} → Grouped (network s) rows k → k ≤ 512
+  unfolding leaders
+  groups-most r =
+      omega (arith, r .number, length-select (network s .n) (isLeader (network s)), count-le (network s .n) (isLeader (network s)), handsets-most)
+
+  -- the rows that are written are the communities
+  rows-are : {rows : List ℕ} {k : ℕ} → Grouped (network s) rows k → rowsOf rows (min k 512) ≡ communitiesOf s
+  unfolding communitiesOf
+  rows-are {rows} {k} r =
+      let e : min k 512 ≡ k = omega (arith, groups-most r) in
+      ap (rowsOf rows) e ∙ grouped-rows handsets-most r
+
+  pub plan-found : {rows : List ℕ} {k : ℕ} → Grouped (network s) rows k → (ss ms : List ℕ) (a : Planned) (ss′ ms′ : List ℕ)
+      → PlanWritten (rowsOf rows (min k 512)) ss ms a ss′ ms′ → PlanCall s ss ms a ss′ ms′
+  unfolding planOf startsAfter membersAfter
+  plan-found f ss ms a ss′ ms′ w =
+      let e = rows-are f in
       record {
-        answer = p ∙ ap (λ (gs : List (List ℕ)). planned gs (length ss) (length ms)) e ∙ sym (ap (λ (o : Opened). planFor s o (length ss) (length ms)) (opened s ok));
-        starts = q ∙ ap (λ (gs : List (List ℕ)). byRoom gs (length ss) (length ms) ss ss (over (startTable gs) ss)) e
+        answer = w .answer ∙ ap planAnswer (ap (λ (gs : List (List ℕ)). planned gs (length ss) (length ms)) e ∙ sym (ap (λ (o : Opened). planFor s o (length ss) (length ms)) (opened s ok)));
+        starts = w .starts ∙ ap (λ (gs : List (List ℕ)). byRoom gs (length ss) (length ms) ss ss (over (startTable gs) ss)) e
             ∙ sym (ap (λ (o : Opened). tableFor s o (length ss) (length ms) (startTable (communitiesOf s)) ss) (opened s ok));
-        members = r ∙ ap (λ (gs : List (List ℕ)). byRoom gs (length ss) (length ms) ms ms (over (memberTable gs) ms)) e
+        members = w .members ∙ ap (λ (gs : List (List ℕ)). byRoom gs (length ss) (length ms) ms ms (over (memberTable gs) ms)) e
             ∙ sym (ap (λ (o : Opened). tableFor s o (length ss) (length ms) (memberTable (communitiesOf s)) ms) (opened s ok));
       }
 
@@ -111,12 +140,11 @@ module _ (s : List ℕ) (ok : Accepted s) where
       read true = refl
       read false = refl
 
-  pub role-found : {cores rows : List ℕ} {k : ℕ} → Found (network s) cores rows k → (v : ℕ) → v < handsetCount s
-      → roleFor cores rows k v ≡ role (network s) v
-  unfolding roleFor role
-  role-found f v h =
-      ap₂ (λ (b : Bool) (gs : List (List ℕ)). cond b (Core (communityNumber v gs)) (borderOf (membershipCount v gs)))
-      (core-bit (f .core-set) v h) (grouped-rows handsets-most (f .grouped))
+  pub role-found : {cores rows : List ℕ} {k : ℕ} → SetOf cores (coreIn (network s)) → Grouped (network s) rows k → (v : ℕ) → v < handsetCount s
+      → roleFor cores rows (min k 512) v ≡ role (network s) v
+  unfolding roleFor role communitiesOf
+  role-found c f v h =
+      ap₂ (λ (b : Bool) (gs : List (List ℕ)). cond b (Core (communityNumber v gs)) (borderOf (membershipCount v gs))) (core-bit c v h) (rows-are f)
 
   pub known-found : (v : ℕ) → v < handsetCount s → (x : Standing) → x .neighbours ≡ neighbourhoodSize (network s) v → x .role ≡ role (network s) v
       → K.Handset x ≡ knownOf s v
@@ -125,25 +153,3 @@ module _ (s : List ℕ) (ok : Accepted s) where
       (λ i. K.Handset (record { neighbours = p i; role = q i }))
       ∙ sym (ap (λ (o : Opened). knownFor s o v) (opened s ok)
       ∙ ap (λ (b : Bool). cond b (K.Handset (standing s v)) (K.Refused (refusal 13))) (T-true (ltb v (handsetCount s)) (lt→ltb v (handsetCount s) h)))
-
--- ---- the role from its parts, as the code goes by cases
-pub role-core : (cores rows : List ℕ) (k v n : ℕ) → eqb (bitAt cores v) 1 ≡ true → n ≡ communityNumber v (rowsOf rows k) → Core n ≡ roleFor cores rows k v
-unfolding roleFor
-role-core cores rows k v n e p = ap Core p ∙ sym (ap (λ (b : Bool). cond b (Core (communityNumber v (rowsOf rows k))) (borderOf (membershipCount v (rowsOf rows k)))) e)
-
-pub role-other : (cores rows : List ℕ) (k v n : ℕ) → eqb (bitAt cores v) 1 ≡ false → n ≡ membershipCount v (rowsOf rows k) → borderOf n ≡ roleFor cores rows k v
-unfolding roleFor
-role-other cores rows k v n e p = ap borderOf p ∙ sym (ap (λ (b : Bool). cond b (Core (communityNumber v (rowsOf rows k))) (borderOf (membershipCount v (rowsOf rows k)))) e)
-
-pub border-some : (n : ℕ) → (n ≡ 0 → ⊥) → Border n ≡ borderOf n
-border-some zero h = absurd (h refl)
-border-some (suc n) h = refl
-
--- ---- a number compared with the header's count
-pub below-handsets : (s : List ℕ) (h : Header) (v : ℕ) → h ≡ headerOf s → v < h .n → v < handsetCount s
-unfolding headerOf
-below-handsets s h v e l = subst (λ (x : Header). v < x .n) e l
-
-pub past-handsets : (s : List ℕ) (h : Header) (v : ℕ) → h ≡ headerOf s → h .n ≤ v → handsetCount s ≤ v
-unfolding headerOf
-past-handsets s h v e l = subst (λ (x : Header). x .n ≤ v) e l

@@ -1,338 +1,224 @@
--- Tables of edges as the loops of graph make them. An edge sets or clears the two cells of its ends and no other, so a table of the first k edges
--- becomes that of one more, and a table without the first c edges of a list that without one more.
+-- Tables without some edges, as the loops of graph make them. An edge clears the two cells of its ends and no other, so a table without some edges becomes
+-- that without one more.
 --
---     joins-cases, joins-one, joins-other     the ends of an edge, either way round
---     cell-both, cell-neither      a cell once both cells of an edge are marked, or cleared
---     linked-none, linked-more     the table of no edge, and of one edge more; linked-fault: its cell is set before only where the edge is a loop or a repeat
---     added-no, added-yes          what adding the edges tells, where an edge is at fault and where none is
---     dropped-none, dropped-more   a table without no edge, and without one edge more
---     selves-none, selves-more     each handset with itself; word-none, -yes, -no, filled-none, -more: a word and a set of those that pass a test
-use Prim.Native.Nat.{ℕ, zero, suc, _+_, _*_, _-_, _/_, _%_, _^_, _≤_, _<_}
+--     in-word, word-in, word-in-at     the edges of a word, by their bits
+--     dropped-none, dropped-one        a table without no edge, and without one; dropped-then: without some edges and then others; dropped-cong: by equal tests
+--     Dropping, dropping-start, dropping-bit, dropping-on, dropping-end     the edges of a word, dropped one after the other
+--     word-passes, passes-word         the edges of a word of a set
+--     dropped-start, dropped-word, dropped-end                              the edges of a set, dropped a word at a time
+use Prim.Native.Nat.{ℕ, _+_, _*_, _-_, _≤_, _<_, _^_}
 use native.Mathlib.Omega.{arith}
-use native.Mathlib.Nat.{mod-lt, zero-lt-suc, zero-mul}
-use native.Mathlib.Numerals.{add-one}
+use native.Mathlib.Nat.{le-refl}
 use native.Mathlib.Decide.{ℕ-discrete}
 use mathlib.Core.Path.{_≡_, refl, sym, ap, ap₂, _∙_, subst}
 use mathlib.Core.Logic.{_⊎_, inl, inr, ⊎-elim}
-use mathlib.Core.Bool.{Bool, true, false, _&&_, _||_, not, and-true, or-false}
+use mathlib.Core.Bool.{Bool, _&&_, not}
 use mathlib.Core.List.{List}
-use lib.Dec.{T, ltb, eqb, ltb→lt, lt→ltb, eqb→eq, eqb-refl, T-not, not-T}
-use lib.Bits.{bitOr, or-zero-r}
-use lib.ListN.{length, getD, set, length-set, length-replicate}
-use lib.Seq.{getD-set-same, getD-set-other}
-use Rattle.sets.specs.Below.{any, bit}
-use Rattle.sets.specs.Bits.{bitOf, bitAt, cell, withBit, withoutBit}
-use Rattle.sets.proofs.Tests.{and-make, and-left, and-right, or-left, or-right, or-cases, T-true, T-false, T-ext, any-make, any-cong, eqb-of, eqb-not}
-use Rattle.sets.proofs.Counting.{bit-true, bit-false}
-use Rattle.sets.proofs.Bits.{bitOf-none, bitOf-set-same, bitOf-set-other, shl-one, word-bit, bitAt-set-same, bitAt-set-other, bitAt-clear-same, bitAt-clear-other, length-withBit, length-withoutBit, bitAt-lt, bitAt-zeros, zeros}
+use lib.Dec.{T, leb, ltb, eqb, leb→le, le→leb, ltb→lt, lt→ltb, eqb→eq, T-not, not-T}
+use lib.ListN.{length}
+use Rattle.sets.specs.Below.{bit}
+use Rattle.sets.specs.Bits.{bitOf, bitAt, cell, withoutBit}
+use Rattle.sets.specs.Rows.{WordOf}
+use Rattle.sets.proofs.Tests.{and-make, and-left, and-right, decide, eqb-of}
+use Rattle.sets.proofs.Bits.{bitOf-lt, bitOf-none, bitAt-clear-same, bitAt-clear-other, length-withoutBit}
+use Rattle.sets.proofs.Counting.{bit-true}
+use Rattle.sets.proofs.Lowest.{cleared, cleared-lt, cleared-same, cleared-other, cleared-le}
 use Rattle.image.specs.Image.{endA, endB, joins}
-use Rattle.image.specs.Questions.{badEnd, isLoop, repeatsEarlier}
-use Rattle.community.proofs.Site.{joins-comm}
-use Rattle.planner.specs.Held.{Empty, WordOf, SetOf, Table, Counted, linked, faulty, Added, Dropped}
-use Rattle.planner.proofs.Rows.{empty-bit}
+use Rattle.image.proofs.Edges.{joins-cases, joins-one, joins-other}
+use Rattle.planner.specs.Held.{inWord, Dropped}
+use Rattle.planner.proofs.Words.{lt-or-le, one-true, bitOf-past}
 
--- ---- the ends of an edge, either way round
-pub one-bit : (a : Bool) → eqb (bit a) 1 ≡ a
-one-bit true = refl
-one-bit false = refl
+-- ---- the edges of a word
+pub in-word : (word base k : ℕ) → T (inWord word base k) → (base ≤ k) × (bitOf word (k - base) ≡ 1)
+unfolding inWord
+in-word word base k t =
+    (leb→le base k (and-left (leb base k) (eqb (bitOf word (k - base)) 1) t), eqb→eq (bitOf word (k - base)) 1 (and-right (leb base k) (eqb (bitOf word (k - base)) 1) t))
 
-pub table-cong : {ws : List ℕ} (f g : ℕ → ℕ → Bool) → ((u v : ℕ) → u < 512 → v < 512 → f u v ≡ g u v) → Table ws f → Table ws g
-table-cong f g e t = record { bits = λ u v h l. t .bits u v h l ∙ ap bit (e u v h l) }
+pub word-in : (word base k : ℕ) → base ≤ k → bitOf word (k - base) ≡ 1 → T (inWord word base k)
+unfolding inWord
+word-in word base k h e = and-make (leb base k) (eqb (bitOf word (k - base)) 1) (le→leb base k h) (eqb-of (bitOf word (k - base)) 1 e)
 
-pub joins-cases : (part : List ℕ) (u v k : ℕ) → T (joins part u v k)
-    → ((endA part k ≡ u) × (endB part k ≡ v)) ⊎ ((endA part k ≡ v) × (endB part k ≡ u))
-unfolding joins
-joins-cases part u v k t =
-    ⊎-elim
-    (λ x. inl (eqb→eq (endA part k) u (and-left (eqb (endA part k) u) (eqb (endB part k) v) x), eqb→eq (endB part k) v (and-right (eqb (endA part k) u) (eqb (endB part k) v) x)))
-    (λ x. inr (eqb→eq (endA part k) v (and-left (eqb (endA part k) v) (eqb (endB part k) u) x), eqb→eq (endB part k) u (and-right (eqb (endA part k) v) (eqb (endB part k) u) x)))
-    (or-cases (eqb (endA part k) u && eqb (endB part k) v) (eqb (endA part k) v && eqb (endB part k) u) t)
+-- edge base + t by its bit
+pub word-in-at : (word base t : ℕ) → bitOf word t ≡ 1 → T (inWord word base (base + t))
+word-in-at word base t e =
+    let p : base + t - base ≡ t = omega arith in
+    word-in word base (base + t) (omega arith) (ap (bitOf word) p ∙ e)
 
-pub joins-one : (part : List ℕ) (u v k : ℕ) → endA part k ≡ u → endB part k ≡ v → T (joins part u v k)
-unfolding joins
-joins-one part u v k p q =
-    or-left (eqb (endA part k) u && eqb (endB part k) v) (eqb (endA part k) v && eqb (endB part k) u)
-    (and-make (eqb (endA part k) u) (eqb (endB part k) v) (eqb-of (endA part k) u p) (eqb-of (endB part k) v q))
-
-pub joins-other : (part : List ℕ) (u v k : ℕ) → endA part k ≡ v → endB part k ≡ u → T (joins part u v k)
-unfolding joins
-joins-other part u v k p q =
-    or-right (eqb (endA part k) u && eqb (endB part k) v) (eqb (endA part k) v && eqb (endB part k) u)
-    (and-make (eqb (endA part k) v) (eqb (endB part k) u) (eqb-of (endA part k) v p) (eqb-of (endB part k) u q))
-
--- ---- both cells of an edge
-module _ (part : List ℕ) (k u v : ℕ) (ha : endA part k < 512) (hb : endB part k < 512) (hu : u < 512) (hv : v < 512) where
+-- ---- one edge
+module _ (part : List ℕ) (k u v : ℕ) (ha : endA part k < 512) (hb : endB part k < 512) (hu : u < 512) (hv : v < 512) (ws : List ℕ) (long : length ws ≡ 4096) where
   abbrev first : ℕ
   first = endA part k * 512 + endB part k
 
   abbrev second : ℕ
   second = endB part k * 512 + endA part k
 
-  at-first : u * 512 + v ≡ first → T (joins part u v k)
-  at-first e = joins-one part u v k (omega (arith, e)) (omega (arith, e))
+  at-second : cell (withoutBit (withoutBit ws first) second) (endB part k) (endA part k) ≡ 0
+  at-second = bitAt-clear-same (withoutBit ws first) second (omega (arith, length-withoutBit ws first, long, ha, hb))
 
-  at-second : u * 512 + v ≡ second → T (joins part u v k)
-  at-second e = joins-other part u v k (omega (arith, e)) (omega (arith, e))
+  at-first : cell (withoutBit (withoutBit ws first) second) (endA part k) (endB part k) ≡ 0
+  at-first = go (ℕ-discrete first second)
+    where
+      go : Dec (first ≡ second) → bitAt (withoutBit (withoutBit ws first) second) first ≡ 0
+      go (yes e) = ap (bitAt (withoutBit (withoutBit ws first) second)) e ∙ at-second
+      go (no d) = bitAt-clear-other (withoutBit ws first) second first d ∙ bitAt-clear-same ws first (omega (arith, long, ha, hb))
 
-  elsewhere : (u * 512 + v ≡ first → ⊥) → (u * 512 + v ≡ second → ⊥) → joins part u v k ≡ false
-  elsewhere d p =
-      T-false (joins part u v k) (not-T (joins part u v k) (λ t.
+  cell-joined : T (joins part u v k) → cell (withoutBit (withoutBit ws first) second) u v ≡ 0
+  cell-joined t =
       ⊎-elim
-      (λ w. d (ap₂ (λ (i j : ℕ). i * 512 + j) (sym (w .0)) (sym (w .1))))
-      (λ w. p (ap₂ (λ (i j : ℕ). i * 512 + j) (sym (w .1)) (sym (w .0))))
-      (joins-cases part u v k t)))
+      (λ w. ap₂ (cell (withoutBit (withoutBit ws first) second)) (sym (w .0)) (sym (w .1)) ∙ at-first)
+      (λ w. ap₂ (cell (withoutBit (withoutBit ws first) second)) (sym (w .1)) (sym (w .0)) ∙ at-second)
+      (joins-cases part u v k t)
 
-  -- marked
-  pub cell-both : (ws : List ℕ) (x : Bool) → endA part k * 8 + 8 ≤ length ws → endB part k * 8 + 8 ≤ length ws → cell ws u v ≡ bit x → cell (withBit (withBit ws first) second) u v ≡ bit (joins part u v k || x)
-  cell-both ws x ra rb e = pick (ℕ-discrete (u * 512 + v) second) (ℕ-discrete (u * 512 + v) first)
-    where
-      on : T (joins part u v k) → 1 ≡ bit (joins part u v k || x)
-      on t = sym (bit-true (joins part u v k || x) (or-left (joins part u v k) x t))
+  cell-other : (T (joins part u v k) → ⊥) → cell (withoutBit (withoutBit ws first) second) u v ≡ cell ws u v
+  cell-other n =
+      bitAt-clear-other (withoutBit ws first) second (u * 512 + v) (λ e. n (joins-other part u v k (omega (arith, e, ha, hb, hu, hv)) (omega (arith, e, ha, hb, hu, hv))))
+      ∙ bitAt-clear-other ws first (u * 512 + v) (λ e. n (joins-one part u v k (omega (arith, e, ha, hb, hu, hv)) (omega (arith, e, ha, hb, hu, hv))))
 
-      pick : Dec (u * 512 + v ≡ second) → Dec (u * 512 + v ≡ first) → cell (withBit (withBit ws first) second) u v ≡ bit (joins part u v k || x)
-      pick (yes p) d =
-          ap (bitAt (withBit (withBit ws first) second)) p
-          ∙ bitAt-set-same (withBit ws first) second (omega (arith, length-withBit ws first))
-          ∙ on (at-second p)
-      pick (no p) (yes d) =
-          bitAt-set-other (withBit ws first) second (u * 512 + v) p
-          ∙ ap (bitAt (withBit ws first)) d
-          ∙ bitAt-set-same ws first (omega arith)
-          ∙ on (at-first d)
-      pick (no p) (no d) =
-          bitAt-set-other (withBit ws first) second (u * 512 + v) p
-          ∙ bitAt-set-other ws first (u * 512 + v) d
-          ∙ e
-          ∙ ap (λ (y : Bool). bit (y || x)) (sym (elsewhere d p))
+  cell-most : cell (withoutBit (withoutBit ws first) second) u v ≤ cell ws u v
+  cell-most =
+      ⊎-elim
+      (λ t. omega (arith, cell-joined t))
+      (λ n. omega (arith, cell-other (λ t. T-not (joins part u v k) n t)))
+      (decide (joins part u v k))
 
-  -- cleared
-  pub cell-neither : (ws : List ℕ) (x : Bool) → endA part k * 8 + 8 ≤ length ws → endB part k * 8 + 8 ≤ length ws → cell ws u v ≡ bit x
-      → cell (withoutBit (withoutBit ws first) second) u v ≡ bit (x && not (joins part u v k))
-  cell-neither ws x ra rb e = pick (ℕ-discrete (u * 512 + v) second) (ℕ-discrete (u * 512 + v) first)
-    where
-      off : T (joins part u v k) → 0 ≡ bit (x && not (joins part u v k))
-      off t =
-          sym (bit-false (x && not (joins part u v k)) (not-T (x && not (joins part u v k)) (λ y.
-          T-not (joins part u v k) (and-right x (not (joins part u v k)) y) t)))
+-- ---- a table without some edges
+pub dropped-none : (edges ws : List ℕ) (f : ℕ → Bool) → ((k : ℕ) → T (f k) → ⊥) → Dropped edges f ws ws
+dropped-none edges ws f n = record { size = refl; most = λ u v hu hv. le-refl _; out = λ u v k hu hv t j. absurd (n k t); kept = λ u v hu hv d. refl }
 
-      pick : Dec (u * 512 + v ≡ second) → Dec (u * 512 + v ≡ first) → cell (withoutBit (withoutBit ws first) second) u v ≡ bit (x && not (joins part u v k))
-      pick (yes p) d =
-          ap (bitAt (withoutBit (withoutBit ws first) second)) p
-          ∙ bitAt-clear-same (withoutBit ws first) second (omega (arith, length-withoutBit ws first))
-          ∙ off (at-second p)
-      pick (no p) (yes d) =
-          bitAt-clear-other (withoutBit ws first) second (u * 512 + v) p
-          ∙ ap (bitAt (withoutBit ws first)) d
-          ∙ bitAt-clear-same ws first (omega arith)
-          ∙ off (at-first d)
-      pick (no p) (no d) =
-          bitAt-clear-other (withoutBit ws first) second (u * 512 + v) p
-          ∙ bitAt-clear-other ws first (u * 512 + v) d
-          ∙ e
-          ∙ ap bit (sym (ap (λ (y : Bool). x && not y) (elsewhere d p) ∙ and-true x))
-
--- ---- the table of the first k edges
-pub linked-none : (n : ℕ) (edges : List ℕ) {ws : List ℕ} → Table ws (λ u v. ltb u n && eqb u v) → Table ws (linked n edges 0)
-unfolding linked any
-linked-none n edges t = table-cong (λ u v. ltb u n && eqb u v) (linked n edges 0) (λ u v h l. sym (or-false (ltb u n && eqb u v))) t
-
-or-swap : (a b c : Bool) → (a || (b || c)) ≡ (b || (a || c))
-or-swap true true c = refl
-or-swap true false c = refl
-or-swap false b c = refl
-
-module _ (n : ℕ) (edges : List ℕ) (k : ℕ) where
-  pub linked-more : {ws : List ℕ} → endA edges k < 512 → endB edges k < 512 → endA edges k * 8 + 8 ≤ length ws → endB edges k * 8 + 8 ≤ length ws
-      → Table ws (linked n edges k)
-      → Table (withBit (withBit ws (endA edges k * 512 + endB edges k)) (endB edges k * 512 + endA edges k)) (linked n edges (k + 1))
-  unfolding linked any
-  linked-more {ws} ha hb ra rb t = record {
-    bits = λ u v hu hv.
-        cell-both edges k u v ha hb hu hv ws (linked n edges k u v) ra rb (t .bits u v hu hv)
-        ∙ ap bit (or-swap (joins edges u v k) (ltb u n && eqb u v) (any k (joins edges u v)) ∙ sym (ap (λ (j : ℕ). linked n edges j u v) (add-one k)));
-  }
-
-  -- the ends of an edge are linked before it just where it is a loop or a repeat
-  pub linked-fault : endA edges k < n → linked n edges k (endA edges k) (endB edges k) ≡ (isLoop edges k || repeatsEarlier edges k)
-  unfolding linked isLoop repeatsEarlier
-  linked-fault h = ap (λ (b : Bool). (b && eqb (endA edges k) (endB edges k)) || any k (joins edges (endA edges k) (endB edges k))) (T-true (ltb (endA edges k) n) (lt→ltb (endA edges k) n h))
-
-  pub linked-comm : (u v : ℕ) → linked n edges k u v ≡ linked n edges k v u
-  unfolding linked
-  linked-comm u v = ap₂ _||_ (T-ext (ltb u n && eqb u v) (ltb v n && eqb v u) (turn u v) (turn v u)) (any-swap k)
-    where
-      turn : (a b : ℕ) → T (ltb a n && eqb a b) → T (ltb b n && eqb b a)
-      turn a b t =
-          let e : a ≡ b = eqb→eq a b (and-right (ltb a n) (eqb a b) t) in
-          and-make (ltb b n) (eqb b a) (subst (λ (x : ℕ). T (ltb x n)) e (and-left (ltb a n) (eqb a b) t)) (eqb-of b a (sym e))
-
-      any-swap : (i : ℕ) → any i (joins edges u v) ≡ any i (joins edges v u)
-      any-swap i = any-cong i (joins edges u v) (joins edges v u) (λ j h. joins-comm edges u v j)
-
-  pub linked-self : (u : ℕ) → u < n → T (linked n edges k u u)
-  unfolding linked
-  linked-self u h = or-left (ltb u n && eqb u u) (any k (joins edges u u)) (and-make (ltb u n) (eqb u u) (lt→ltb u n h) (eqb-refl u))
-
--- the test of a cell is the relation
-pub table-has : {ws : List ℕ} (f : ℕ → ℕ → Bool) → Table ws f → (u v : ℕ) → u < 512 → v < 512 → eqb (cell ws u v) 1 ≡ f u v
-table-has f t u v hu hv = ap (λ (x : ℕ). eqb x 1) (t .bits u v hu hv) ∙ one-bit (f u v)
-
--- where u and v are not linked, v and u are not either, also once the first cell is marked
-pub second-new : (n : ℕ) (edges : List ℕ) (k : ℕ) {ws : List ℕ} → Table ws (linked n edges k) → (u v : ℕ) → u < n → u < 512 → v < 512 → cell ws u v ≡ 0
-    → cell (withBit ws (u * 512 + v)) v u ≡ 0
-second-new n edges k {ws} t u v h hu hv z =
-    let other : u ≡ v → ⊥ =
-    λ e. let one = t .bits u u hu hu ∙ bit-true (linked n edges k u u) (linked-self n edges k u h) in
-    let same : cell ws u u ≡ cell ws u v = ap (cell ws u) e in omega (arith, one, same, z) in
-    bitAt-set-other ws (u * 512 + v) (v * 512 + u) (λ e. other (omega arith))
-    ∙ t .bits v u hv hu ∙ ap bit (linked-comm n edges k v u) ∙ sym (t .bits u v hu hv) ∙ z
-
--- what an edge's fault is
-module _ (edges : List ℕ) (n k : ℕ) where
-  pub end-told : (u v : ℕ) (x : Bool) → u ≡ endA edges k → v ≡ endB edges k → not (ltb u n && ltb v n) ≡ x → badEnd edges n k ≡ x
-  unfolding badEnd
-  end-told u v x p q e = ap₂ (λ (a b : ℕ). not (ltb a n && ltb b n)) (sym p) (sym q) ∙ e
-
-  pub fault-end : badEnd edges n k ≡ true → faulty edges n k ≡ true
-  unfolding faulty
-  fault-end e = ap (λ (b : Bool). b || (isLoop edges k || repeatsEarlier edges k)) e
-
-  pub fault-linked : badEnd edges n k ≡ false → endA edges k < n → faulty edges n k ≡ linked n edges k (endA edges k) (endB edges k)
-  unfolding faulty
-  fault-linked e h = ap (λ (b : Bool). b || (isLoop edges k || repeatsEarlier edges k)) e ∙ sym (linked-fault n edges k h)
-
-pub added-no : (edges : List ℕ) (n m k : ℕ) (ws sizes : List ℕ) → k < m → faulty edges n k ≡ true → Added edges n m false ws sizes
-added-no edges n m k ws sizes h e = record {
-  answer = sym (ap not (T-true (any m (faulty edges n)) (any-make m (faulty edges n) k h (subst (λ (b : Bool). T b) (sym e) tt))));
-  table = λ t. absurd t;
-  counted = λ t. absurd t;
+pub dropped-one : (edges ws : List ℕ) (k : ℕ) → endA edges k < 512 → endB edges k < 512 → length ws ≡ 4096
+    → Dropped edges (eqb k) ws (withoutBit (withoutBit ws (endA edges k * 512 + endB edges k)) (endB edges k * 512 + endA edges k))
+dropped-one edges ws k ha hb long = record {
+  size = length-withoutBit (withoutBit ws (endA edges k * 512 + endB edges k)) (endB edges k * 512 + endA edges k) ∙ length-withoutBit ws (endA edges k * 512 + endB edges k);
+  most = λ u v hu hv. cell-most edges k u v ha hb hu hv ws long;
+  out = λ u v i hu hv t j. cell-joined edges k u v ha hb hu hv ws long (subst (λ (x : ℕ). T (joins edges u v x)) (sym (eqb→eq k i t)) j);
+  kept = λ u v hu hv n. cell-other edges k u v ha hb hu hv ws long (n k (eqb-of k k refl));
 }
 
-pub added-yes : (edges : List ℕ) (n m : ℕ) {ws sizes : List ℕ} → T (not (any m (faulty edges n))) → Table ws (linked n edges m) → Counted ws sizes
-    → Added edges n m true ws sizes
-added-yes edges n m t w c = record { answer = sym (T-true (not (any m (faulty edges n))) t); table = λ x. w; counted = λ x. c }
-
--- ---- a table without the first c edges of a list
-pub dropped-none : (edges list : List ℕ) (ws : List ℕ) → Dropped edges list 0 ws ws
-unfolding any
-dropped-none edges list ws = record { size = refl; bits = λ u v h l. one (bitAt ws (u * 512 + v)) (bitAt-lt ws (u * 512 + v)) }
-  where
-    one : (x : ℕ) → x < 2 → x ≡ bit (eqb x 1 && true)
-    one zero h = refl
-    one (suc zero) h = refl
-    one (suc (suc x)) h = absurd (omega arith)
-
-pub dropped-more : (edges list : List ℕ) (c k : ℕ) (before ws : List ℕ) → k ≡ getD list c 0
-    → endA edges k < 512 → endB edges k < 512 → endA edges k * 8 + 8 ≤ length ws → endB edges k * 8 + 8 ≤ length ws → Dropped edges list c before ws
-    → Dropped edges list (c + 1) before (withoutBit (withoutBit ws (endA edges k * 512 + endB edges k)) (endB edges k * 512 + endA edges k))
-unfolding any
-dropped-more edges list c k before ws e ha hb ra rb t = record {
-  size = length-withoutBit (withoutBit ws (endA edges k * 512 + endB edges k)) (endB edges k * 512 + endA edges k) ∙ length-withoutBit ws (endA edges k * 512 + endB edges k) ∙ t .size;
-  bits = λ u v hu hv.
-      cell-neither edges k u v ha hb hu hv ws (eqb (cell before u v) 1 && not (any c (λ i. joins edges u v (getD list i 0)))) ra rb (t .bits u v hu hv)
-      ∙ ap bit (
-      regroup (eqb (cell before u v) 1) (any c (λ i. joins edges u v (getD list i 0))) (joins edges u v k)
-      ∙ ap (λ (j : ℕ). eqb (cell before u v) 1 && not (joins edges u v j || any c (λ i. joins edges u v (getD list i 0)))) e
-      ∙ sym (ap (λ (n : ℕ). eqb (cell before u v) 1 && not (any n (λ i. joins edges u v (getD list i 0)))) (add-one c)));
+pub dropped-then : {edges a b c : List ℕ} (f g h : ℕ → Bool) → Dropped edges f a b → Dropped edges g b c
+    → ((k : ℕ) → T (h k) → T (f k) ⊎ T (g k)) → ((k : ℕ) → T (f k) → T (h k)) → ((k : ℕ) → T (g k) → T (h k)) → Dropped edges h a c
+dropped-then f g h d e split left right = record {
+  size = e .size ∙ d .size;
+  most = λ u v hu hv. omega (arith, d .most u v hu hv, e .most u v hu hv);
+  out = λ u v k hu hv t j. ⊎-elim (λ x. omega (arith, d .out u v k hu hv x j, e .most u v hu hv)) (λ x. e .out u v k hu hv x j) (split k t);
+  kept = λ u v hu hv n. e .kept u v hu hv (λ k t. n k (right k t)) ∙ d .kept u v hu hv (λ k t. n k (left k t));
 }
-  where
-    regroup : (a b c : Bool) → ((a && not b) && not c) ≡ (a && not (c || b))
-    regroup true true true = refl
-    regroup true true false = refl
-    regroup true false true = refl
-    regroup true false false = refl
-    regroup false b c = refl
 
--- ---- one number more is passed
-next-self : (k u : ℕ) → u ≡ k → T (ltb u (k + 1))
-next-self k u e = lt→ltb u (k + 1) (omega arith)
+pub dropped-cong : {edges a b : List ℕ} (f g : ℕ → Bool) → ((k : ℕ) → T (f k) → T (g k)) → ((k : ℕ) → T (g k) → T (f k)) → Dropped edges f a b → Dropped edges g a b
+dropped-cong f g to from d = record {
+  size = d .size;
+  most = d .most;
+  out = λ u v k hu hv t j. d .out u v k hu hv (from k t) j;
+  kept = λ u v hu hv n. d .kept u v hu hv (λ k t. n k (to k t));
+}
 
-next-other : (k u : ℕ) → (u ≡ k → ⊥) → ltb u (k + 1) ≡ ltb u k
-next-other k u d =
-    T-ext (ltb u (k + 1)) (ltb u k) (λ t. lt→ltb u k (omega (arith, ltb→lt u (k + 1) t, d))) (λ t. lt→ltb u (k + 1) (omega (arith, ltb→lt u k t)))
+-- ---- the edges of a word, one after the other: w has those that are left
+pub record Dropping (edges : List ℕ) (word base : ℕ) (before : List ℕ) (w : ℕ) (after : List ℕ) : Type 0 where
+  pub fits : w < 2 ^ 64
+  pub sub : (i : ℕ) → bitOf w i ≤ bitOf word i
+  pub dropped : Dropped edges (λ k. inWord word base k && not (inWord w base k)) before after
 
-none-below : (u : ℕ) (b : Bool) → (ltb u 0 && b) ≡ false
-none-below u b = T-false (ltb u 0 && b) (not-T (ltb u 0 && b) (λ t. absurd (omega (arith, ltb→lt u 0 (and-left (ltb u 0) b t)))))
+module _ (edges : List ℕ) (word base : ℕ) (before : List ℕ) where
+  pub dropping-start : word < 2 ^ 64 → Dropping edges word base before word before
+  dropping-start h = record {
+    fits = h;
+    sub = λ i. le-refl _;
+    dropped =
+        dropped-none edges before (λ k. inWord word base k && not (inWord word base k)) (λ k t.
+        T-not (inWord word base k) (and-right (inWord word base k) (not (inWord word base k)) t) (and-left (inWord word base k) (not (inWord word base k)) t));
+  }
 
--- ---- each handset with itself
-pub selves-none : {ws : List ℕ} → Empty ws → Table ws (λ u v. ltb u 0 && eqb u v)
-selves-none e = record { bits = λ u v h l. empty-bit e (u * 512 + v) ∙ ap bit (sym (none-below u (eqb u v))) }
+  pub dropping-bit : {w : ℕ} {after : List ℕ} → Dropping edges word base before w after → (t : ℕ) → bitOf w t ≡ 1 → T (inWord word base (base + t))
+  dropping-bit d t e = word-in-at word base t (omega (arith, d .sub t, e, bitOf-lt word t))
 
-pub selves-more : (ws : List ℕ) (k : ℕ) → k < 512 → k * 8 + 8 ≤ length ws → Table ws (λ u v. ltb u k && eqb u v) → Table (withBit ws (k * 512 + k)) (λ u v. ltb u (k + 1) && eqb u v)
-selves-more ws k hk room t = record { bits = λ u v h l. go u v h l (ℕ-discrete (u * 512 + v) (k * 512 + k)) }
-  where
-    kept : (u v : ℕ) → v < 512 → (u * 512 + v ≡ (k * 512 + k) → ⊥) → Dec (u ≡ k) → (ltb u k && eqb u v) ≡ (ltb u (k + 1) && eqb u v)
-    kept u v l d (no e) = ap (λ (x : Bool). x && eqb u v) (sym (next-other k u e))
-    kept u v l d (yes e) =
-        let n : T (not (eqb u v)) = eqb-not u v (λ q. d (omega arith)) in
-        T-ext (ltb u k && eqb u v) (ltb u (k + 1) && eqb u v)
-        (λ x. absurd (T-not (eqb u v) n (and-right (ltb u k) (eqb u v) x)))
-        (λ x. absurd (T-not (eqb u v) n (and-right (ltb u (k + 1)) (eqb u v) x)))
-
-    go : (u v : ℕ) → u < 512 → v < 512 → Dec (u * 512 + v ≡ (k * 512 + k)) → cell (withBit ws (k * 512 + k)) u v ≡ bit (ltb u (k + 1) && eqb u v)
-    go u v h l (yes e) =
-        let p : u ≡ k = omega arith in
-        let q : u ≡ v = omega arith in
-        ap (bitAt (withBit ws (k * 512 + k))) e ∙ bitAt-set-same ws (k * 512 + k) (omega arith)
-        ∙ sym (bit-true (ltb u (k + 1) && eqb u v) (and-make (ltb u (k + 1)) (eqb u v) (next-self k u p) (eqb-of u v q)))
-    go u v h l (no d) = bitAt-set-other ws (k * 512 + k) (u * 512 + v) d ∙ t .bits u v h l ∙ ap bit (kept u v l d (ℕ-discrete u k))
-
-pub selves-new : (ws : List ℕ) (k : ℕ) → k < 512 → Table ws (λ u v. ltb u k && eqb u v) → cell ws k k ≡ 0
-selves-new ws k h t =
-    t .bits k k h h ∙ bit-false (ltb k k && eqb k k) (not-T (ltb k k && eqb k k) (λ x. omega (arith, ltb→lt k k (and-left (ltb k k) (eqb k k) x))))
-
--- ---- a word and a set of those below k that pass a test
-pub word-none : (f : ℕ → Bool) → WordOf 0 (λ i. ltb i 0 && f i)
-word-none f = record { bits = λ i h. bitOf-none i ∙ ap bit (sym (none-below i (f i))) }
-
--- one number more, and its bit as the code makes it
-module _ (w : ℕ) (f : ℕ → Bool) (k : ℕ) (hk : k < 64) (t : WordOf w (λ i. ltb i k && f i)) where
-  pub word-yes : T (f k) → WordOf (bitOr w (1 * 2 ^ k % 2 ^ 64)) (λ i. ltb i (k + 1) && f i)
-  word-yes y = record { bits = λ i h. ap (λ (x : ℕ). bitOf (bitOr w x) i) (shl-one k hk) ∙ go i h (ℕ-discrete i k) }
-    where
-      go : (i : ℕ) → i < 64 → Dec (i ≡ k) → bitOf (bitOr w (2 ^ k)) i ≡ bit (ltb i (k + 1) && f i)
-      go i h (yes e) =
-          ap (bitOf (bitOr w (2 ^ k))) e ∙ bitOf-set-same w k
-          ∙ sym (bit-true (ltb i (k + 1) && f i) (and-make (ltb i (k + 1)) (f i) (next-self k i e) (rw e y)))
-      go i h (no d) = bitOf-set-other w k i d ∙ t .bits i h ∙ ap (λ (x : Bool). bit (x && f i)) (sym (next-other k i d))
-
-  pub word-no : T (not (f k)) → WordOf (bitOr w (0 * 2 ^ k % 2 ^ 64)) (λ i. ltb i (k + 1) && f i)
-  word-no n = record {
-    bits = λ i h.
-        ap (λ (x : ℕ). bitOf (bitOr w x) i) (ap (λ (x : ℕ). x % 2 ^ 64) (zero-mul (2 ^ k)))
-        ∙ ap (λ (x : ℕ). bitOf x i) (or-zero-r w) ∙ t .bits i h ∙ go i (ℕ-discrete i k);
+  pub dropping-on : {w : ℕ} {after : List ℕ} (t : ℕ) → t < 64 → bitOf w t ≡ 1 → endA edges (base + t) < 512 → endB edges (base + t) < 512 → length after ≡ 4096
+      → Dropping edges word base before w after
+      → Dropping edges word base before (cleared w t)
+      (withoutBit (withoutBit after (endA edges (base + t) * 512 + endB edges (base + t))) (endB edges (base + t) * 512 + endA edges (base + t)))
+  dropping-on {w} {after} t h e ha hb long d = record {
+    fits = cleared-lt w t h (d .fits);
+    sub = λ i. omega (arith, cleared-le w t h i, d .sub i);
+    dropped =
+        dropped-then (λ k. inWord word base k && not (inWord w base k)) (eqb (base + t)) (λ k. inWord word base k && not (inWord (cleared w t) base k))
+        (d .dropped) (dropped-one edges after (base + t) ha hb long)
+        (λ k x.
+        let y = and-left (inWord word base k) (not (inWord (cleared w t) base k)) x in
+        let n = and-right (inWord word base k) (not (inWord (cleared w t) base k)) x in
+        split k y n (ℕ-discrete k (base + t)))
+        (λ k x.
+        let y = and-left (inWord word base k) (not (inWord w base k)) x in
+        let n = and-right (inWord word base k) (not (inWord w base k)) x in
+        and-make (inWord word base k) (not (inWord (cleared w t) base k)) y
+        (not-T (inWord (cleared w t) base k) (λ z. T-not (inWord w base k) n (less k z))))
+        (λ k x.
+        let p : base + t ≡ k = eqb→eq (base + t) k x in
+        subst (λ (i : ℕ). T (inWord word base i && not (inWord (cleared w t) base i))) p
+        (and-make (inWord word base (base + t)) (not (inWord (cleared w t) base (base + t))) (dropping-bit d t e)
+        (not-T (inWord (cleared w t) base (base + t)) (λ z. none (in-word (cleared w t) base (base + t) z .1)))));
   }
     where
-      go : (i : ℕ) → Dec (i ≡ k) → bit (ltb i k && f i) ≡ bit (ltb i (k + 1) && f i)
-      go i (no d) = ap (λ (x : Bool). bit (x && f i)) (sym (next-other k i d))
-      go i (yes e) =
-          ap bit (T-ext (ltb i k && f i) (ltb i (k + 1) && f i)
-          (λ x. absurd (omega (arith, ltb→lt i k (and-left (ltb i k) (f i) x))))
-          (λ x. absurd (T-not (f k) n (rw (← e) (and-right (ltb i (k + 1)) (f i) x)))))
+      less : (k : ℕ) → T (inWord (cleared w t) base k) → T (inWord w base k)
+      less k z =
+          let p = in-word (cleared w t) base k z in
+          word-in w base k (p .0) (omega (arith, p .1, cleared-le w t h (k - base), bitOf-lt w (k - base)))
 
--- the first j words of a set are filled, and the others are empty
-pub filled-none : (f : ℕ → Bool) → SetOf (zeros 8) (λ u. ltb u (0 * 64) && f u)
-filled-none f = record { size = length-replicate {A = ℕ} 8 0; bits = λ u h. bitAt-zeros 8 u ∙ ap bit (sym (none-below u (f u))) }
+      none : bitOf (cleared w t) (base + t - base) ≡ 1 → ⊥
+      none z =
+          let p : base + t - base ≡ t = omega arith in
+          omega (arith, z, ap (bitOf (cleared w t)) p, cleared-same w t h)
 
-other-word : (ws : List ℕ) (j w u : ℕ) → (u / 64 ≡ j → ⊥) → bitAt (set ws j w) u ≡ bitAt ws u
-unfolding bitAt
-other-word ws j w u d = ap (λ (x : ℕ). bitOf x (u % 64)) (getD-set-other ws j (u / 64) w 0 d)
+      split : (k : ℕ) → T (inWord word base k) → T (not (inWord (cleared w t) base k)) → Dec (k ≡ base + t) → T (inWord word base k && not (inWord w base k)) ⊎ T (eqb (base + t) k)
+      split k y n (yes p) = inr (eqb-of (base + t) k (sym p))
+      split k y n (no d) =
+          inl (and-make (inWord word base k) (not (inWord w base k)) y (not-T (inWord w base k) (λ z.
+          let p = in-word w base k z in
+          T-not (inWord (cleared w t) base k) n
+          (word-in (cleared w t) base k (p .0) (cleared-other w t h (k - base) (λ q. d (omega (arith, q, p .0))) ∙ p .1)))))
 
-pub filled-more : (ws : List ℕ) (w : ℕ) (f : ℕ → Bool) (j : ℕ) → j < 8 → WordOf w (λ k. f (64 * j + k)) → SetOf ws (λ u. ltb u (j * 64) && f u)
-    → SetOf (set ws j w) (λ u. ltb u ((j + 1) * 64) && f u)
-filled-more ws w f j hj t s = record { size = length-set ws j w ∙ s .size; bits = λ u h. go u h (ℕ-discrete (u / 64) j) }
-  where
-    go : (u : ℕ) → u < 512 → Dec (u / 64 ≡ j) → bitAt (set ws j w) u ≡ bit (ltb u ((j + 1) * 64) && f u)
-    go u h (yes e) =
-        let i : j * 64 + u % 64 ≡ u = omega arith in
-        let i′ : 64 * j + u % 64 ≡ u = omega arith in
-        let l : u % 64 < 64 = mod-lt u (zero-lt-suc 63) in
-        ap (bitAt (set ws j w)) (sym i) ∙ word-bit (set ws j w) j (u % 64) l
-        ∙ ap (λ (x : ℕ). bitOf x (u % 64)) (getD-set-same ws j w 0 (omega (arith, s .size)))
-        ∙ t .bits (u % 64) l ∙ ap (λ (x : ℕ). bit (f x)) i′
-        ∙ ap (λ (b : Bool). bit (b && f u)) (sym (T-true (ltb u ((j + 1) * 64)) (lt→ltb u ((j + 1) * 64) (omega arith))))
-    go u h (no d) =
-        other-word ws j w u d ∙ s .bits u h
-        ∙ ap (λ (b : Bool). bit (b && f u)) (T-ext (ltb u (j * 64)) (ltb u ((j + 1) * 64))
-        (λ x. lt→ltb u ((j + 1) * 64) (omega (arith, ltb→lt u (j * 64) x)))
-        (λ x. lt→ltb u (j * 64) (omega (arith, ltb→lt u ((j + 1) * 64) x, d))))
+  pub dropping-end : {w : ℕ} {after : List ℕ} → w ≡ 0 → Dropping edges word base before w after → Dropped edges (inWord word base) before after
+  dropping-end {w} z d =
+      dropped-cong (λ k. inWord word base k && not (inWord w base k)) (inWord word base)
+      (λ k t. and-left (inWord word base k) (not (inWord w base k)) t)
+      (λ k t. and-make (inWord word base k) (not (inWord w base k)) t (not-T (inWord w base k) (λ y.
+      absurd (omega (arith, in-word w base k y .1, ap (λ (x : ℕ). bitOf x (k - base)) z, bitOf-none (k - base))))))
+      (d .dropped)
+
+-- ---- the edges of the words of a set
+module _ (w j : ℕ) (f : ℕ → Bool) (h : w < 2 ^ 64) (t : WordOf w (λ i. f (64 * j + i))) where
+  pub word-passes : (k : ℕ) → T (inWord w (64 * j) k) → (64 * j ≤ k) × (k < 64 * (j + 1)) × T (f k)
+  word-passes k x = (p .0, omega (arith, low, p .0), one-true (f k) (sym (p .1) ∙ t .bits (k - 64 * j) low ∙ ap (λ (i : ℕ). bit (f i)) at))
+    where
+      p : (64 * j ≤ k) × (bitOf w (k - 64 * j) ≡ 1)
+      p = in-word w (64 * j) k x
+
+      low : k - 64 * j < 64
+      low = ⊎-elim (λ y. y) (λ y. absurd (omega (arith, p .1, bitOf-past w (k - 64 * j) h y))) (lt-or-le (k - 64 * j) 64)
+
+      at : 64 * j + (k - 64 * j) ≡ k
+      at = omega (arith, p .0)
+
+  pub passes-word : (k : ℕ) → 64 * j ≤ k → k < 64 * (j + 1) → T (f k) → T (inWord w (64 * j) k)
+  passes-word k l q y =
+      let at : 64 * j + (k - 64 * j) ≡ k = omega arith in
+      word-in w (64 * j) k l (t .bits (k - 64 * j) (omega arith) ∙ ap (λ (i : ℕ). bit (f i)) at ∙ bit-true (f k) y)
+
+  -- a table without the edges of the first j words, and without those of one more
+  pub dropped-word : {edges a b c : List ℕ} → Dropped edges (λ k. ltb k (64 * j) && f k) a b → Dropped edges (inWord w (64 * j)) b c
+      → Dropped edges (λ k. ltb k (64 * (j + 1)) && f k) a c
+  dropped-word d e =
+      dropped-then (λ k. ltb k (64 * j) && f k) (inWord w (64 * j)) (λ k. ltb k (64 * (j + 1)) && f k) d e
+      (λ k x.
+      let q = ltb→lt k (64 * (j + 1)) (and-left (ltb k (64 * (j + 1))) (f k) x) in
+      let y = and-right (ltb k (64 * (j + 1))) (f k) x in
+      ⊎-elim (λ l. inl (and-make (ltb k (64 * j)) (f k) (lt→ltb k (64 * j) l) y)) (λ l. inr (passes-word k l q y)) (lt-or-le k (64 * j)))
+      (λ k x.
+      and-make (ltb k (64 * (j + 1))) (f k)
+      (lt→ltb k (64 * (j + 1)) (omega (arith, ltb→lt k (64 * j) (and-left (ltb k (64 * j)) (f k) x)))) (and-right (ltb k (64 * j)) (f k) x))
+      (λ k x. let p = word-passes k x in and-make (ltb k (64 * (j + 1))) (f k) (lt→ltb k (64 * (j + 1)) (p .1)) (p .2))
+
+pub dropped-start : (edges ws : List ℕ) (f : ℕ → Bool) → Dropped edges (λ k. ltb k (64 * 0) && f k) ws ws
+dropped-start edges ws f = dropped-none edges ws (λ k. ltb k (64 * 0) && f k) (λ k t. absurd (omega (arith, ltb→lt k (64 * 0) (and-left (ltb k (64 * 0)) (f k) t))))
+
+-- once all edges to be dropped are below
+pub dropped-end : {edges a b : List ℕ} (f : ℕ → Bool) (n : ℕ) → ((k : ℕ) → T (f k) → k < n) → Dropped edges (λ k. ltb k n && f k) a b → Dropped edges f a b
+dropped-end f n below d =
+    dropped-cong (λ k. ltb k n && f k) f (λ k t. and-right (ltb k n) (f k) t) (λ k t. and-make (ltb k n) (f k) (lt→ltb k n (below k t)) t) d

@@ -1,10 +1,7 @@
-pub mod Picking
-pub mod Laid
 pub mod Rows
-pub mod Lowest
-pub mod Growth
-pub mod Grouping
-pub mod Listing
+pub mod Words
 pub mod Edges
 pub mod GraphLaws
+pub mod Listing
 pub mod Calls
+pub mod Answers

@@ -1,3 +1,2 @@
-pub mod Plan
 pub mod Held
-pub mod Groups
+pub mod Plan

@@ -1,45 +1,41 @@
 -- What the calls for a plan and for a role answer, and what the lent tables hold after them (paper 01, "Questions put to an image", "Reached, and the groups").
 --
+--     communitiesOf s       the image's communities
 --     planOf s a b          the answer for an image and the two tables' lengths: its refusal, 11, 12, or the counts of groups and memberships
 --     startsAfter s l b     the start table after the call, where it was l and the member table has length b
---     membersAfter s a l    the member table after the call
+--     membersAfter s a l    the member table after the call, where it was l and the start table has length a
 --     PlanCall              the outcome of a call for a plan: its answer and both tables
 --     CoreWords s ws        the set of cores that comes with a plan's answer
 --     knownOf s v           the role call's answer: the image's refusal, 13, or the near count and the role
+--     knownAnswer k         its number, place and values: the near count, the role's kind (0 core, 1 border, 2 outlier), and the core's group number or the border's count of groups, 0 for an outlier
+--
+-- proofs/Answers: two answers of the role call with the same number, place and values are the same.
 use Prim.Native.Nat.{ℕ, _<_}
 use mathlib.Core.Path.{_≡_}
 use mathlib.Core.Bool.{Bool, false, _&&_, cond}
-use mathlib.Core.List.{List, _++_}
-use lib.Dec.{leb, ltb}
-use lib.ListN.{length, drop}
+use mathlib.Core.List.{List, [], _∷_}
+use lib.Dec.{ltb}
+use lib.ListN.{length}
 use Rattle.sets.specs.Below.{bit}
 use Rattle.sets.specs.Bits.{bitAt}
+use Rattle.image.specs.Answers.{Answer, refused, given}
 use Rattle.image.specs.Questions.{openOf}
-use Rattle.image.specs.declared.Refusal.{Refusal}
 use Rattle.image.specs.declared.Opened.{Opened}
 use Rattle.image.specs.declared.Opened.the-variants as O
 use Rattle.community.specs.Network.{neighbourhoodSize, isCore, communities, role}
 use Rattle.community.specs.Tables.{startTable, memberTable}
 use Rattle.community.specs.Site.{network}
+use Rattle.community.specs.declared.Role.{Role}
+use Rattle.community.specs.declared.Role.the-variants.{Core, Border, Outlier}
 use Rattle.community.specs.declared.Standing.{Standing}
-use Rattle.planner.specs.declared.Planned.{Planned}
-use Rattle.planner.specs.declared.Planned.the-variants as P
+use Rattle.tables.specs.Plan.{byRoom, refusal, planned, planAnswer, over}
+use Rattle.tables.specs.declared.Planned.{Planned}
+use Rattle.tables.specs.declared.Planned.the-variants as P
 use Rattle.planner.specs.declared.Known.{Known}
 use Rattle.planner.specs.declared.Known.the-variants as K
 
--- the image's communities
 unfoldable pub communitiesOf : List ℕ → List (List ℕ)
 communitiesOf s = communities (network s)
-
--- an outcome by questions 11 and 12, for a start table of length a and a member table of length b
-abbrev pub byRoom : {X : Type 0} → List (List ℕ) → ℕ → ℕ → X → X → X → X
-byRoom gs a b short11 short12 made = cond (ltb (length gs) a) (cond (leb (length (memberTable gs)) b) made short12) short11
-
-abbrev pub refusal : ℕ → Refusal
-refusal k = record { number = k; place = 0 }
-
-abbrev pub planned : List (List ℕ) → ℕ → ℕ → Planned
-planned gs a b = byRoom gs a b (P.Refused (refusal 11)) (P.Refused (refusal 12)) (P.Made (length gs) (length (memberTable gs)))
 
 abbrev pub planFor : List ℕ → Opened → ℕ → ℕ → Planned
 planFor s (O.Site h) a b = planned (communitiesOf s) a b
@@ -47,10 +43,6 @@ planFor s (O.Refused r) a b = P.Refused r
 
 unfoldable pub planOf : List ℕ → ℕ → ℕ → Planned
 planOf s a b = planFor s (openOf s) a b
-
--- a table that begins with new entries, and past them holds what it held
-abbrev pub over : List ℕ → List ℕ → List ℕ
-over new l = new ++ drop (length new) l
 
 -- a table after the call: as before where the call is refused
 abbrev pub tableFor : List ℕ → Opened → ℕ → ℕ → List ℕ → List ℕ → List ℕ
@@ -65,7 +57,7 @@ membersAfter s a l = tableFor s (openOf s) a (length l) (memberTable (communitie
 
 -- of the image s, the tables ss and ms as lent, the answer r, and the tables ss′ and ms′ after the call
 pub record PlanCall (s ss ms : List ℕ) (r : Planned) (ss′ ms′ : List ℕ) : Type 0 where
-  pub answer : r ≡ planOf s (length ss) (length ms)
+  pub answer : planAnswer r ≡ planAnswer (planOf s (length ss) (length ms))
   pub starts : ss′ ≡ startsAfter s ss (length ms)
   pub members : ms′ ≡ membersAfter s (length ss) ms
 
@@ -88,3 +80,12 @@ knownFor s (O.Refused r) v = K.Refused r
 
 unfoldable pub knownOf : List ℕ → ℕ → Known
 knownOf s v = knownFor s (openOf s) v
+
+abbrev pub roleValues : Role → List ℕ
+roleValues (Core k) = 0 ∷ k ∷ []
+roleValues (Border k) = 1 ∷ k ∷ []
+roleValues Outlier = 2 ∷ 0 ∷ []
+
+abbrev pub knownAnswer : Known → Answer
+knownAnswer (K.Handset x) = given (x .neighbours ∷ roleValues (x .role))
+knownAnswer (K.Refused r) = refused r

@@ -1,27 +1,40 @@
--- `planner::plan_and_cores` meets its contract: a header that is refused ends the call, and each size of tables makes the same plan.
-use Prim.Native.Nat.{ℕ, _≤_}
-use mathlib.Core.Path.{_≡_, sym, ap, _∙_, subst}
-use mathlib.Core.Bool.{Bool, true, _&&_}
-use lib.Dec.{T, leb, leb→le}
-use Rattle.sets.proofs.Tests.{and-left, and-right}
-use Rattle.image.specs.Questions.{openOf, refusalOf}
-use Rattle.image.specs.declared.Opened.the-variants as O
-use Rattle.image.proofs.Acceptance.{header-no}
-use Rattle.planner.proofs.Calls.{plan-refused, cores-refused}
+-- `planner::plan_and_cores` meets its contract: a refused image ends the call with its refusal, and of an accepted one the rows that are written are its
+-- communities.
+use mathlib.Core.Path.{refl, _∙_}
 use borrow.Author.Needs.{needs}
+use denote.Ref.{now}
+use Rattle.planner.proofs.Calls.{Ready, ready, reading-no, plan-refused, cores-refused, plan-found, cores-found}
 use Rattle.planner.proofs.plan_and_cores.Statement.{statement}
 use Rattle.planner.proofs.plan_and_cores.Tie as tie
 
-both : {n m : ℕ} (a b : ℕ) → (leb n a && leb m b) ≡ true → (n ≤ a) × (m ≤ b)
-both {n} {m} a b e =
-    let t : T (leb n a && leb m b) = subst (λ (x : Bool). T x) (sym e) tt in
-    (leb→le n a (and-left (leb n a) (leb m b) t), leb→le m b (and-right (leb n a) (leb m b) t))
+-- the places that the answers speak of
+abbrev start : tie.After-open-rows → tie.Start
+start c = c .before .before .before .before .before .before
 
-open-header-requires : tie.Need-open-header-requires
-open-header-requires c κs = tt
+abbrev opened : tie.After-sizes2 → tie.After-opened
+opened c = c .before .before .before .before
 
-enum-known-header : tie.Need-enum-known-header
-enum-known-header c = search needs
+abbrev read : tie.After-opened → tie.After-open-rows
+read c = c .before .before
+
+abbrev near-kept : tie.After-cores → tie.After-keep-near
+near-kept c = c .before .before .before .before .before .before .before
+
+abbrev found : tie.After-cores2 → tie.After-find-groups
+found c = c .before .before .before .before
+
+abbrev written : tie.After-slice-known4 → tie.After-write-plan
+written c = c .before .before .before .before
+
+-- what the reader left of an accepted image
+at-hand : (c : tie.After-opened) → Ready (now (start (read c) .args .image)) (c .opened .given .0 .0) (read c .open-rows .last .1 .0) (read c .open-rows .last .1 .1 .0)
+at-hand c = ready (read c .open-rows .ensures) (c .opened .given .0 .0) (c .opened .given .1)
+
+open-rows-requires : tie.Need-open-rows-requires
+open-rows-requires c κs = tt
+
+enum-known-opened : tie.Need-enum-known-opened
+enum-known-opened c = search needs
 
 enum-told : tie.Need-enum-told
 enum-told c = search needs
@@ -31,71 +44,86 @@ refusal-of-requires c κs = tt
 
 returns : tie.Need-returns
 returns c =
-    let told = c .before .enum-told .given .1 in
-    let a = c .before .before .before .before .before .before .before .args in
-    let image = a .image .now in
-    let e : openOf image ≡ O.Refused (c .refusal-of .result) =
-    header-no image (c .refusal-of .result) (sym (c .before .before .before .open-header .ensures) ∙ told ∙ ap O.Refused (sym (c .refusal-of .ensures ∙ ap refusalOf told))) in
-    (plan-refused image (c .refusal-of .result) e (a .starts .now) (a .members .now), cores-refused image (c .refusal-of .result) e)
+    let r = c .before .before .before in
+    let told = c .before .enum-told .given in
+    let a = start r .args in
+    let e = reading-no (r .open-rows .ensures) (told .0 .0) (c .refusal-of .result) (told .1) (c .refusal-of .ensures) in
+    (plan-refused (now (a .image)) (c .refusal-of .result) e (now (a .starts)) (now (a .members)), cores-refused (now (a .image)) (c .refusal-of .result) e)
 
-plan-small-requires : tie.Need-plan-small-requires
-plan-small-requires c κs =
-    let fits = both 64 512 (c .before .before .if1 .taken) in
-    (sym (c .before .before .before .before .before .before .before .before .open-header .ensures) ∙ c .before .before .before .before .before .before .header .given .1, fits .0, fits .1)
+slice-aggregate-keep-near : tie.Need-slice-aggregate-keep-near
+slice-aggregate-keep-near c = search needs
+
+slice-aggregate-keep-near-2 : tie.Need-slice-aggregate-keep-near-2
+slice-aggregate-keep-near-2 c = search needs
+
+slice-aggregate-keep-near-3 : tie.Need-slice-aggregate-keep-near-3
+slice-aggregate-keep-near-3 c = search needs
+
+keep-near-requires : tie.Need-keep-near-requires
+keep-near-requires c κs = let r = at-hand (opened c) in (r .accepted, r .header, refl, r .room, r .table, r .counted)
+
+slice-aggregate-find-groups : tie.Need-slice-aggregate-find-groups
+slice-aggregate-find-groups c = search needs
+
+slice-aggregate-find-groups-2 : tie.Need-slice-aggregate-find-groups-2
+slice-aggregate-find-groups-2 c = search needs
+
+slice-aggregate-find-groups-3 : tie.Need-slice-aggregate-find-groups-3
+slice-aggregate-find-groups-3 c = search needs
+
+slice-aggregate-find-groups-4 : tie.Need-slice-aggregate-find-groups-4
+slice-aggregate-find-groups-4 c = search needs
+
+find-groups-requires : tie.Need-find-groups-requires
+find-groups-requires c κs =
+    let k = near-kept c .keep-near in
+    let r = at-hand (opened (near-kept c .before)) in
+    (r .accepted, r .header, (k .kept .1 .1 .1 .0 ∙ r .room .0, k .kept .1 .1 .1 .1 .0 ∙ r .room .1), k .ensures, refl)
+
+slice-aggregate-write-plan : tie.Need-slice-aggregate-write-plan
+slice-aggregate-write-plan c = search needs
+
+write-plan-requires : tie.Need-write-plan-requires
+write-plan-requires c κs = tt
 
 same-length : tie.Need-same-length
-same-length c = c .before .before .before .before .plan-small .kept .1 .1 .0
+same-length c = search needs
 
 same-length-2 : tie.Need-same-length-2
-same-length-2 c = c .before .before .before .before .plan-small .kept .1 .1 .1 .0
+same-length-2 c = search needs
 
 returns-2 : tie.Need-returns-2
-returns-2 c = c .before .before .before .before .plan-small .ensures
-
-plan-middle-requires : tie.Need-plan-middle-requires
-plan-middle-requires c κs =
-    let fits = both 256 2048 (c .before .before .if2 .taken) in
-    (sym (c .before .before .before .before .before .before .before .before .before .before .before .open-header .ensures) ∙ c .before .before .before .before .before .before .before .before .before .header .given .1, fits .0, fits .1)
-
-same-length-3 : tie.Need-same-length-3
-same-length-3 c = c .before .before .before .before .plan-middle .kept .1 .1 .0
-
-same-length-4 : tie.Need-same-length-4
-same-length-4 c = c .before .before .before .before .plan-middle .kept .1 .1 .1 .0
-
-returns-3 : tie.Need-returns-3
-returns-3 c = c .before .before .before .before .plan-middle .ensures
-
-plan-full-requires : tie.Need-plan-full-requires
-plan-full-requires c κs = sym (c .before .before .before .before .before .before .before .before .before .before .before .open-header .ensures) ∙ c .before .before .before .before .before .before .before .before .before .header .given .1
-
-same-length-5 : tie.Need-same-length-5
-same-length-5 c = c .before .before .before .before .plan-full .kept .1 .1 .0
-
-same-length-6 : tie.Need-same-length-6
-same-length-6 c = c .before .before .before .before .plan-full .kept .1 .1 .1 .0
-
-returns-4 : tie.Need-returns-4
-returns-4 c = c .before .before .before .before .plan-full .ensures
+returns-2 c =
+    let w = written c in
+    let f = found (w .before .before .before .before) in
+    let k = near-kept (f .before) in
+    let o = opened (k .before) in
+    let a = start (read o) .args in
+    let ok = at-hand o .accepted in (
+      plan-found (now (a .image)) ok (f .find-groups .ensures .1) (now (a .starts)) (now (a .members)) _ _ _ (w .write-plan .ensures),
+      cores-found (now (a .image)) ok (f .find-groups .ensures .0),
+    )
 
 pub plan-and-cores-spec : {M : Type 1} → statement M
 plan-and-cores-spec =
     tie.close
     (tie.spec
-    open-header-requires
-    enum-known-header
+    open-rows-requires
+    enum-known-opened
     enum-told
     refusal-of-requires
     returns
-    plan-small-requires
+    slice-aggregate-keep-near
+    slice-aggregate-keep-near-2
+    slice-aggregate-keep-near-3
+    keep-near-requires
+    slice-aggregate-find-groups
+    slice-aggregate-find-groups-2
+    slice-aggregate-find-groups-3
+    slice-aggregate-find-groups-4
+    find-groups-requires
+    slice-aggregate-write-plan
+    write-plan-requires
     same-length
     same-length-2
-    returns-2
-    plan-middle-requires
-    same-length-3
-    same-length-4
-    returns-3
-    plan-full-requires
-    same-length-5
-    same-length-6
-    returns-4)
+    returns-2)

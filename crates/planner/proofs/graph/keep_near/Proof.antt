@@ -1,16 +1,25 @@
--- `planner::graph::keep_near` meets its contract. The positions are those of the image, so the edges listed as too long are just those whose ends are not
+-- `planner::graph::keep_near` meets its contract. The parts handed on are the records of the image, so the edges dropped are just those whose ends are not
 -- within gamma; without them the table of all edges is that of the neighbour relation.
-use Prim.Native.Nat.{ℕ, _≤_}
-use mathlib.Core.List.{List}
-use lib.ListN.{length}
-use Rattle.planner.specs.Held.{laid, rowWords}
-use Rattle.planner.proofs.GraphLaws.{Read, header-is, checked-of, edgePart-length, length-ready, list-ends, list-room, behind, behind-length, behind-picks, near-kept}
 use native.Mathlib.Omega.{arith}
+use Rattle.planner.proofs.GraphLaws.{Read, header-is, checked-of, handsetPart-length, edges-ready, handsets-there, near-kept}
 use Rattle.planner.proofs.graph.keep_near.Statement.{statement}
 use Rattle.planner.proofs.graph.keep_near.Tie as tie
 
+-- ---- the places that the answers speak of: the header's numbers are read; the edges are dropped; the table is back
+abbrev entry : tie.After-struct-known → tie.Start
+entry c = c .before .before .before .before .before
+
+abbrev start : tie.After-struct-known4 → tie.Start
+start c = entry (c .before .before .before)
+
+abbrev read : tie.After-drop-far-arg5 → tie.After-struct-known4
+read c = c .before .before .before .before .before
+
+abbrev done : tie.After-slice-known6 → tie.After-drop-far
+done c = c .before .before .before .before .before .before
+
 facts : (c : tie.Start) → Read (c .args .image .now) (c .args .h)
-facts c = header-is (c .args .image .now) (c .args .h) (checked-of (c .pre .0 .0)) (c .pre .0 .1)
+facts c = header-is (c .args .image .now) (c .args .h) (checked-of (c .pre .0)) (c .pre .1)
 
 cast-m : tie.Need-cast-m
 cast-m c = omega arith
@@ -24,81 +33,64 @@ mul-b c = omega arith
 add-b : tie.Need-add-b
 add-b c = omega arith
 
-sub-edges : tie.Need-sub-edges
-sub-edges c = omega arith
+cast-from : tie.Need-cast-from
+cast-from c = omega arith
 
-part-edges-start : tie.Need-part-edges-start
-part-edges-start c = omega arith
+cast-to : tie.Need-cast-to
+cast-to c = omega arith
 
-part-edges-end : tie.Need-part-edges-end
-part-edges-end c = let r = facts (c .before .before .before .before .before .before .before .before) in omega (arith, r .length-of, r .fits .edges-to)
+mul-to : tie.Need-mul-to
+mul-to c = omega arith
 
-list-by-length-requires : tie.Need-list-by-length-requires
-list-by-length-requires c κs =
-    let s = c .before .before .before .before .before .before .before .before .before .before in
-    let a = s .args in (
-      facts s .fits .m-limit,
-      s .pre .0 .2,
-      omega (arith, edgePart-length (a .image .now) (a .h) (facts s)),
-      length-ready (a .image .now) (a .h) (s .pre .0 .0) (s .pre .0 .1) (a .xs .now) (a .ys .now) (s .pre .0 .3) (s .pre .0 .4) (s .pre .1 .0),
-    )
+add-to : tie.Need-add-to
+add-to c = omega arith
 
--- the list after the call, which is as long as it was
-abbrev listed : tie.After-list-by-length → List ℕ
-listed c = c .list-by-length .last .1 .1 .1 .1 .1 .0
+sub-drop-far : tie.Need-sub-drop-far
+sub-drop-far c = omega arith
 
-long : (c : tie.After-list-by-length) → c .before .before .before .before .before .before .before .before .before .before .before .args .h .m ≤ length (listed c)
-long c = omega (arith, c .list-by-length .kept .1 .1 .1 .1 .1 .0, c .before .before .before .before .before .before .before .before .before .before .before .pre .0 .2)
+part-drop-far-start : tie.Need-part-drop-far-start
+part-drop-far-start c = omega arith
 
-mul-drop-edges : tie.Need-mul-drop-edges
-mul-drop-edges c = omega (arith, c .before .before .list-by-length .ensures .0, facts (c .before .before .before .before .before .before .before .before .before .before .before .before .before) .fits .m-limit)
+part-drop-far-end : tie.Need-part-drop-far-end
+part-drop-far-end c = let r = facts (start c) in omega (arith, r .length-of, r .fits .handsets-to)
 
-sub-drop-edges : tie.Need-sub-drop-edges
-sub-drop-edges c = omega (arith, c .before .before .list-by-length .ensures .0)
+sub-drop-far-2 : tie.Need-sub-drop-far-2
+sub-drop-far-2 c = omega arith
 
-part-drop-edges-start : tie.Need-part-drop-edges-start
-part-drop-edges-start c = omega (arith, c .before .before .before .list-by-length .ensures .0)
+part-drop-far-start-2 : tie.Need-part-drop-far-start-2
+part-drop-far-start-2 c = omega arith
 
-part-drop-edges-end : tie.Need-part-drop-edges-end
-part-drop-edges-end c = long (c .before .before .before)
+part-drop-far-end-2 : tie.Need-part-drop-far-end-2
+part-drop-far-end-2 c = let r = facts (start (c .before)) in omega (arith, r .length-of, r .fits .edges-to)
 
-cast-drop-edges : tie.Need-cast-drop-edges
-cast-drop-edges c = omega arith
-
-drop-edges-requires : tie.Need-drop-edges-requires
-drop-edges-requires c κs =
-    let s = c .before .before .before .before .before .before .before .before .before .before .before .before .before .before .before .before .before .before in
+drop-far-requires : tie.Need-drop-far-requires
+drop-far-requires c κs =
+    let s = start (read c) in
     let a = s .args in
-    let l = c .before .before .before .before .before .before .before .list-by-length .ensures in
-    let r = facts s in
-    let list = listed (c .before .before .before .before .before .before .before) in
-    let fits = long (c .before .before .before .before .before .before .before) in
-    let picks = behind-picks (a .image .now) (a .h) (s .pre .0 .0) (s .pre .0 .1) list (l .0) fits (l .1 .1) in
-    let dropped = behind (a .image .now) (a .h) (s .pre .0 .0) (s .pre .0 .1) (c .before .before .before .before .before .before .before .list-by-length .result) list in (
-      omega (arith, behind-length (a .image .now) (a .h) (s .pre .0 .0) (s .pre .0 .1) (c .before .before .before .before .before .before .before .list-by-length .result) list (l .0) fits, r .fits .m-limit),
-      s .pre .1 .1 .3,
-      list-room (a .image .now) (a .h) (s .pre .0 .0) (s .pre .0 .1) (laid (rowWords (a .h .n)) (a .table .now)) (a .sizes .now) (s .pre .1 .1 .0) (s .pre .1 .1 .1) dropped picks,
-      list-ends (a .image .now) (a .h) (s .pre .0 .0) (s .pre .0 .1) dropped picks,
+    let r = facts s in (
+      r .fits .m-limit,
+      omega (arith, handsetPart-length (a .image .now) (a .h) r, r .fits .n-limit),
+      s .pre .2,
+      s .pre .3,
+      s .pre .5,
+      λ k l. edges-ready (a .image .now) (a .h) (s .pre .0) (s .pre .1) _ k (handsets-there (a .image .now) (a .h) (s .pre .0) (s .pre .1)) l,
     )
 
 same-length : tie.Need-same-length
-same-length c = c .before .before .before .before .before .before .before .before .before .before .before .before .list-by-length .kept .1 .1 .1 .1 .1 .0
+same-length c = done c .drop-far .kept .1 .1 .1 .1 .0
 
 same-length-2 : tie.Need-same-length-2
-same-length-2 c = c .before .before .before .before .drop-edges .kept .1 .1 .0
+same-length-2 c = done c .drop-far .kept .1 .1 .1 .1 .1 .0
 
 same-length-3 : tie.Need-same-length-3
-same-length-3 c = c .before .before .before .before .drop-edges .kept .1 .1 .1 .0
+same-length-3 c = done c .drop-far .kept .1 .1 .1 .1 .1 .1 .0
 
 returns : tie.Need-returns
 returns c =
-    let s = c .before .before .before .before .before .before .before .before .before .before .before .before .before .before .before .before .before .before .before .before .before .before .before in
-    let a = s .args in
-    let l = c .before .before .before .before .before .before .before .before .before .before .before .before .list-by-length .ensures in
-    let d = c .before .before .before .before .drop-edges .ensures in
-    let list = listed (c .before .before .before .before .before .before .before .before .before .before .before .before) in
-    near-kept (a .image .now) (a .h) (s .pre .0 .0) (s .pre .0 .1) (a .xs .now) (a .ys .now) (s .pre .0 .3) (s .pre .0 .4) (s .pre .1 .0) (s .pre .1 .1 .2) (l .0) (l .1 .0)
-    (behind-picks (a .image .now) (a .h) (s .pre .0 .0) (s .pre .0 .1) list (l .0) (long (c .before .before .before .before .before .before .before .before .before .before .before .before)) (l .1 .1)) (d .0) (d .1)
+    let d = done c in
+    let s = start (read (d .before)) in
+    let e = d .drop-far .ensures in
+    near-kept (s .args .image .now) (s .args .h) (s .pre .0) (s .pre .1) (s .pre .4) (e .0) (e .1 .0) (e .1 .1)
 
 pub keep-near-spec : {M : Type 1} → statement M
 keep-near-spec =
@@ -108,16 +100,17 @@ keep-near-spec =
     cast-a
     mul-b
     add-b
-    sub-edges
-    part-edges-start
-    part-edges-end
-    list-by-length-requires
-    mul-drop-edges
-    sub-drop-edges
-    part-drop-edges-start
-    part-drop-edges-end
-    cast-drop-edges
-    drop-edges-requires
+    cast-from
+    cast-to
+    mul-to
+    add-to
+    sub-drop-far
+    part-drop-far-start
+    part-drop-far-end
+    sub-drop-far-2
+    part-drop-far-start-2
+    part-drop-far-end-2
+    drop-far-requires
     same-length
     same-length-2
     same-length-3

@@ -1,76 +1,120 @@
--- `planner::graph::mark_cores` meets its contract. The words before j hold the handsets in them whose size is large enough, and the others are empty. The
--- measure is how many words are left.
-use Prim.Native.Nat.{ℕ, _*_, _-_, _≤_, _<_}
-use mathlib.Core.Path.{sym, ap, _∙_}
-use mathlib.Core.Bool.{Bool, _&&_}
-use lib.Dec.{leb, ltb, lt→ltb, ltb→lt}
-use lib.ListN.{length, getD, length-replicate}
-use Rattle.sets.specs.Below.{bit}
-use Rattle.sets.proofs.Tests.{and-make, and-left, and-right, T-ext}
-use Rattle.planner.specs.Held.{SetOf}
-use Rattle.planner.proofs.Edges.{filled-none, filled-more}
+-- `planner::graph::mark_cores` meets its contract. After u handsets the set has those of them whose size is large enough: a turn puts the bit of one more
+-- into its word. The measure is how many are left.
+use Prim.Native.Nat.{ℕ, _+_, _*_, _-_, _/_, _%_, _^_, _≤_, _<_}
 use native.Mathlib.Omega.{arith}
+use native.Mathlib.Nat.{mod-lt, zero-lt-suc}
+use mathlib.Core.Path.{_≡_, sym, ap, _∙_}
+use mathlib.Core.Logic.{⊎-elim}
+use mathlib.Core.Bool.{Bool, _&&_}
+use lib.Bits.{bitOr}
+use lib.Dec.{leb, ltb, le→leb, leb→le, not-T}
+use lib.ListN.{length, getD, length-set, length-replicate}
+use Rattle.sets.specs.Below.{bit}
+use Rattle.sets.specs.Bits.{bitAt}
+use Rattle.sets.specs.Rows.{WordOf, SetOf}
+use Rattle.sets.proofs.Bits.{bitAt-zeros}
+use Rattle.sets.proofs.Counting.{bit-true, bit-false}
+use Rattle.planner.proofs.Words.{passed-none, passed-new, passed-self, passed-other, word-at, word-put, put-word}
 use Rattle.planner.proofs.graph.mark_cores.Statement.{statement}
 use Rattle.planner.proofs.graph.mark_cores.Tie as tie
 
 abbrev Inv-loop : tie.InvT-loop
-Inv-loop sizes n mu cores₀ j₀ cores j = (j ≤ 8) × SetOf cores (λ u. ltb u (j * 64) && (ltb u n && leb mu (getD sizes u 0)))
+Inv-loop sizes n mu cores₀ u₀ cores u = (u ≤ n) × SetOf cores (λ v. ltb v u && leb mu (getD sizes v 0))
 
 abbrev μ-loop : tie.MeasureT-loop
-μ-loop sizes n mu cores₀ j₀ cores j = 8 - j
+μ-loop sizes n mu cores₀ u₀ cores u = n - u
+
+-- ---- the places that the answers speak of: the bit is made; the word is read
+abbrev loop : tie.Joined1 Inv-loop μ-loop → tie.At-loop Inv-loop μ-loop
+loop c = c .before .before .before
+
+abbrev made : tie.After-row-known Inv-loop μ-loop → tie.Joined1 Inv-loop μ-loop
+made c = c .before .before
 
 loop-holds : tie.Need-loop-holds Inv-loop μ-loop
-loop-holds c = let s = c .before .before in (omega arith, rw (s .pre .2) (filled-none (λ u. ltb u (s .args .n) && leb (s .args .mu) (getD (s .args .sizes .now) u 0))))
+loop-holds c =
+    let a = c .args in (
+      omega arith,
+      rw (c .pre .2) record {
+        size = length-replicate {A = ℕ} 8 0;
+        bits = λ v h. bitAt-zeros 8 v ∙ sym (ap bit (passed-none v (leb (a .mu) (getD (a .sizes .now) v 0))));
+      },
+    )
 
-mul-loop : tie.Need-mul-loop Inv-loop μ-loop
-mul-loop c = omega (arith, c .loop .inv .0)
+mul-if1 : tie.Need-mul-if1 Inv-loop μ-loop
+mul-if1 c = omega arith
 
-low : (c : tie.In-loop Inv-loop μ-loop) → c .before .loop .j < 8
-low c = omega (arith, c .loop-test .taken, c .before .before .before .before .pre .1)
-
-mul-core-word : tie.Need-mul-core-word Inv-loop μ-loop
-mul-core-word c = omega (arith, low c)
-
-core-word-requires : tie.Need-core-word-requires Inv-loop μ-loop
-core-word-requires c κs = let s = c .before .before .before .before in (s .pre .0, s .pre .1, c .loop-test .taken)
+shared-slice-read-if1 : tie.Need-shared-slice-read-if1 Inv-loop μ-loop
+shared-slice-read-if1 c = omega arith
 
 mul-cores : tie.Need-mul-cores Inv-loop μ-loop
-mul-cores c = omega (arith, low (c .before))
+mul-cores c = omega arith
+
+slice-read-cores : tie.Need-slice-read-cores Inv-loop μ-loop
+slice-read-cores c = omega (arith, loop (c .before) .loop .inv .1 .size)
+
+shl-cores : tie.Need-shl-cores Inv-loop μ-loop
+shl-cores c = omega arith
+
+mul-cores-2 : tie.Need-mul-cores-2 Inv-loop μ-loop
+mul-cores-2 c = omega arith
 
 slice-write-cores : tie.Need-slice-write-cores Inv-loop μ-loop
-slice-write-cores c = omega (arith, low (c .before), c .before .before .loop .inv .1 .size)
+slice-write-cores c = omega (arith, loop (made c) .loop .inv .1 .size)
 
-add-j : tie.Need-add-j Inv-loop μ-loop
-add-j c = omega (arith, low (c .before))
+add-u : tie.Need-add-u Inv-loop μ-loop
+add-u c = omega arith
 
 loop-less : tie.Need-loop-less Inv-loop μ-loop
-loop-less c = omega (arith, low (c .before))
+loop-less c = omega arith
+
+-- the bit is the test of the handset
+told : (c : tie.Joined1 Inv-loop μ-loop) → (let a = loop c .before .args in c .if1 .one ≡ bit (leb (a .mu) (getD (a .sizes .now) (loop c .loop .u) 0)))
+told c =
+    let a = loop c .before .args in
+    let size : ℕ = getD (a .sizes .now) (loop c .loop .u) 0 in
+    ⊎-elim
+    (λ w. w .1 ∙ sym (bit-true (leb (a .mu) size) (le→leb (a .mu) size (w .0 .taken))))
+    (λ w. w .1 ∙ sym (bit-false (leb (a .mu) size) (not-T (leb (a .mu) size) (λ t. omega (arith, leb→le (a .mu) size t, w .0 .left)))))
+    (c .if1 .came)
 
 loop-again : tie.Need-loop-again Inv-loop μ-loop
 loop-again c =
-    let a = c .before .before .before .before .before .args in
-    let l = c .before .before .loop in (
-      omega (arith, low (c .before)),
-      filled-more (l .cores) (c .core-word .result) (λ u. ltb u (a .n) && leb (a .mu) (getD (a .sizes .now) u 0)) (l .j) (low (c .before)) (c .core-word .ensures) (l .inv .1),
+    let m = made c in
+    let a = loop m .before .args in
+    let l = loop m .loop in
+    let u : ℕ = l .u in
+    let low : u < 512 = omega (arith, loop m .before .pre .1) in
+    let j : ℕ = u / 64 in
+    let k : ℕ = u % 64 in
+    let whole : 64 * j + k ≡ u = omega arith in
+    let f : ℕ → Bool = λ v. ltb v u && leb (a .mu) (getD (a .sizes .now) v 0) in
+    let g : ℕ → Bool = λ v. ltb v (u + 1) && leb (a .mu) (getD (a .sizes .now) v 0) in
+    let others : (v : ℕ) → (v ≡ u → ⊥) → g v ≡ f v = λ v. passed-other u v (leb (a .mu) (getD (a .sizes .now) v 0)) in
+    let word : WordOf (bitOr (getD (l .cores) j 0) (m .if1 .one * 2 ^ k % 2 ^ 64)) (λ i. g (64 * j + i)) =
+    word-put (getD (l .cores) j 0) k (λ i. f (64 * j + i)) (λ i. g (64 * j + i)) (mod-lt u (zero-lt-suc 63))
+    (rw whole (passed-new u (leb (a .mu) (getD (a .sizes .now) u 0))))
+    (λ i d. others (64 * j + i) (λ e. d (omega arith)))
+    (word-at (l .cores) j f (λ i h. let p : j * 64 + i ≡ 64 * j + i = omega arith in ap (bitAt (l .cores)) p ∙ l .inv .1 .bits (64 * j + i) (omega arith)))
+    (m .if1 .one) (told m ∙ sym (ap (λ (v : ℕ). bit (g v)) whole ∙ ap bit (passed-self u (leb (a .mu) (getD (a .sizes .now) u 0))))) in (
+      omega arith,
+      record {
+        size = length-set (l .cores) j _ ∙ l .inv .1 .size;
+        bits = λ v h.
+            put-word (l .cores) j _ f g (omega (arith, l .inv .1 .size)) word
+            (λ x d. others x (λ e. d (ap (λ (y : ℕ). y / 64) e))) v (l .inv .1 .bits v h);
+      },
     )
 
 same-length : tie.Need-same-length Inv-loop μ-loop
-same-length c = c .before .loop .inv .1 .size ∙ sym (ap length (c .before .before .before .before .pre .2) ∙ length-replicate {A = ℕ} 8 0)
+same-length c = c .before .loop .inv .1 .size ∙ sym (ap length (c .before .before .pre .2) ∙ length-replicate {A = ℕ} 8 0)
 
 returns : tie.Need-returns Inv-loop μ-loop
 returns c =
-    let a = c .before .before .before .before .args in
+    let a = c .before .before .args in
     let l = c .before .loop in
-    let f : ℕ → Bool = λ u. ltb u (a .n) && leb (a .mu) (getD (a .sizes .now) u 0) in
-    record {
-      size = l .inv .1 .size;
-      bits = λ u h.
-          l .inv .1 .bits u h
-          ∙ ap bit (T-ext (ltb u (l .j * 64) && f u) (f u)
-          (λ t. and-right (ltb u (l .j * 64)) (f u) t)
-          (λ t. and-make (ltb u (l .j * 64)) (f u)
-          (lt→ltb u (l .j * 64) (omega (arith, c .loop-test .left, ltb→lt u (a .n) (and-left (ltb u (a .n)) (leb (a .mu) (getD (a .sizes .now) u 0)) t)))) t));
-    }
+    let e : l .u ≡ a .n = omega arith in
+    rw (← e) (l .inv .1)
 
 pub mark-cores-spec : {M : Type 1} → statement M
 mark-cores-spec =
@@ -79,12 +123,14 @@ mark-cores-spec =
     Inv-loop
     μ-loop
     loop-holds
-    mul-loop
-    mul-core-word
-    core-word-requires
+    mul-if1
+    shared-slice-read-if1
     mul-cores
+    slice-read-cores
+    shl-cores
+    mul-cores-2
     slice-write-cores
-    add-j
+    add-u
     loop-less
     loop-again
     same-length

@@ -1,0 +1,125 @@
+-- `planner::graph::keep_unlike` meets its contract. The first j words have those of their edges that do not have enough, and the others are as before. The
+-- measure is how many words are left.
+use Prim.Native.Nat.{ℕ, _*_, _+_, _-_, _≤_, _<_, _^_}
+use native.Mathlib.Omega.{arith}
+use mathlib.Core.Path.{_≡_, sym, ap, _∙_}
+use mathlib.Core.Bool.{Bool, not}
+use lib.Dec.{eqb, eqb→eq}
+use lib.ListN.{getD}
+use Rattle.sets.specs.Bits.{bitAt}
+use Rattle.sets.specs.Rows.{WordOf}
+use Rattle.sets.proofs.Tests.{and-left}
+use Rattle.image.specs.Image.{endA, endB}
+use Rattle.planner.specs.Held.{EdgeSet, enough}
+use Rattle.planner.proofs.Words.{word-at, partly, partly-start, partly-on, partly-end}
+use Rattle.planner.proofs.Edges.{word-passes}
+use Rattle.planner.proofs.graph.keep_unlike.Statement.{statement}
+use Rattle.planner.proofs.graph.keep_unlike.Tie as tie
+
+abbrev Inv-loop : tie.InvT-loop
+Inv-loop edges table sizes m p q set₀ j₀ set j = (j ≤ 64) × EdgeSet set (partly set₀ (λ k. not (enough table sizes p q (endA edges k) (endB edges k))) j)
+
+abbrev μ-loop : tie.MeasureT-loop
+μ-loop edges table sizes m p q set₀ j₀ set j = 64 - j
+
+-- ---- the places that the answers speak of
+abbrev start : tie.At-loop Inv-loop μ-loop → tie.Start Inv-loop μ-loop
+start c = c .before .before .before .before .before
+
+-- the word is read
+abbrev loop : tie.After-slice-known2 Inv-loop μ-loop → tie.At-loop Inv-loop μ-loop
+loop c = c .before .before
+
+-- the test of an edge
+abbrev test : tie.At-loop Inv-loop μ-loop → ℕ → Bool
+test c k = let a = start c .args in not (enough (a .table .now) (a .sizes .now) (a .p) (a .q) (endA (a .edges .now) k) (endB (a .edges .now) k))
+
+loop-holds : tie.Need-loop-holds Inv-loop μ-loop
+loop-holds c = let s = c .before .before .before .before in (omega arith, partly-start (s .args .set .now) _ (s .pre .1))
+
+mul-loop : tie.Need-mul-loop Inv-loop μ-loop
+mul-loop c = omega (arith, c .loop .inv .0)
+
+low : (c : tie.In-loop Inv-loop μ-loop) → c .before .loop .j < 64
+low c = omega (arith, c .loop-test .taken, start (c .before) .pre .0)
+
+mul-unlike-word : tie.Need-mul-unlike-word Inv-loop μ-loop
+mul-unlike-word c = omega (arith, low c)
+
+slice-read-unlike-word : tie.Need-slice-read-unlike-word Inv-loop μ-loop
+slice-read-unlike-word c = omega (arith, low (c .before), loop c .loop .inv .1 .size)
+
+mul-unlike-word-2 : tie.Need-mul-unlike-word-2 Inv-loop μ-loop
+mul-unlike-word-2 c = omega (arith, low (c .before))
+
+-- the word that is read has edges of the set
+word : (c : tie.After-slice-known2 Inv-loop μ-loop)
+    → (let l = loop c .loop in (getD (l .set) (l .j) 0 < 2 ^ 64) × WordOf (getD (l .set) (l .j) 0) (λ i. partly (start (loop c) .args .set .now) (test (loop c)) (l .j) (64 * l .j + i)))
+word c =
+    let l = loop c .loop in
+    let j : ℕ = l .j in (
+      c .slice-known2 .given j .fits,
+      word-at (l .set) j (partly (start (loop c) .args .set .now) (test (loop c)) j)
+          (λ i h. let p : j * 64 + i ≡ 64 * j + i = omega arith in ap (bitAt (l .set)) p ∙ l .inv .1 .bits (64 * j + i) (omega (arith, low (c .before)))),
+    )
+
+unlike-word-requires : tie.Need-unlike-word-requires Inv-loop μ-loop
+unlike-word-requires c κs =
+    let s = start (loop c) in
+    let l = loop c .loop in
+    let set = s .args .set .now in (
+      omega (arith, low (c .before)),
+      s .pre .2,
+      s .pre .3,
+      s .pre .4,
+      s .pre .5,
+      λ k t.
+          s .pre .6 k (eqb→eq (bitAt set k) 1 (and-left (eqb (bitAt set k) 1) _
+          (word-passes (getD (l .set) (l .j) 0) (l .j) (partly set (test (loop c)) (l .j)) (word c .0) (word c .1) k t .2))) .1,
+    )
+
+mul-set : tie.Need-mul-set Inv-loop μ-loop
+mul-set c = omega (arith, low (c .before .before))
+
+slice-write-set : tie.Need-slice-write-set Inv-loop μ-loop
+slice-write-set c = omega (arith, low (c .before .before), loop (c .before) .loop .inv .1 .size)
+
+add-j : tie.Need-add-j Inv-loop μ-loop
+add-j c = omega (arith, low (c .before .before))
+
+loop-less : tie.Need-loop-less Inv-loop μ-loop
+loop-less c = omega (arith, low (c .before .before))
+
+loop-again : tie.Need-loop-again Inv-loop μ-loop
+loop-again c =
+    let m = loop (c .before) in
+    let l = m .loop in
+    (omega (arith, low (c .before .before)), partly-on (start m .args .set .now) (test m) (l .j) (c .unlike-word .result) (low (c .before .before)) (l .inv .1) (c .unlike-word .ensures))
+
+same-length : tie.Need-same-length Inv-loop μ-loop
+same-length c = c .before .loop .inv .1 .size ∙ sym (start (c .before) .pre .1)
+
+returns : tie.Need-returns Inv-loop μ-loop
+returns c =
+    let s = start (c .before) in
+    partly-end (s .args .set .now) (test (c .before)) (s .args .m) (c .before .loop .j) (omega (arith, c .loop-test .left)) (λ k e. s .pre .6 k e .0) (c .before .loop .inv .1)
+
+pub keep-unlike-spec : {M : Type 1} → statement M
+keep-unlike-spec =
+    tie.close
+    (tie.spec
+    Inv-loop
+    μ-loop
+    loop-holds
+    mul-loop
+    mul-unlike-word
+    slice-read-unlike-word
+    mul-unlike-word-2
+    unlike-word-requires
+    mul-set
+    slice-write-set
+    add-j
+    loop-less
+    loop-again
+    same-length
+    returns)

@@ -1,0 +1,66 @@
+-- `planner::graph::near` meets its contract: the parts handed on are the records of the two ends.
+use Prim.Native.Nat.{ℕ}
+use native.Mathlib.Omega.{arith}
+use mathlib.Core.Path.{ap₂, _∙_}
+use mathlib.Core.List.{List}
+use lib.Dec.{leb}
+use Rattle.image.specs.Image.{distanceBetween}
+use Rattle.image.proofs.Records.{handset-part}
+use Rattle.planner.proofs.graph.near.Statement.{statement}
+use Rattle.planner.proofs.graph.near.Tie as tie
+
+mul-a : tie.Need-mul-a
+mul-a c = omega arith
+
+add-a-past : tie.Need-add-a-past
+add-a-past c = omega arith
+
+mul-b : tie.Need-mul-b
+mul-b c = omega arith
+
+add-b-past : tie.Need-add-b-past
+add-b-past c = omega arith
+
+sub-within : tie.Need-sub-within
+sub-within c = omega arith
+
+part-within-start : tie.Need-part-within-start
+part-within-start c = omega arith
+
+part-within-end : tie.Need-part-within-end
+part-within-end c = omega arith
+
+sub-within-2 : tie.Need-sub-within-2
+sub-within-2 c = omega arith
+
+part-within-start-2 : tie.Need-part-within-start-2
+part-within-start-2 c = omega arith
+
+part-within-end-2 : tie.Need-part-within-end-2
+part-within-end-2 c = omega arith
+
+within-requires : tie.Need-within-requires
+within-requires c κs = tt
+
+returns : tie.Need-returns
+returns c =
+    let a = c .before .before .before .before .before .before .args in
+    c .within .ensures
+    ∙ ap₂ (λ (x y : List ℕ). leb (distanceBetween x y) (a .limit)) (handset-part (a .handsets .now) (a .e .a)) (handset-part (a .handsets .now) (a .e .b))
+
+pub near-spec : {M : Type 1} → statement M
+near-spec =
+    tie.close
+    (tie.spec
+    mul-a
+    add-a-past
+    mul-b
+    add-b-past
+    sub-within
+    part-within-start
+    part-within-end
+    sub-within-2
+    part-within-start-2
+    part-within-end-2
+    within-requires
+    returns)

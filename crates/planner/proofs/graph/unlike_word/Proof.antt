@@ -1,0 +1,125 @@
+-- `planner::graph::unlike_word` meets its contract. The word made has the bits that are no longer in w and whose edges do not have enough: a turn looks at the
+-- edge of the lowest set bit and clears the bit. The measure is how many bits are left.
+use Prim.Native.Nat.{ℕ, _+_, _<_}
+use native.Mathlib.Omega.{arith}
+use mathlib.Core.Path.{_≡_, sym, ap, ap₂, _∙_}
+use mathlib.Core.Logic.{⊎-elim}
+use mathlib.Core.Bool.{Bool, not}
+use lib.Count.{trailingZeros}
+use Rattle.sets.specs.Below.{sum, bit}
+use Rattle.sets.specs.Bits.{bitOf}
+use Rattle.sets.proofs.Bits.{bitOf-lt}
+use Rattle.sets.proofs.Lowest.{Lowest, lowest, cleared-falls}
+use Rattle.image.specs.Image.{endA, endB}
+use Rattle.planner.specs.Held.{HasEnds, enough}
+use Rattle.planner.proofs.Words.{Filtering, filtering-start, filtering-on, filtering-end}
+use Rattle.planner.proofs.Edges.{word-in-at}
+use Rattle.planner.proofs.graph.unlike_word.Statement.{statement}
+use Rattle.planner.proofs.graph.unlike_word.Tie as tie
+
+abbrev Inv-loop : tie.InvT-loop
+Inv-loop edges word base table sizes p q w₀ unlike₀ w unlike = Filtering word (λ k. not (enough table sizes p q (endA edges (base + k)) (endB edges (base + k)))) w unlike
+
+abbrev μ-loop : tie.MeasureT-loop
+μ-loop edges word base table sizes p q w₀ unlike₀ w unlike = sum 64 (bitOf w)
+
+-- ---- the places that the answers speak of
+abbrev start : tie.At-loop Inv-loop μ-loop → tie.Start Inv-loop μ-loop
+start c = c .before .before .before .before
+
+-- the edge is tested
+abbrev turn : tie.Joined1 Inv-loop μ-loop → tie.In-loop Inv-loop μ-loop
+turn c = c .before .before .before
+
+-- the test of an edge
+abbrev test : tie.At-loop Inv-loop μ-loop → ℕ → Bool
+test c k =
+    let a = start c .args in
+    not (enough (a .table .now) (a .sizes .now) (a .p) (a .q) (endA (a .edges .now) (a .base + k)) (endB (a .edges .now) (a .base + k)))
+
+loop-holds : tie.Need-loop-holds Inv-loop μ-loop
+loop-holds c = let s = c .before .before .before in filtering-start (s .args .word) _ (s .fits .word .fits)
+
+-- ---- the edge of the lowest set bit
+abbrev low : tie.In-loop Inv-loop μ-loop → ℕ
+low c = trailingZeros 64 (c .before .loop .w)
+
+first : (c : tie.In-loop Inv-loop μ-loop) → (low c < 64) × Lowest (c .before .loop .w) (low c)
+first c = lowest 64 (c .before .loop .w) (omega arith) (c .before .loop .inv .fits)
+
+edge : (c : tie.In-loop Inv-loop μ-loop) → (let a = start (c .before) .args in HasEnds (a .edges .now) 512 (a .base + low c))
+edge c =
+    let s = start (c .before) in
+    let a = s .args in
+    s .pre .5 (a .base + low c)
+    (word-in-at (a .word) (a .base) (low c) (omega (arith, c .before .loop .inv .sub (low c), first c .1 .here, bitOf-lt (a .word) (low c))))
+
+cast-ends-at : tie.Need-cast-ends-at Inv-loop μ-loop
+cast-ends-at c = omega (arith, first c .0)
+
+add-ends-at : tie.Need-add-ends-at Inv-loop μ-loop
+add-ends-at c = omega (arith, first c .0, start (c .before) .pre .0)
+
+ends-at-requires : tie.Need-ends-at-requires Inv-loop μ-loop
+ends-at-requires c κs = (edge c .0, edge c .1)
+
+have-enough-requires : tie.Need-have-enough-requires Inv-loop μ-loop
+have-enough-requires c κs =
+    let s = start (c .before .before) in
+    let e = edge (c .before) in
+    (omega (arith, e .2, c .ends-at .ensures .0), omega (arith, e .3, c .ends-at .ensures .1), s .pre .1, s .pre .2, s .pre .3, s .pre .4)
+
+-- the bit is the test of the edge
+told : (c : tie.Joined1 Inv-loop μ-loop) → c .if1 .one ≡ bit (test (turn c .before) (low (turn c)))
+told c =
+    let a = start (turn c .before) .args in
+    let r = c .before .before .ends-at .ensures in
+    let e = c .before .have-enough .ensures ∙ ap₂ (enough (a .table .now) (a .sizes .now) (a .p) (a .q)) (r .0) (r .1) in
+    ⊎-elim
+    (λ w. w .1 ∙ ap (λ (b : Bool). bit (not b)) (sym (w .0 .taken) ∙ e))
+    (λ w. w .1 ∙ ap (λ (b : Bool). bit (not b)) (sym (w .0 .left) ∙ e))
+    (c .if1 .came)
+
+cast-unlike : tie.Need-cast-unlike Inv-loop μ-loop
+cast-unlike c = omega (arith, first (turn c) .0)
+
+shl-unlike : tie.Need-shl-unlike Inv-loop μ-loop
+shl-unlike c = omega (arith, first (turn (c .before)) .0)
+
+cast-w : tie.Need-cast-w Inv-loop μ-loop
+cast-w c = omega (arith, first (turn (c .before)) .0)
+
+shl-w : tie.Need-shl-w Inv-loop μ-loop
+shl-w c = omega (arith, first (turn (c .before)) .0)
+
+loop-less : tie.Need-loop-less Inv-loop μ-loop
+loop-less c =
+    let i = turn (c .before) in
+    cleared-falls (i .before .loop .w) (low i) (first i .0) (first i .1 .here)
+
+loop-again : tie.Need-loop-again Inv-loop μ-loop
+loop-again c =
+    let i = turn (c .before) in
+    filtering-on (start (i .before) .args .word) (test (i .before)) (low i) (c .before .if1 .one) (first i .0) (first i .1 .here) (told (c .before)) (i .before .loop .inv)
+
+returns : tie.Need-returns Inv-loop μ-loop
+returns c = filtering-end (start (c .before) .args .word) (test (c .before)) (omega (arith, c .loop-test .left)) (c .before .loop .inv)
+
+pub unlike-word-spec : {M : Type 1} → statement M
+unlike-word-spec =
+    tie.close
+    (tie.spec
+    Inv-loop
+    μ-loop
+    loop-holds
+    cast-ends-at
+    add-ends-at
+    ends-at-requires
+    have-enough-requires
+    cast-unlike
+    shl-unlike
+    cast-w
+    shl-w
+    loop-less
+    loop-again
+    returns)
