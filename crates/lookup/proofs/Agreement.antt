@@ -8,10 +8,11 @@ use native.Mathlib.Omega.{arith}
 use mathlib.Core.Path.{_≡_, refl, sym, ap, _∙_}
 use mathlib.Core.Bool.{Bool, true, false, cond}
 use mathlib.Core.List.{List, [], _∷_}
-use lib.ListN.{length, take, drop}
+use lib.ListN.{length, take, drop, length-take, length-drop}
 use lib.Seq.{slice}
 use borrow.Author.Tests.{lt-ltb, le-ltb, le-leb, lt-leb}
 use Rattle.lookup.specs.Lookup.{startOf, placed, between, membersOf, refusal14, lookedOf, spanOf, Agree}
+use Rattle.lookup.specs.declared.Span.{Span}
 use Rattle.lookup.specs.declared.Looked.the-variants.{Found, Refused}
 
 module _ (s : List ℕ) (size k : ℕ) where
@@ -48,7 +49,7 @@ module _ (starts table : List ℕ) (k : ℕ) where
   unfolding membersOf
   members-no e = simp e
 
-  pub looked-yes : placed starts (length table) k ≡ true → lookedOf starts table k ≡ Found
+  pub looked-yes : placed starts (length table) k ≡ true → lookedOf starts table k ≡ Found (length (membersOf starts table k))
   unfolding lookedOf
   looked-yes e = simp e
 
@@ -64,23 +65,27 @@ module _ (starts table : List ℕ) (k : ℕ) where
       go true e = rw (span-yes starts (length table) k e) (members-yes e)
       go false e = rw (span-no starts (length table) k e) (members-no e)
 
-  pub looked-span : lookedOf starts table k ≡ cond (spanOf starts (length table) k .found) Found (Refused refusal14)
-  looked-span = go (placed starts (length table) k) refl
+  pub looked-span : (r : Span) → r ≡ spanOf starts (length table) k → r .past ≤ length table
+      → lookedOf starts table k ≡ cond (r .found) (Found (r .past - r .first)) (Refused refusal14)
+  looked-span r d h = go (placed starts (length table) k) refl
     where
-      go : (b : Bool) → placed starts (length table) k ≡ b → lookedOf starts table k ≡ cond (spanOf starts (length table) k .found) Found (Refused refusal14)
-      go true e = rw (span-yes starts (length table) k e) (looked-yes e)
-      go false e = rw (span-no starts (length table) k e) (looked-no e)
+      go : (b : Bool) → placed starts (length table) k ≡ b → lookedOf starts table k ≡ cond (r .found) (Found (r .past - r .first)) (Refused refusal14)
+      go true e =
+          let s = d ∙ span-yes starts (length table) k e in
+          let inside : startOf starts (k + 1) ≤ length table = rw s at h in
+          rw s (looked-yes e ∙ ap Found (ap length (members-yes e) ∙ simp (length-take, length-drop) (omega arith)))
+      go false e = rw (d ∙ span-no starts (length table) k e) (looked-no e)
 
   pub agree : Agree starts table k (membersOf starts table k) (lookedOf starts table k)
   agree = go (placed starts (length table) k) refl
     where
       go : (b : Bool) → placed starts (length table) k ≡ b → Agree starts table k (membersOf starts table k) (lookedOf starts table k)
       go true e = record {
-        found = λ f. (rw e tt, members-yes e);
+        found = λ n f. let l = looked-yes e in (rw e tt, members-yes e, cc);
         refused = λ r f. let l = looked-yes e in let z : _≡_ {A = ℕ} 0 1 = cc in absurd (omega arith);
       }
       go false e = record {
-        found = λ f. let l = looked-no e in let z : _≡_ {A = ℕ} 0 1 = cc in absurd (omega arith);
+        found = λ n f. let l = looked-no e in let z : _≡_ {A = ℕ} 0 1 = cc in absurd (omega arith);
         refused = λ r f. let l = looked-no e in ((λ t. rw e at t), cc, members-no e);
       }
 

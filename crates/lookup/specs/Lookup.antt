@@ -2,7 +2,7 @@
 --
 --     placed starts size k         question 14: k + 1 is a place in the start table, and start k ≤ start k+1 ≤ size, the member table's length
 --     membersOf starts table k     the part of the member table from start k up to start k+1; empty where the question gets a no
---     lookedOf starts table k      the companion's answer: that there is no refusal, or 14 with place 0
+--     lookedOf starts table k      the companion's answer: the count of these members, or 14 with place 0
 --     Agree part looked            what a part and the companion's answer on the same tables and k have to do with each other
 --
 -- The laws are in proofs/Agreement.
@@ -36,8 +36,8 @@ abbrev pub refusal14 : Refusal
 refusal14 = record { number = 14; place = 0 }
 
 unfoldable pub lookedOf : List ℕ → List ℕ → ℕ → Looked
-unfolding placed
-lookedOf starts table k = cond (placed starts (length table) k) Found (Refused refusal14)
+unfolding placed membersOf
+lookedOf starts table k = cond (placed starts (length table) k) (Found (length (membersOf starts table k))) (Refused refusal14)
 
 -- the question's answer, with the part's two places; both 0 where it is a no
 unfoldable pub spanOf : List ℕ → ℕ → ℕ → Span
@@ -47,7 +47,8 @@ spanOf starts size k =
     (record { found = true; first = startOf starts k; past = startOf starts (k + 1) })
     (record { found = false; first = 0; past = 0 })
 
--- the lookup and its companion agree: a part is given where there is no refusal, 14 is the only refusal, and the part is then empty
+-- the lookup and its companion agree: a part is given where there is no refusal, with the count of its members; 14 is the only refusal, and the part is
+-- then empty
 pub record Agree (starts table : List ℕ) (k : ℕ) (part : List ℕ) (looked : Looked) : Type 0 where
-  pub found : looked ≡ Found → T (placed starts (length table) k) × (part ≡ between (startOf starts k) (startOf starts (k + 1)) table)
+  pub found : (n : ℕ) → looked ≡ Found n → T (placed starts (length table) k) × (part ≡ between (startOf starts k) (startOf starts (k + 1)) table) × (n ≡ length part)
   pub refused : (r : Refusal) → looked ≡ Refused r → (T (placed starts (length table) k) → ⊥) × (r ≡ refusal14) × (part ≡ [])

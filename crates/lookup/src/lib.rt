@@ -1,15 +1,16 @@
 // Members of a group: a part of the caller's member table, and the companion that says whether there is one.
 //
 // The definitions are in specs/Lookup. Callers cite proofs/Agreement: the part and the companion's answer agree, and question 14 is answered
-// yes exactly where the companion finds the group.
+// yes exactly where the companion finds the group; `looked-same` of proofs/Answers makes an equation of the companion's answer.
 ghost use mathlib.Core.Path.{_≡_};
 ghost use Prim.Native.Nat.{_≤_};
 ghost use Rattle.lookup.specs.Lookup.{spanOf, membersOf, lookedOf};
+ghost use Rattle.lookup.specs.Answers.{lookAnswer};
 use image::Refusal;
 
-// What the companion answers: that group k is there, or the refusal.
+// What the companion answers: how many members group k has, or the refusal.
 pub enum Looked {
-    Found,
+    Found(usize),
     Refused(Refusal),
 }
 
@@ -63,13 +64,14 @@ pub fn members<'a>(starts: &'a [u32], table: &'a [u16], k: usize) -> &'a [u16]
     &table[a..b]
 }
 
-// The companion of `members`, on the same arguments: refusal 14 with place 0, or that there is none.
+// The companion of `members`, on the same arguments: refusal 14 with place 0, or the count of the members.
 pub fn find_group(starts: &[u32], table: &[u16], k: usize) -> Looked
-    ensures { λ r. ⌜ r ≡ lookedOf (now (starts .entry)) (now (table .entry)) k ⌝ }
+    ensures { λ r. ⌜ lookAnswer r ≡ lookAnswer (lookedOf (now (starts .entry)) (now (table .entry)) k) ⌝ }
 {
     let s = find_span(starts, table.len(), k);
     if s.found {
-        Looked::Found
+        let count = s.past - s.first;
+        Looked::Found(count)
     } else {
         Looked::Refused(Refusal {
             number: 14,

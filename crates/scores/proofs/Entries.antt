@@ -1,35 +1,40 @@
 -- Laws of the entries counted into a table: what its loop keeps, and that a table of multiplicities makes the tally.
 --
---     listed              a list that question 13 passes, for at most 512 handsets
+--     listed              the entries of a list that question 13 passes, for at most 512 handsets
 --     blank               a new table is blank
 --     counted-more        one more entry counted
 --     counted-all         all counted: the table of multiplicities
 --     entries-no, none-bad, entries-yes     question 13, by the place where the scan of the entries stopped
 --     entries-good        a list of at most 512 entries, all below n, passes question 13
 --     table-le            no place holds more than 512
---     tied-more, tied-le, leaving-more, leaving-le     one more edge, and how much the edges passed make
+--     tiesOf, leaves      what one edge adds to t, and whether it adds to o, by a table; ties-le: at most 512 * 512
+--     tied-more, tied-le, leaving-more, leaving-le     one more edge, and how much the first edges make
+--     ends-at             the record of edge k holds its two ends
 --     table-tally         the counts by a table of multiplicities are the tally over the part
-use Prim.Native.Nat.{ℕ, zero, suc, _+_, _*_, _≤_, _<_, min}
+use Prim.Native.Nat.{ℕ, zero, suc, _+_, _*_, _-_, _≤_, _<_}
 use native.Mathlib.Omega.{arith}
 use native.Mathlib.Numerals.{add-one}
 use native.Mathlib.Decide.{ℕ-discrete, decLt}
-use native.Mathlib.Nat.{mul-le-mul}
+use native.Mathlib.Nat.{add-zero, add-sub-cancel-left, mul-le-mul}
 use mathlib.Core.Path.{_≡_, refl, sym, ap, ap₂, _∙_}
 use mathlib.Core.Logic.{_⊎_, inl, inr, ⊎-elim}
-use mathlib.Core.Bool.{Bool, true, false, not}
+use mathlib.Core.Bool.{Bool, true, false, _&&_, not, cond}
 use mathlib.Core.List.{List}
 use lib.Dec.{T, leb, eqb, not-T, le→leb, leb→le}
-use lib.ListN.{length, getD, set, length-replicate, getD-replicate, List·getD-eq-default}
+use lib.ListN.{length, getD, set, take, drop, length-replicate, getD-replicate, List·getD-eq-default}
 use lib.Seq.{getD-set-same, getD-set-other}
 use Rattle.sets.specs.Below.{any, count, sum, bit, find}
 use Rattle.sets.proofs.Tests.{or-left, or-right, or-cases, decide, not-any, none-any, find-law, find-none, eqb-of, eqb-not, T-true, T-false}
 use Rattle.sets.proofs.Bits.{zeros}
 use Rattle.sets.proofs.Counting.{count-cong, count-le, count-yes, count-no, sum-cong}
+use Rattle.fields.specs.Bytes.{number}
+use Rattle.fields.specs.Fields.{endsOf}
+use Rattle.fields.proofs.Bytes.{number-part}
 use Rattle.image.specs.Image.{endA, endB}
 use Rattle.community.specs.Network.{contains}
 use Rattle.community.specs.Scores.{pairs, justOne}
-use Rattle.scores.specs.Scored.{badEntry, askEntries, multiplicity, edgesIn, tallyAt}
-use Rattle.scores.specs.Held.{Listed, Blank, Multiplicities, tiedBy, leavingBy}
+use Rattle.scores.specs.Scored.{badEntry, askEntries}
+use Rattle.scores.specs.Held.{multiplicity, tallyAt, Listed, Blank, Multiplicities, tiedBy, leavingBy}
 use Rattle.scores.specs.declared.Tally.{Tally}
 use Rattle.scores.specs.declared.Tallied.the-variants as T
 use Rattle.scores.proofs.Pairing.{multiplicity-le, multiplicity-contains}
@@ -39,9 +44,9 @@ unfolding badEntry
 some-bad n l i w =
     ⊎-elim (λ h. or-left (leb n (getD l i 0)) (leb 512 i) (le→leb n (getD l i 0) h)) (λ h. or-right (leb n (getD l i 0)) (leb 512 i) (le→leb 512 i h)) w
 
-module _ (n : ℕ) (l : List ℕ) (t : T (not (any (length l) (badEntry (min n 512) l)))) where
-  not-bad : (i : ℕ) → i < length l → (min n 512 ≤ getD l i 0) ⊎ (512 ≤ i) → ⊥
-  not-bad i h w = not-any (length l) (badEntry (min n 512) l) i t h (some-bad (min n 512) l i w)
+module _ (n : ℕ) (l : List ℕ) (few : n ≤ 512) (t : T (not (any (length l) (badEntry n l)))) where
+  not-bad : (i : ℕ) → i < length l → (n ≤ getD l i 0) ⊎ (512 ≤ i) → ⊥
+  not-bad i h w = not-any (length l) (badEntry n l) i t h (some-bad n l i w)
 
   is-short : Dec (512 < length l) → length l ≤ 512
   is-short (yes h) = absurd (not-bad 512 h (inr (omega arith)))
@@ -119,41 +124,61 @@ pub bit-le : (b : Bool) → bit b ≤ 1
 bit-le true = omega arith
 bit-le false = omega arith
 
-module _ (table part : List ℕ) where
-  pub tied-none : tiedBy table part 0 ≡ 0
+module _ (table part : List ℕ) (test : ℕ → Bool) where
+  -- what edge k adds to t, and whether it adds to o, by a table
+  abbrev pub tiesOf : ℕ → ℕ
+  tiesOf k = cond (test k) (getD table (endA part k) 0 * getD table (endB part k) 0) 0
+
+  abbrev pub leaves : ℕ → Bool
+  leaves k = test k && justOne (leb 1 (getD table (endA part k) 0)) (leb 1 (getD table (endB part k) 0))
+
+  pub tied-none : tiedBy table part test 0 ≡ 0
   unfolding tiedBy sum
   tied-none = refl
 
-  pub leaving-none : leavingBy table part 0 ≡ 0
+  pub leaving-none : leavingBy table part test 0 ≡ 0
   unfolding leavingBy count
   leaving-none = refl
 
-  pub tied-more : (k : ℕ) → tiedBy table part (k + 1) ≡ tiedBy table part k + getD table (endA part k) 0 * getD table (endB part k) 0
+  pub tied-more : (k : ℕ) → tiedBy table part test (k + 1) ≡ tiedBy table part test k + tiesOf k
   unfolding tiedBy sum
   tied-more k = rw (add-one k) (omega arith)
 
-  pub leaving-more : (k : ℕ) → leavingBy table part (k + 1) ≡ leavingBy table part k + bit (justOne (leb 1 (getD table (endA part k) 0)) (leb 1 (getD table (endB part k) 0)))
+  pub leaving-more : (k : ℕ) → leavingBy table part test (k + 1) ≡ leavingBy table part test k + bit (leaves k)
   unfolding leavingBy count
   leaving-more k = rw (add-one k) (omega arith)
 
-  pub leaving-le : (k : ℕ) → leavingBy table part k ≤ k
+  pub leaving-le : (k : ℕ) → leavingBy table part test k ≤ k
   unfolding leavingBy
   leaving-le k = count-le k _
 
-  pub product-le : ((v : ℕ) → getD table v 0 ≤ 512) → (a b : ℕ) → getD table a 0 * getD table b 0 ≤ 262144
-  product-le h a b = mul-le-mul {n₂ = 512} {m₂ = 512} (h a) (h b)
+  module _ (h : (v : ℕ) → getD table v 0 ≤ 512) where
+    pub ties-le : (k : ℕ) → tiesOf k ≤ 262144
+    ties-le k = pick (test k)
+      where
+        pick : (b : Bool) → cond b (getD table (endA part k) 0 * getD table (endB part k) 0) 0 ≤ 262144
+        pick true = mul-le-mul {n₂ = 512} {m₂ = 512} (h (endA part k)) (h (endB part k))
+        pick false = omega arith
 
-  pub tied-le : ((v : ℕ) → getD table v 0 ≤ 512) → (k : ℕ) → tiedBy table part k ≤ 262144 * k
-  unfolding tiedBy sum
-  tied-le h zero = omega arith
-  tied-le h (suc k) = omega (arith, tied-le h k, product-le h (endA part k) (endB part k))
+    pub tied-le : (k : ℕ) → tiedBy table part test k ≤ 262144 * k
+    unfolding tiedBy sum
+    tied-le zero = omega arith
+    tied-le (suc k) = omega (arith, tied-le k, ties-le k)
 
-pub table-tally : (part l table : List ℕ) → Multiplicities table l
-    → record { pairs = pairs l; tied = tiedBy table part (edgesIn part); leaving = leavingBy table part (edgesIn part) } ≡ tallyAt part l
+pub ends-at : (part : List ℕ) (k : ℕ) → 4 * k + 4 ≤ length part
+    → endsOf (take ((4 * k + 4) - 4 * k) (drop (4 * k) part)) ≡ record { a = endA part k; b = endB part k }
+unfolding endsOf endA endB
+ends-at part k h =
+    rw (add-sub-cancel-left (4 * k) 4)
+    (ap₂ (λ (x y : ℕ). record { a = x; b = y })
+    (number-part 2 part (4 * k) 4 0 (omega arith) h ∙ ap (number 2 part) (add-zero (4 * k)))
+    (number-part 2 part (4 * k) 4 2 (omega arith) h))
+
+pub table-tally : (part : List ℕ) (m : ℕ) (test : ℕ → Bool) (l table : List ℕ) → Multiplicities table l
+    → record { pairs = pairs l; tied = tiedBy table part test m; leaving = leavingBy table part test m } ≡ tallyAt part m test l
 unfolding tallyAt tiedBy leavingBy
-table-tally part l table h =
-    let m : ℕ = edgesIn part in
+table-tally part m test l table h =
     let named : (v : ℕ) → leb 1 (getD table v 0) ≡ contains v l = λ v. ap (leb 1) (h .held v) ∙ multiplicity-contains l v in
     ap₂ (λ (x y : ℕ). record { pairs = pairs l; tied = x; leaving = y })
-    (sum-cong m _ _ (λ k d. ap₂ _*_ (h .held (endA part k)) (h .held (endB part k))))
-    (count-cong m _ _ (λ k d. ap₂ (λ (x y : Bool). justOne x y) (named (endA part k)) (named (endB part k))))
+    (sum-cong m _ _ (λ k d. ap₂ (λ (x y : ℕ). cond (test k) (x * y) 0) (h .held (endA part k)) (h .held (endB part k))))
+    (count-cong m _ _ (λ k d. ap₂ (λ (x y : Bool). test k && justOne x y) (named (endA part k)) (named (endB part k))))

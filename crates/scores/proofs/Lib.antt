@@ -1,3 +1,4 @@
 pub mod Pairing
 pub mod Entries
 pub mod Tallying
+pub mod Answers

@@ -22,7 +22,7 @@ use Rattle.sets.proofs.Selecting.{mem-at, at-mem}
 use Rattle.community.specs.Network.{contains}
 use Rattle.community.specs.Scores.{countPairs, pairs}
 use Rattle.community.proofs.Roles.{contains-mem, mem-contains}
-use Rattle.scores.specs.Scored.{multiplicity}
+use Rattle.scores.specs.Held.{multiplicity}
 
 -- one of the two places passes f and the other g
 abbrev pub oneOfEach : (ℕ → Bool) → (ℕ → Bool) → ℕ → ℕ → Bool

@@ -1,27 +1,26 @@
--- The tally over the edge records of an accepted image is the tally of the paper. Each pair of places whose handsets are adjacent belongs to
--- exactly one edge, since no edge repeats another, and an edge with the ends a and b, which differ, has as many pairs of places as a stands in
--- the list times b does.
+-- The tally over the edge records of an accepted image is the tally of the paper, whatever test the edges have to pass. Each pair of places whose
+-- handsets are joined belongs to exactly one edge, since no edge repeats another, and an edge with the ends a and b, which differ, has as many pairs of
+-- places as a stands in the list times b does.
 --
---     joined-once     no two edges of an accepted image join the same two handsets
---     edges-in        its edge records hold as many edges as its header says
---     tied-once       the tied pairs of a list without repeats are the edges with both ends in it
---     tally-is        tallyAt (edgeRecords s) l ≡ tallyOf s l
---     tallied-is      talliedAt (handsetCount s) (edgeRecords s) l ≡ talliedOf s l
+--     joined-adjacent    joined by an edge of any number is adjacent
+--     joined-once        no two edges of an accepted image join the same two handsets
+--     tied-is            the tied pairs, edge by edge: how often one end stands in the list times how often the other does
+--     tied-once          the tied pairs of a list without repeats are the edges with both ends in it
+--     tally-is           the tally over the edge records is the tally of the image
 --     good-tallied, good-scored     the answers for at most 512 handsets of an accepted image: the tally, and its scores
---     site-fits       the edge records of an opened image stand in it
---     site-tallied    the call's answer for an opened image is the tally over its edge records
---     site-refused    the call's answer for a refused image is its refusal
-use Prim.Native.Nat.{ℕ, _+_, _*_, _≤_, _<_, min}
+--     site-fits          the bounds of an opened image: its edge records stand in it, at most 4,096, for at most 512 handsets
+--     site-tallied       question 13 and the tally over the edge records of an opened image are the call's answer for it
+--     site-refused       the call's answer for a refused image is its refusal
+use Prim.Native.Nat.{ℕ, _+_, _*_, _≤_, _<_}
 use native.Mathlib.Omega.{arith}
 use mathlib.Core.Path.{_≡_, refl, sym, ap, ap₂, _∙_, subst}
-use mathlib.Core.Logic.{_⊎_, inl, inr, ⊎-elim}
-use mathlib.Core.Bool.{Bool, true, false, _&&_}
+use mathlib.Core.Bool.{Bool, true, false, _&&_, cond}
 use mathlib.Core.List.{List}
 use lib.Dec.{T, eqb, eqb→eq, T-not}
-use lib.ListN.{length, getD, take, drop, length-take, length-drop}
+use lib.ListN.{length, getD, take, drop}
 use Rattle.sets.specs.Below.{count, sum, bit}
-use Rattle.sets.proofs.Tests.{and-make, and-left, and-right, or-left, or-right, or-cases, any-make, eqb-of}
-use Rattle.sets.proofs.Counting.{count-sum, count-swap, sum-cong, sum-swap}
+use Rattle.sets.proofs.Tests.{and-right, any-make, eqb-of}
+use Rattle.sets.proofs.Counting.{count-sum, count-swap, count-false, sum-cong, sum-swap, sum-zero}
 use Rattle.image.specs.Image.{handsetCount, edgeCount, edgeOffset, edgeRecords, endA, endB, joins, adjacent}
 use Rattle.image.specs.Questions.{isLoop, repeatsEarlier, openOf, headerOf, Accepted}
 use Rattle.image.specs.declared.Header.{Header}
@@ -30,44 +29,23 @@ use Rattle.image.specs.declared.Opened.{Opened}
 use Rattle.image.specs.declared.Opened.the-variants as O
 use Rattle.image.proofs.Acceptance.{accepted, accepted-fits, length-is, opened}
 use Rattle.community.specs.Network.{contains}
-use Rattle.community.specs.Scores.{countPairs, pairs, tiedPairs, leaving}
-use Rattle.scores.specs.Scored.{multiplicity, edgesIn, tallyAt, tallyOf, askEntries, talliedAt, talliedFor, talliedOf, scoresFor, scoredFor, scoredOf}
-use Rattle.scores.specs.declared.Tally.{Tally}
+use Rattle.community.specs.Scores.{countPairs, pairs, everyEdge, joinedBy, tiedPairs, leaving}
+use Rattle.community.proofs.Edges.{joins-make, joins-take, pair-sym, pair-trans}
+use Rattle.scores.specs.Scored.{tallyBy, tallyOf, askEntries, talliedFor, talliedOf, scoresFor, scoredFor, scoredOf}
+use Rattle.scores.specs.Held.{multiplicity, tallyAt}
 use Rattle.scores.specs.declared.Tallied.the-variants as T
 use Rattle.scores.specs.declared.Scored.the-variants as S
 use Rattle.scores.proofs.Pairing.{pairs-product, count-once, multiplicity-once}
 use Rattle.scores.proofs.Entries.{entries-good}
 
--- edge k has the ends u and v, as equations
-ends : (part : List ℕ) (u v k : ℕ) → T (joins part u v k) → ((endA part k ≡ u) × (endB part k ≡ v)) ⊎ ((endA part k ≡ v) × (endB part k ≡ u))
-unfolding joins
-ends part u v k t =
-    let a : ℕ = endA part k in
-    let b : ℕ = endB part k in
-    ⊎-elim
-    (λ w. inl (eqb→eq a u (and-left (eqb a u) (eqb b v) w), eqb→eq b v (and-right (eqb a u) (eqb b v) w)))
-    (λ w. inr (eqb→eq a v (and-left (eqb a v) (eqb b u) w), eqb→eq b u (and-right (eqb a v) (eqb b u) w)))
-    (or-cases (eqb a u && eqb b v) (eqb a v && eqb b u) t)
-
-straight : (part : List ℕ) (u v k : ℕ) → endA part k ≡ u → endB part k ≡ v → T (joins part u v k)
-unfolding joins
-straight part u v k d e =
-    or-left (eqb (endA part k) u && eqb (endB part k) v) (eqb (endA part k) v && eqb (endB part k) u)
-    (and-make (eqb (endA part k) u) (eqb (endB part k) v) (eqb-of (endA part k) u d) (eqb-of (endB part k) v e))
-
-crossed : (part : List ℕ) (u v k : ℕ) → endA part k ≡ v → endB part k ≡ u → T (joins part u v k)
-unfolding joins
-crossed part u v k d e =
-    or-right (eqb (endA part k) u && eqb (endB part k) v) (eqb (endA part k) v && eqb (endB part k) u)
-    (and-make (eqb (endA part k) v) (eqb (endB part k) u) (eqb-of (endA part k) v d) (eqb-of (endB part k) u e))
+pub joined-adjacent : (s : List ℕ) (u v : ℕ) → joinedBy s everyEdge u v ≡ adjacent s u v
+unfolding joinedBy adjacent
+joined-adjacent s u v = refl
 
 -- two edges that join the same two handsets: one joins what the other joins
 same-ends : (part : List ℕ) (u v i j : ℕ) → T (joins part u v i) → T (joins part u v j) → T (joins part (endA part j) (endB part j) i)
 same-ends part u v i j x y =
-    ⊎-elim
-    (λ p. ⊎-elim (λ q. straight part _ _ i (cc) (cc)) (λ q. crossed part _ _ i (cc) (cc)) (ends part u v j y))
-    (λ p. ⊎-elim (λ q. crossed part _ _ i (cc) (cc)) (λ q. straight part _ _ i (cc) (cc)) (ends part u v j y))
-    (ends part u v i x)
+    joins-make part _ _ i (pair-trans _ _ u v _ _ (joins-take part u v i x) (pair-sym _ _ u v (joins-take part u v j y)))
 
 module _ (s : List ℕ) (a : Accepted s) where
   pub joined-once : (u v i j : ℕ) → i < j → j < edgeCount s → T (joins (edgeRecords s) u v i) → T (joins (edgeRecords s) u v j) → ⊥
@@ -76,14 +54,6 @@ module _ (s : List ℕ) (a : Accepted s) where
       let part : List ℕ = edgeRecords s in
       T-not (repeatsEarlier part j) (a .q10 j k)
       (any-make j (joins part (endA part j) (endB part j)) i h (same-ends part u v i j x y))
-
-  pub edges-in : edgesIn (edgeRecords s) ≡ edgeCount s
-  unfolding edgesIn edgeRecords headerOf
-  edges-in =
-      let f = accepted-fits s a in
-      let to : edgeOffset s + 4 * edgeCount s ≤ length s = omega (arith, f .edges-to, length-is s a) in
-      let few : edgeCount s ≤ 4096 = f .m-limit in
-      simp (length-take, length-drop) (omega arith)
 
   -- no place holds both ends of an edge
   apart : (l : List ℕ) (k : ℕ) → k < edgeCount s → (i : ℕ) → i < length l → T (eqb (endA (edgeRecords s) k) (getD l i 0)) → T (eqb (endB (edgeRecords s) k) (getD l i 0)) → ⊥
@@ -100,53 +70,63 @@ module _ (s : List ℕ) (a : Accepted s) where
   edge-pairs l k h =
       pairs-product (length l) (λ i. eqb (endA (edgeRecords s) k) (getD l i 0)) (λ i. eqb (endB (edgeRecords s) k) (getD l i 0)) (apart l k h)
 
-  -- the adjacent places before place j, edge by edge
-  before-place : (l : List ℕ) (j : ℕ)
-      → count j (λ i. adjacent s (getD l i 0) (getD l j 0)) ≡ sum (edgeCount s) (λ k. count j (λ i. joins (edgeRecords s) (getD l i 0) (getD l j 0) k))
-  unfolding adjacent
-  before-place l j =
-      let part : List ℕ = edgeRecords s in
-      count-sum j (λ i. adjacent s (getD l i 0) (getD l j 0))
-      ∙ sum-cong j (λ i. bit (adjacent s (getD l i 0) (getD l j 0))) (λ i. count (edgeCount s) (joins part (getD l i 0) (getD l j 0)))
-      (λ i h. count-once (edgeCount s) (joins part (getD l i 0) (getD l j 0)) (joined-once (getD l i 0) (getD l j 0)))
-      ∙ count-swap j (edgeCount s) (λ i k. joins part (getD l i 0) (getD l j 0) k)
+  -- the same where the edge has to pass
+  passed-pairs : (b : Bool) (l : List ℕ) (k : ℕ) → k < edgeCount s
+      → sum (length l) (λ j. count j (λ i. b && joins (edgeRecords s) (getD l i 0) (getD l j 0) k))
+      ≡ cond b (multiplicity l (endA (edgeRecords s) k) * multiplicity l (endB (edgeRecords s) k)) 0
+  passed-pairs true l k h = edge-pairs l k h
+  passed-pairs false l k h = sum-cong (length l) (λ j. count j (λ i. false)) (λ j. 0) (λ j d. count-false j) ∙ sum-zero (length l)
 
-  pub tied-is : (l : List ℕ) → tiedPairs s l ≡ sum (edgeCount s) (λ k. multiplicity l (endA (edgeRecords s) k) * multiplicity l (endB (edgeRecords s) k))
-  unfolding tiedPairs countPairs
-  tied-is l =
-      let n : ℕ = length l in
-      let m : ℕ = edgeCount s in
-      let f : ℕ → ℕ → ℕ = λ j k. count j (λ i. joins (edgeRecords s) (getD l i 0) (getD l j 0) k) in
-      sum-cong n (λ j. count j (λ i. adjacent s (getD l i 0) (getD l j 0))) (λ j. sum m (f j)) (λ j h. before-place l j)
-      ∙ sum-swap n m f
-      ∙ sum-cong m (λ k. sum n (λ j. f j k)) (λ k. multiplicity l (endA (edgeRecords s) k) * multiplicity l (endB (edgeRecords s) k)) (λ k h. edge-pairs l k h)
+  module _ (test : ℕ → Bool) where
+    -- edge k passes and joins the handsets at two places
+    abbrev joinsAt : List ℕ → ℕ → ℕ → ℕ → Bool
+    joinsAt l i j k = test k && joins (edgeRecords s) (getD l i 0) (getD l j 0) k
 
-  pub tied-once : (l : List ℕ) → ((i j : ℕ) → i < j → j < length l → getD l i 0 ≡ getD l j 0 → ⊥)
-      → tiedPairs s l ≡ count (edgeCount s) (λ k. contains (endA (edgeRecords s) k) l && contains (endB (edgeRecords s) k) l)
-  tied-once l apart =
-      let f : ℕ → ℕ = λ k. multiplicity l (endA (edgeRecords s) k) * multiplicity l (endB (edgeRecords s) k) in
-      let g : ℕ → Bool = λ k. contains (endA (edgeRecords s) k) l && contains (endB (edgeRecords s) k) l in
-      tied-is l
-      ∙ sum-cong (edgeCount s) f (λ k. bit (g k))
-      (λ k h. ap₂ _*_ (multiplicity-once l apart (endA (edgeRecords s) k)) (multiplicity-once l apart (endB (edgeRecords s) k))
-      ∙ both (contains (endA (edgeRecords s) k) l) (contains (endB (edgeRecords s) k) l))
-      ∙ sym (count-sum (edgeCount s) g)
-    where
-      both : (x y : Bool) → bit x * bit y ≡ bit (x && y)
-      both true true = refl
-      both true false = refl
-      both false true = refl
-      both false false = refl
+    -- the places before place j that are joined to it, edge by edge
+    before-place : (l : List ℕ) (j : ℕ)
+        → count j (λ i. joinedBy s test (getD l i 0) (getD l j 0)) ≡ sum (edgeCount s) (λ k. count j (λ i. joinsAt l i j k))
+    unfolding joinedBy
+    before-place l j =
+        let part : List ℕ = edgeRecords s in
+        count-sum j (λ i. joinedBy s test (getD l i 0) (getD l j 0))
+        ∙ sum-cong j (λ i. bit (joinedBy s test (getD l i 0) (getD l j 0))) (λ i. count (edgeCount s) (joinsAt l i j))
+        (λ i h. count-once (edgeCount s) (joinsAt l i j)
+        (λ k n d b x y. joined-once (getD l i 0) (getD l j 0) k n d b
+        (and-right (test k) (joins part (getD l i 0) (getD l j 0) k) x) (and-right (test n) (joins part (getD l i 0) (getD l j 0) n) y)))
+        ∙ count-swap j (edgeCount s) (λ i k. joinsAt l i j k)
 
-  pub tally-is : (l : List ℕ) → tallyAt (edgeRecords s) l ≡ tallyOf s l
-  unfolding tallyAt tallyOf leaving
-  tally-is l = rw edges-in (ap (λ (x : ℕ). record { pairs = pairs l; tied = x; leaving = leaving s l }) (sym (tied-is l)))
+    pub tied-is : (l : List ℕ) → tiedPairs s test l ≡ sum (edgeCount s) (λ k. cond (test k) (multiplicity l (endA (edgeRecords s) k) * multiplicity l (endB (edgeRecords s) k)) 0)
+    unfolding tiedPairs countPairs
+    tied-is l =
+        let n : ℕ = length l in
+        let m : ℕ = edgeCount s in
+        let f : ℕ → ℕ → ℕ = λ j k. count j (λ i. joinsAt l i j k) in
+        sum-cong n (λ j. count j (λ i. joinedBy s test (getD l i 0) (getD l j 0))) (λ j. sum m (f j)) (λ j h. before-place l j)
+        ∙ sum-swap n m f
+        ∙ sum-cong m (λ k. sum n (λ j. f j k)) (λ k. cond (test k) (multiplicity l (endA (edgeRecords s) k) * multiplicity l (endB (edgeRecords s) k)) 0)
+        (λ k h. passed-pairs (test k) l k h)
 
-  pub tallied-is : (l : List ℕ) → talliedAt (handsetCount s) (edgeRecords s) l ≡ talliedOf s l
-  unfolding talliedAt talliedOf headerOf
-  tallied-is l =
-      let few : min (handsetCount s) 512 ≡ handsetCount s = omega (arith, accepted-fits s a .n-limit) in
-      ap₂ (λ (n : ℕ) (t : Tally). askEntries n l t) few (tally-is l) ∙ sym (ap (λ (o : Opened). talliedFor s o l) (opened s a))
+    pub tied-once : (l : List ℕ) → ((i j : ℕ) → i < j → j < length l → getD l i 0 ≡ getD l j 0 → ⊥)
+        → tiedPairs s test l ≡ count (edgeCount s) (λ k. test k && (contains (endA (edgeRecords s) k) l && contains (endB (edgeRecords s) k) l))
+    tied-once l once =
+        let f : ℕ → ℕ = λ k. cond (test k) (multiplicity l (endA (edgeRecords s) k) * multiplicity l (endB (edgeRecords s) k)) 0 in
+        let g : ℕ → Bool = λ k. test k && (contains (endA (edgeRecords s) k) l && contains (endB (edgeRecords s) k) l) in
+        tied-is l
+        ∙ sum-cong (edgeCount s) f (λ k. bit (g k))
+        (λ k h. ap₂ (λ (x y : ℕ). cond (test k) (x * y) 0) (multiplicity-once l once (endA (edgeRecords s) k)) (multiplicity-once l once (endB (edgeRecords s) k))
+        ∙ both (test k) (contains (endA (edgeRecords s) k) l) (contains (endB (edgeRecords s) k) l))
+        ∙ sym (count-sum (edgeCount s) g)
+      where
+        both : (b x y : Bool) → cond b (bit x * bit y) 0 ≡ bit (b && (x && y))
+        both true true true = refl
+        both true true false = refl
+        both true false true = refl
+        both true false false = refl
+        both false x y = refl
+
+    pub tally-is : (l : List ℕ) → tallyAt (edgeRecords s) (edgeCount s) test l ≡ tallyBy s test l
+    unfolding tallyAt leaving
+    tally-is l = ap (λ (x : ℕ). record { pairs = pairs l; tied = x; leaving = leaving s test l }) (sym (tied-is l))
 
 -- a list of at most 512 handsets
 module _ (s : List ℕ) (a : Accepted s) (l : List ℕ) (few : length l ≤ 512) (below : (i : ℕ) → i < length l → getD l i 0 < handsetCount s) where
@@ -159,19 +139,21 @@ module _ (s : List ℕ) (a : Accepted s) (l : List ℕ) (few : length l ≤ 512)
   good-scored = ap scoredFor good-tallied
 
 module _ (s : List ℕ) (h : Header) (e : openOf s ≡ O.Site h) where
-  pub site-fits : h .edges + 4 * h .m ≤ length s
+  pub site-fits : (h .edges + 4 * h .m ≤ length s) × (h .m ≤ 4096) × (h .n ≤ 512)
   unfolding headerOf
   site-fits =
       let r = accepted s h e in
       let f = accepted-fits s (r .0) in
       let to : edgeOffset s + 4 * edgeCount s ≤ length s = omega (arith, f .edges-to, length-is s (r .0)) in
-      subst (λ (g : Header). g .edges + 4 * g .m ≤ length s) (sym (r .1)) to
+      subst (λ (g : Header). (g .edges + 4 * g .m ≤ length s) × (g .m ≤ 4096) × (g .n ≤ 512)) (sym (r .1)) (to, f .m-limit, f .n-limit)
 
-  pub site-tallied : (l : List ℕ) → talliedAt (h .n) (take (4 * h .m) (drop (h .edges) s)) l ≡ talliedOf s l
-  unfolding headerOf edgeRecords
+  pub site-tallied : (l : List ℕ) → askEntries (h .n) l (tallyAt (take (4 * h .m) (drop (h .edges) s)) (h .m) everyEdge l) ≡ talliedOf s l
+  unfolding headerOf edgeRecords talliedOf tallyOf
   site-tallied l =
       let r = accepted s h e in
-      ap (λ (g : Header). talliedAt (g .n) (take (4 * g .m) (drop (g .edges) s)) l) (r .1) ∙ tallied-is s (r .0) l
+      ap (λ (g : Header). askEntries (g .n) l (tallyAt (take (4 * g .m) (drop (g .edges) s)) (g .m) everyEdge l)) (r .1)
+      ∙ ap (askEntries (handsetCount s) l) (tally-is s (r .0) everyEdge l)
+      ∙ sym (ap (λ (o : Opened). talliedFor s o l) (opened s (r .0)))
 
 pub site-refused : (s : List ℕ) (r : Refusal) (l : List ℕ) → openOf s ≡ O.Refused r → talliedOf s l ≡ T.Refused r
 unfolding talliedOf

@@ -1,2 +1,3 @@
 pub mod Scored
 pub mod Held
+pub mod Answers

@@ -1,26 +1,23 @@
 -- The tally and the scores of a list of handsets (source document 003, 5.3; paper 01, "Scores, lookup, report" and question 13).
 --
---     tallyOf s l            s, t and o of the paper for an image and a list: pairs l, tiedPairs s l, leaving s l
+--     tallyBy s test l       s, t and o of the paper for an image and a list, where the edges that count are those that pass a test
+--     tallyOf s l            the same where every edge counts: the paper's
 --     scoresFor t            density (s - t) / s and conductance o / (2t + o), neither reduced; a zero divisor gives no score
 --     badEntry n l i         question 13: entry i of the list is not below n, or stands at index 512 or later
 --     talliedOf s l          the call's answer: the image's refusal, 13 with the index of the first bad entry, or the tally
 --     scoredOf s l           the same with the scores for the tally
---     tallyAt part l         the tally over the part of the image that the edge records stand in, edge by edge
---     talliedAt n part l     question 13 for n handsets, and the tally over the part
 --
--- The laws are in proofs/Tallying: over the edge records of an accepted image, tallyAt is tallyOf and talliedAt is talliedOf.
-use Prim.Native.Nat.{ℕ, _+_, _*_, _-_, _/_, min}
+-- The laws are in proofs/Tallying.
+use Prim.Native.Nat.{ℕ, _+_, _*_, _-_}
 use mathlib.Core.Bool.{Bool, _||_, cond}
 use mathlib.Core.List.{List}
 use lib.Dec.{leb, eqb}
 use lib.ListN.{length, getD}
-use Rattle.sets.specs.Below.{any, count, sum, find}
-use Rattle.image.specs.Image.{endA, endB}
+use Rattle.sets.specs.Below.{any, find}
 use Rattle.image.specs.Questions.{openOf}
 use Rattle.image.specs.declared.Opened.{Opened}
 use Rattle.image.specs.declared.Opened.the-variants as O
-use Rattle.community.specs.Network.{contains}
-use Rattle.community.specs.Scores.{pairs, tiedPairs, justOne, leaving}
+use Rattle.community.specs.Scores.{pairs, everyEdge, tiedPairs, leaving}
 use Rattle.scores.specs.declared.Tally.{Tally}
 use Rattle.scores.specs.declared.Tallied.{Tallied}
 use Rattle.scores.specs.declared.Tallied.the-variants as T
@@ -30,9 +27,11 @@ use Rattle.scores.specs.declared.Scores.{Scores}
 use Rattle.scores.specs.declared.Scored.{Scored}
 use Rattle.scores.specs.declared.Scored.the-variants as S
 
+abbrev pub tallyBy : List ℕ → (ℕ → Bool) → List ℕ → Tally
+tallyBy s test l = record { pairs = pairs l; tied = tiedPairs s test l; leaving = leaving s test l }
+
 unfoldable pub tallyOf : List ℕ → List ℕ → Tally
-unfolding pairs tiedPairs leaving
-tallyOf s l = record { pairs = pairs l; tied = tiedPairs s l; leaving = leaving s l }
+tallyOf s l = tallyBy s everyEdge l
 
 -- a score that is not reduced; none for a zero divisor
 unfoldable pub score : ℕ → ℕ → Score
@@ -68,25 +67,3 @@ scoredFor (T.Refused r) = S.Refused r
 unfoldable pub scoredOf : List ℕ → List ℕ → Scored
 unfolding talliedOf scoresFor
 scoredOf s l = scoredFor (talliedOf s l)
-
--- how often v stands in a list
-unfoldable pub multiplicity : List ℕ → ℕ → ℕ
-unfolding count
-multiplicity l v = count (length l) (λ i. eqb v (getD l i 0))
-
--- how many edge records a part holds: 4 bytes to an edge, and no image has more than 4,096 edges
-unfoldable pub edgesIn : List ℕ → ℕ
-edgesIn part = min (length part / 4) 4096
-
-unfoldable pub tallyAt : List ℕ → List ℕ → Tally
-unfolding pairs sum count multiplicity edgesIn endA endB contains
-tallyAt part l = record {
-  pairs = pairs l;
-  tied = sum (edgesIn part) (λ k. multiplicity l (endA part k) * multiplicity l (endB part k));
-  leaving = count (edgesIn part) (λ k. justOne (contains (endA part k) l) (contains (endB part k) l));
-}
-
--- no image has more than 512 handsets
-unfoldable pub talliedAt : ℕ → List ℕ → List ℕ → Tallied
-unfolding askEntries tallyAt
-talliedAt n part l = askEntries (min n 512) l (tallyAt part l)

@@ -1,17 +1,18 @@
 // The scores of a list of handsets: how many pairs of its places are tied, and how many edges leave it.
 //
-// `score_list` and `tally_list` open the image and go over its edges. A caller that counts the edges of many lists at once uses `pairs_of` for the rest
-// of each tally, and then `scores_of`. The definitions are in specs/Scored, the laws in proofs/Tallying.
+// `tally_list` opens the image and goes over its edges, and `score_list` makes the scores of that. A caller that counts the edges of many lists at once
+// uses `pairs_of` for the rest of each tally, and then `scores_of`. The definitions are in specs/Scored, the laws in proofs/Tallying; `tally-same` and
+// `scored-same` of proofs/Answers make equations of the answers.
 ghost use mathlib.Core.Path.{_≡_};
 ghost use mathlib.Core.Bool.{_||_};
-ghost use Prim.Native.Nat.{ℕ, _+_, _*_, _-_, _≤_, min};
+ghost use Prim.Native.Nat.{ℕ, _*_, _-_, _≤_, min};
 ghost use lib.Dec.{leb};
-ghost use lib.ListN.{length, getD, take, drop};
+ghost use lib.ListN.{length, getD, take};
 ghost use Rattle.sets.specs.Below.{bit, find};
-ghost use Rattle.community.specs.Scores.{justOne, pairs};
-ghost use Rattle.scores.specs.Scored.{badEntry, score, scoresFor, scoredFor, tallyAt, talliedAt, talliedOf, scoredOf};
-ghost use Rattle.scores.specs.Held.{Listed, Blank, Multiplicities, tiedBy, leavingBy};
-use image::Header;
+ghost use Rattle.community.specs.Scores.{justOne, pairs, everyEdge};
+ghost use Rattle.scores.specs.Scored.{badEntry, score, scoresFor, talliedOf, scoredOf};
+ghost use Rattle.scores.specs.Answers.{tallyAnswer, scoreAnswer};
+ghost use Rattle.scores.specs.Held.{tallyAt, Listed, Blank, Multiplicities, tiedBy, leavingBy};
 use image::Opened;
 use image::Refusal;
 
@@ -99,11 +100,10 @@ fn count_entries(list: &[u16], table: &mut [u16])
 }
 
 // What the table holds for v; 0 past its end.
-fn held(table: &[u16], v: u16) -> u32
+fn held(table: &[u16], v: usize) -> u32
     ensures { λ r. ⌜ r ≡ getD (now (table .entry)) v 0 ⌝ }
 {
-    let i = wide(v);
-    if i < table.len() { table[i] as u32 } else { 0 }
+    if v < table.len() { table[v] as u32 } else { 0 }
 }
 
 // 1 where just one of two counts is not 0.
@@ -117,15 +117,18 @@ fn just_one(a: u32, b: u32) -> u32
 
 // t and o over the first m edges, by a table of multiplicities.
 fn count_edges(edges: &[u8], m: usize, table: &[u16]) -> EdgeCounts
-    requires { ⌜ (m ≤ 4096) × ((v : ℕ) → getD (now table) v 0 ≤ 512) ⌝ }
-    ensures { λ r. ⌜ r ≡ record { tied = tiedBy (now (table .entry)) (now (edges .entry)) m; leaving = leavingBy (now (table .entry)) (now (edges .entry)) m } ⌝ }
+    requires { ⌜ (4 * m ≤ length (now edges)) × (m ≤ 4096) × ((v : ℕ) → getD (now table) v 0 ≤ 512) ⌝ }
+    ensures { λ r. ⌜ r ≡ record { tied = tiedBy (now (table .entry)) (now (edges .entry)) everyEdge m; leaving = leavingBy (now (table .entry)) (now (edges .entry)) everyEdge m } ⌝ }
 {
     let mut tied: u32 = 0;
     let mut leaving: u32 = 0;
     let mut k: usize = 0;
     while k < m {
-        let a = held(table, fields::read2(edges, 4 * k));
-        let b = held(table, fields::read2(edges, 4 * k + 2));
+        let at = 4 * k;
+        let past = at + 4;
+        let ends = fields::read_ends(&edges[at..past]);
+        let a = held(table, ends.a);
+        let b = held(table, ends.b);
         tied += a * b;
         leaving += just_one(a, b);
         k += 1;
@@ -141,14 +144,13 @@ pub fn pairs_of(list: &[u16]) -> u32
     ((n * n - n) / 2) as u32
 }
 
-// The tally of a list that question 13 passes, in one turn over the list and one over the edges.
-fn tally_listed(edges: &[u8], list: &[u16]) -> Tally
-    requires { ⌜ Listed (now list) ⌝ }
-    ensures { λ r. ⌜ r ≡ tallyAt (now (edges .entry)) (now (list .entry)) ⌝ }
+// The tally of a list that question 13 passes, over m edges, in one turn over the list and one over the edges.
+fn tally_listed(edges: &[u8], m: usize, list: &[u16]) -> Tally
+    requires { ⌜ (4 * m ≤ length (now edges)) × (m ≤ 4096) × Listed (now list) ⌝ }
+    ensures { λ r. ⌜ r ≡ tallyAt (now (edges .entry)) m everyEdge (now (list .entry)) ⌝ }
 {
     let mut table = [0u16; 512];
     count_entries(list, &mut table);
-    let m = smaller(edges.len() / 4, 4096);
     let counts = count_edges(edges, m, &table);
     Tally {
         pairs: pairs_of(list),
@@ -157,40 +159,25 @@ fn tally_listed(edges: &[u8], list: &[u16]) -> Tally
     }
 }
 
-// The tally of a list over the part of an image that the edge records stand in, for n handsets. Refuses a list with a bad entry: 13 with the
-// first bad entry's index. More than 512 handsets count as 512, and edges past the first 4,096 are not looked at: no image has them.
-fn tally_part(n: u16, edges: &[u8], list: &[u16]) -> Tallied
-    ensures { λ r. ⌜ r ≡ talliedAt n (now (edges .entry)) (now (list .entry)) ⌝ }
+// The tally of a list of handsets of an image: the image's refusal, 13 with the first bad entry's index, or s, t and o.
+pub fn tally_list(image: &[u8], list: &[u16]) -> Tallied
+    ensures { λ r. ⌜ tallyAnswer r ≡ tallyAnswer (talliedOf (now (image .entry)) (now (list .entry))) ⌝ }
 {
-    let bad = first_bad_entry(smaller(wide(n), 512), list);
+    let opened = image::open(image);
+    let Opened::Site(h) = opened else {
+        return Tallied::Refused(image::refusal_of(opened));
+    };
+    let bad = first_bad_entry(h.n as usize, list);
     if bad < list.len() {
         return Tallied::Refused(Refusal {
             number: 13,
             place: bad,
         });
     }
-    Tallied::Of(tally_listed(edges, list))
-}
-
-// The tally of a list over an image whose edge records stand where its header says.
-fn tally_site(image: &[u8], h: Header, list: &[u16]) -> Tallied
-    requires { ⌜ h .edges + 4 * h .m ≤ length (now image) ⌝ }
-    ensures { λ r. ⌜ r ≡ talliedAt (h .n) (take (4 * h .m) (drop (h .edges) (now (image .entry)))) (now (list .entry)) ⌝ }
-{
-    let a = h.edges as usize;
-    let b = a + 4 * (h.m as usize);
-    tally_part(h.n, &image[a..b], list)
-}
-
-// The tally of a list of handsets of an image: the image's refusal, 13 with the first bad entry's index, or s, t and o.
-pub fn tally_list(image: &[u8], list: &[u16]) -> Tallied
-    ensures { λ r. ⌜ r ≡ talliedOf (now (image .entry)) (now (list .entry)) ⌝ }
-{
-    let opened = image::open(image);
-    let Opened::Site(h) = opened else {
-        return Tallied::Refused(image::refusal_of(opened));
-    };
-    tally_site(image, h, list)
+    let m = h.m as usize;
+    let first = h.edges as usize;
+    let past = first + 4 * m;
+    Tallied::Of(tally_listed(&image[first..past], m, list))
 }
 
 // A quotient, or no score where the divisor is 0.
@@ -224,23 +211,13 @@ pub fn scores_of(t: Tally) -> Scores
     }
 }
 
-// The scores for an answered tally; a refusal stays what it is.
-fn scores_for(t: Tallied) -> Scored
-    ensures { λ r. ⌜ r ≡ scoredFor t ⌝ }
-{
-    match t {
-        Tallied::Of(x) => Scored::Of(scores_of(x)),
-        Tallied::Refused(r) => Scored::Refused(r),
-    }
-}
-
 // The scores of a list of handsets of an image: the image's refusal, 13 with the first bad entry's index, or density and conductance.
 pub fn score_list(image: &[u8], list: &[u16]) -> Scored
-    ensures { λ r. ⌜ r ≡ scoredOf (now (image .entry)) (now (list .entry)) ⌝ }
+    ensures { λ r. ⌜ scoreAnswer r ≡ scoreAnswer (scoredOf (now (image .entry)) (now (list .entry))) ⌝ }
 {
-    let opened = image::open(image);
-    let Opened::Site(h) = opened else {
-        return Scored::Refused(image::refusal_of(opened));
-    };
-    scores_for(tally_site(image, h, list))
+    let tallied = tally_list(image, list);
+    match tallied {
+        Tallied::Of(t) => Scored::Of(scores_of(t)),
+        Tallied::Refused(r) => Scored::Refused(r),
+    }
 }

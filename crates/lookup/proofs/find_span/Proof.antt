@@ -7,6 +7,16 @@ use borrow.Author.Needs.{needs}
 use Rattle.lookup.proofs.find_span.Statement.{statement}
 use Rattle.lookup.proofs.find_span.Tie as tie
 
+-- the places that the answers speak of: the start, the first test passed, both starts read
+abbrev start : tie.After-shared-slice-known → tie.Start
+start c = c .before
+
+abbrev inside : tie.Then1 → tie.Start
+inside c = start (c .before)
+
+abbrev read : tie.After-wide2 → tie.Start
+read c = inside (c .before .before .before .before .before)
+
 add-if2 : tie.Need-add-if2
 add-if2 c = search needs
 
@@ -33,28 +43,28 @@ wide-requires-2 c κs = search needs
 
 returns : tie.Need-returns
 returns c =
-    let a = c .before .before .before .before .before .before .before .before .before .args in
+    let a = read (c .before .before) .args in
     let e = cases.span-yes (now (a .starts)) (a .size) (a .k) (cases.placed-yes (now (a .starts)) (a .size) (a .k) (omega arith) (omega arith) (omega arith)) in
     (cc, omega arith)
 
 returns-2 : tie.Need-returns-2
 returns-2 c =
-    let a = c .before .before .before .before .before .before .before .before .before .args in
+    let a = read (c .before .before) .args in
     (sym (cases.span-no (now (a .starts)) (a .size) (a .k) (cases.placed-beyond (now (a .starts)) (a .size) (a .k) (omega arith) (omega arith) (omega arith))), omega arith)
 
 returns-3 : tie.Need-returns-3
 returns-3 c =
-    let a = c .before .before .before .before .before .before .before .before .args in
+    let a = read (c .before) .args in
     (sym (cases.span-no (now (a .starts)) (a .size) (a .k) (cases.placed-falling (now (a .starts)) (a .size) (a .k) (omega arith) (omega arith))), omega arith)
 
 returns-4 : tie.Need-returns-4
 returns-4 c =
-    let a = c .before .before .before .args in
+    let a = inside (c .before) .args in
     (sym (cases.span-no (now (a .starts)) (a .size) (a .k) (cases.placed-short (now (a .starts)) (a .size) (a .k) (omega arith))), omega arith)
 
 returns-5 : tie.Need-returns-5
 returns-5 c =
-    let a = c .before .before .args in
+    let a = start (c .before) .args in
     (sym (cases.span-no (now (a .starts)) (a .size) (a .k) (cases.placed-short (now (a .starts)) (a .size) (a .k) (omega arith))), omega arith)
 
 pub find-span-spec : {M : Type 1} → statement M

@@ -3,64 +3,91 @@
 use Prim.Native.Nat.{ℕ, _+_, _*_, _-_, _≤_}
 use native.Mathlib.Omega.{arith}
 use mathlib.Core.Path.{_≡_, sym, ap, ap₂, _∙_}
+use mathlib.Core.List.{List}
 use lib.Dec.{leb}
 use lib.ListN.{getD}
 use denote.Ref.{now}
+use Rattle.fields.specs.declared.Ends.{Ends}
 use Rattle.sets.specs.Below.{bit}
 use Rattle.image.specs.Image.{endA, endB}
-use Rattle.community.specs.Scores.{justOne}
+use Rattle.community.specs.Scores.{everyEdge, justOne}
 use Rattle.scores.specs.Held.{tiedBy, leavingBy}
-use Rattle.scores.proofs.Entries.{tied-none, leaving-none, tied-more, leaving-more, tied-le, leaving-le, product-le, bit-le}
+use Rattle.scores.proofs.Entries.{tied-none, leaving-none, tied-more, leaving-more, tied-le, leaving-le, ties-le, bit-le, ends-at}
 use Rattle.scores.proofs.count_edges.Statement.{statement}
 use Rattle.scores.proofs.count_edges.Tie as tie
 
 abbrev Inv-loop : tie.InvT-loop
-Inv-loop edges m table tied₀ leaving₀ k₀ tied leaving k = (k ≤ m) × (tied ≡ tiedBy table edges k) × (leaving ≡ leavingBy table edges k)
+Inv-loop edges m table tied₀ leaving₀ k₀ tied leaving k = (k ≤ m) × (tied ≡ tiedBy table edges everyEdge k) × (leaving ≡ leavingBy table edges everyEdge k)
 
 abbrev μ-loop : tie.MeasureT-loop
 μ-loop edges m table tied₀ leaving₀ k₀ tied leaving k = m - k
 
--- where the function starts
-abbrev start : tie.After-held2 Inv-loop μ-loop → tie.Start Inv-loop μ-loop
-start c = c .before .before .before .before .before .before .before .before
+-- ---- the places that the answers speak of: the start, the turn of edge k, its ends read
+abbrev start : tie.At-loop Inv-loop μ-loop → tie.Start Inv-loop μ-loop
+start c = c .before .before .before
+
+abbrev turn : tie.After-held2 Inv-loop μ-loop → tie.At-loop Inv-loop μ-loop
+turn c = c .before .before .before .before .before
+
+abbrev read : tie.After-held2 Inv-loop μ-loop → tie.After-read-ends Inv-loop μ-loop
+read c = c .before .before
+
+-- ---- their parts: the edges, the table, the number of the edge, what the table holds for its ends
+abbrev edges-of : tie.At-loop Inv-loop μ-loop → List ℕ
+edges-of c = now (start c .args .edges)
+
+abbrev table-of : tie.At-loop Inv-loop μ-loop → List ℕ
+table-of c = now (start c .args .table)
+
+abbrev a-of : tie.After-held2 Inv-loop μ-loop → ℕ
+a-of c = c .before .held .result
+
+abbrev b-of : tie.After-held2 Inv-loop μ-loop → ℕ
+b-of c = c .held2 .result
+
+-- the record holds the ends of edge k
+ends-are : (c : tie.After-held2 Inv-loop μ-loop)
+    → (let l = turn c in read c .read-ends .result ≡ record { a = endA (edges-of l) (l .loop .k); b = endB (edges-of l) (l .loop .k) })
+ends-are c =
+    let l = turn c in
+    read c .read-ends .ensures ∙ ends-at (edges-of l) (l .loop .k) (omega (arith, start l .pre .0, c .before .before .before .before .loop-test .taken))
 
 -- the two counts are what the table holds for the two ends
-factors : (c : tie.After-held2 Inv-loop μ-loop)
-    → (let a = start c .args in let k = c .before .before .before .before .before .loop .k in
-    (c .before .before .held .result ≡ getD (now (a .table)) (endA (now (a .edges)) k) 0) × (c .held2 .result ≡ getD (now (a .table)) (endB (now (a .edges)) k) 0))
-unfolding endA endB
-factors c =
-    let t = now (start c .args .table) in (
-      c .before .before .held .ensures ∙ ap (λ (v : ℕ). getD t v 0) (c .before .before .before .read2 .ensures),
-      c .held2 .ensures ∙ ap (λ (v : ℕ). getD t v 0) (c .before .read22 .ensures),
-    )
+a-is : (c : tie.After-held2 Inv-loop μ-loop) → (let l = turn c in a-of c ≡ getD (table-of l) (endA (edges-of l) (l .loop .k)) 0)
+a-is c = c .before .held .ensures ∙ ap (λ (e : Ends). getD (table-of (turn c)) (e .a) 0) (ends-are c)
 
-small : (c : tie.After-held2 Inv-loop μ-loop) → c .before .before .held .result * c .held2 .result ≤ 262144
+b-is : (c : tie.After-held2 Inv-loop μ-loop) → (let l = turn c in b-of c ≡ getD (table-of l) (endB (edges-of l) (l .loop .k)) 0)
+b-is c = c .held2 .ensures ∙ ap (λ (e : Ends). getD (table-of (turn c)) (e .b) 0) (ends-are c)
+
+small : (c : tie.After-held2 Inv-loop μ-loop) → a-of c * b-of c ≤ 262144
 small c =
-    let a = start c .args in
-    let k = c .before .before .before .before .before .loop .k in
-    omega (arith, ap₂ _*_ (factors c .0) (factors c .1), product-le (now (a .table)) (now (a .edges)) (start c .pre .1) (endA (now (a .edges)) k) (endB (now (a .edges)) k))
+    let l = turn c in
+    omega (arith, ap₂ _*_ (a-is c) (b-is c), ties-le (table-of l) (edges-of l) everyEdge (start l .pre .2) (l .loop .k))
 
+-- ---- the answers
 loop-holds : tie.Need-loop-holds Inv-loop μ-loop
-loop-holds c = (omega arith, sym (tied-none _ _), sym (leaving-none _ _))
+loop-holds c = (omega arith, sym (tied-none _ _ everyEdge), sym (leaving-none _ _ everyEdge))
 
-mul-read2 : tie.Need-mul-read2 Inv-loop μ-loop
-mul-read2 c = omega (arith, c .before .before .before .before .pre .0)
+mul-at : tie.Need-mul-at Inv-loop μ-loop
+mul-at c = omega (arith, start (c .before) .pre .1)
 
-read2-requires : tie.Need-read2-requires Inv-loop μ-loop
-read2-requires c κs = tt
+add-past : tie.Need-add-past Inv-loop μ-loop
+add-past c = omega (arith, start (c .before) .pre .1)
+
+sub-read-ends : tie.Need-sub-read-ends Inv-loop μ-loop
+sub-read-ends c = omega arith
+
+part-read-ends-start : tie.Need-part-read-ends-start Inv-loop μ-loop
+part-read-ends-start c = omega arith
+
+part-read-ends-end : tie.Need-part-read-ends-end Inv-loop μ-loop
+part-read-ends-end c = omega (arith, start (c .before) .pre .0)
+
+read-ends-requires : tie.Need-read-ends-requires Inv-loop μ-loop
+read-ends-requires c κs = tt
 
 held-requires : tie.Need-held-requires Inv-loop μ-loop
 held-requires c κs = tt
-
-mul-read2-2 : tie.Need-mul-read2-2 Inv-loop μ-loop
-mul-read2-2 c = omega (arith, c .before .before .before .before .before .before .pre .0)
-
-add-read2 : tie.Need-add-read2 Inv-loop μ-loop
-add-read2 c = omega (arith, c .before .before .before .before .before .before .pre .0)
-
-read2-requires-2 : tie.Need-read2-requires-2 Inv-loop μ-loop
-read2-requires-2 c κs = tt
 
 held-requires-2 : tie.Need-held-requires-2 Inv-loop μ-loop
 held-requires-2 c κs = tt
@@ -69,41 +96,48 @@ mul-tied : tie.Need-mul-tied Inv-loop μ-loop
 mul-tied c = omega (arith, small c)
 
 add-tied : tie.Need-add-tied Inv-loop μ-loop
-add-tied c = let l = c .before .before .before .before .before .loop in let s = start c in omega (arith, small c, l .inv .1, tied-le (now (s .args .table)) (now (s .args .edges)) (s .pre .1) (l .k), s .pre .0)
+add-tied c =
+    let l = turn c in
+    omega (arith, small c, l .loop .inv .1, tied-le (table-of l) (edges-of l) everyEdge (start l .pre .2) (l .loop .k), start l .pre .1)
 
 just-one-requires : tie.Need-just-one-requires Inv-loop μ-loop
 just-one-requires c κs = tt
 
 add-leaving : tie.Need-add-leaving Inv-loop μ-loop
 add-leaving c =
-    let l = c .before .before .before .before .before .before .loop in
-    let s = start (c .before) in
-    omega (arith, l .inv .2, leaving-le (now (s .args .table)) (now (s .args .edges)) (l .k), s .pre .0, c .just-one .ensures, bit-le (justOne (leb 1 (c .before .before .before .held .result)) (leb 1 (c .before .held2 .result))))
+    let l = turn (c .before) in
+    omega (
+      arith,
+      l .loop .inv .2,
+      leaving-le (table-of l) (edges-of l) everyEdge (l .loop .k),
+      start l .pre .1,
+      c .just-one .ensures,
+      bit-le (justOne (leb 1 (a-of (c .before))) (leb 1 (b-of (c .before)))),
+    )
 
 add-k : tie.Need-add-k Inv-loop μ-loop
-add-k c = omega (arith, start (c .before) .pre .0)
+add-k c = omega (arith, start (turn (c .before)) .pre .1)
 
 loop-less : tie.Need-loop-less Inv-loop μ-loop
 loop-less c = omega arith
 
 loop-again : tie.Need-loop-again Inv-loop μ-loop
 loop-again c =
-    let l = c .before .before .before .before .before .before .loop in
-    let s = start (c .before) in
-    let e = factors (c .before) in (
+    let d = c .before in
+    let l = turn d in (
       omega arith,
-      ap₂ _+_ (l .inv .1) (ap₂ _*_ (e .0) (e .1)) ∙ sym (tied-more (now (s .args .table)) (now (s .args .edges)) (l .k)),
-      ap₂ _+_ (l .inv .2) (c .just-one .ensures ∙ ap₂ (λ (x y : ℕ). bit (justOne (leb 1 x) (leb 1 y))) (e .0) (e .1))
-          ∙ sym (leaving-more (now (s .args .table)) (now (s .args .edges)) (l .k)),
+      ap₂ _+_ (l .loop .inv .1) (ap₂ _*_ (a-is d) (b-is d)) ∙ sym (tied-more (table-of l) (edges-of l) everyEdge (l .loop .k)),
+      ap₂ _+_ (l .loop .inv .2) (c .just-one .ensures ∙ ap₂ (λ (x y : ℕ). bit (justOne (leb 1 x) (leb 1 y))) (a-is d) (b-is d))
+          ∙ sym (leaving-more (table-of l) (edges-of l) everyEdge (l .loop .k)),
     )
 
 returns : tie.Need-returns Inv-loop μ-loop
 returns c =
-    let l = c .before .loop in
-    let a = c .before .before .before .before .args in
-    let e : l .k ≡ a .m = omega arith in
-    let t : l .tied ≡ tiedBy (now (a .table)) (now (a .edges)) (a .m) = l .inv .1 ∙ ap (tiedBy (now (a .table)) (now (a .edges))) e in
-    let o : l .leaving ≡ leavingBy (now (a .table)) (now (a .edges)) (a .m) = l .inv .2 ∙ ap (leavingBy (now (a .table)) (now (a .edges))) e in
+    let l = c .before in
+    let m : ℕ = start l .args .m in
+    let e : l .loop .k ≡ m = omega arith in
+    let t : l .loop .tied ≡ tiedBy (table-of l) (edges-of l) everyEdge m = l .loop .inv .1 ∙ ap (tiedBy (table-of l) (edges-of l) everyEdge) e in
+    let o : l .loop .leaving ≡ leavingBy (table-of l) (edges-of l) everyEdge m = l .loop .inv .2 ∙ ap (leavingBy (table-of l) (edges-of l) everyEdge) e in
     cc
 
 pub count-edges-spec : {M : Type 1} → statement M
@@ -113,12 +147,13 @@ count-edges-spec =
     Inv-loop
     μ-loop
     loop-holds
-    mul-read2
-    read2-requires
+    mul-at
+    add-past
+    sub-read-ends
+    part-read-ends-start
+    part-read-ends-end
+    read-ends-requires
     held-requires
-    mul-read2-2
-    add-read2
-    read2-requires-2
     held-requires-2
     mul-tied
     add-tied

@@ -2,6 +2,7 @@
 use Prim.Native.Nat.{ℕ, _≤_, _<_, _-_}
 use native.Mathlib.Omega.{arith}
 use mathlib.Core.Path.{_≡_, sym, _∙_}
+use mathlib.Core.List.{List}
 use lib.Dec.{eqb}
 use lib.ListN.{length, getD, length-set}
 use denote.Ref.{now}
@@ -17,11 +18,19 @@ Inv-loop list table₀ i₀ table i = (i ≤ length list) × (length table ≡ 5
 abbrev μ-loop : tie.MeasureT-loop
 μ-loop list table₀ i₀ table i = length list - i
 
+-- the places that the answers speak of: the start, and the turn of an entry that is read
+abbrev start : tie.At-loop Inv-loop μ-loop → tie.Start Inv-loop μ-loop
+start c = c .before .before .before
+
+abbrev turn : tie.After-wide Inv-loop μ-loop → tie.At-loop Inv-loop μ-loop
+turn c = c .before .before .before
+
+abbrev list-of : tie.At-loop Inv-loop μ-loop → List ℕ
+list-of c = start c .args .list .now
+
 -- the entry is a place of the table
 entry : (c : tie.After-wide Inv-loop μ-loop) → c .wide .result < 512
-entry c =
-    let l = c .before .before .before .loop in
-    omega (arith, c .wide .ensures, c .before .before .before .before .before .before .pre .0 .low (l .i) (omega arith))
+entry c = let l = turn c in omega (arith, c .wide .ensures, start l .pre .0 .low (l .loop .i) (omega arith))
 
 loop-holds : tie.Need-loop-holds Inv-loop μ-loop
 loop-holds c = let p = c .before .before .pre .1 in (omega arith, p .size, λ v. p .zeros v ∙ sym (count-none _))
@@ -43,8 +52,9 @@ slice-read-table c = omega (arith, entry (c .before))
 
 add-table : tie.Need-add-table Inv-loop μ-loop
 add-table c =
-    let l = c .before .before .before .before .loop in
-    omega (arith, l .inv .2 (c .before .wide .result), count-le (l .i) (λ j. eqb (c .before .wide .result) (getD (c .before .before .before .before .before .before .before .args .list .now) j 0)), c .before .before .before .before .before .before .before .pre .0 .short)
+    let v = c .before .wide .result in
+    let l = turn (c .before) in
+    omega (arith, l .loop .inv .2 v, count-le (l .loop .i) (λ j. eqb v (getD (list-of l) j 0)), start l .pre .0 .short)
 
 mul-table-2 : tie.Need-mul-table-2 Inv-loop μ-loop
 mul-table-2 c = omega (arith, entry (c .before))
@@ -60,10 +70,11 @@ loop-less c = omega arith
 
 loop-again : tie.Need-loop-again Inv-loop μ-loop
 loop-again c =
-    let l = c .before .before .before .before .loop in
+    let t = turn (c .before) in
+    let l = t .loop in
     let e = c .before .wide .ensures in
-    let at : c .before .wide .result < length (l .table) = omega (arith, entry (c .before)) in
-    (omega arith, length-set (l .table) _ _ ∙ l .inv .1, λ v. rw e (counted-more (c .before .before .before .before .before .before .before .args .list .now) (l .table) (l .i) (rw e at at) (l .inv .2) v))
+    let at : getD (list-of t) (l .i) 0 < length (l .table) = omega (arith, e, l .inv .1, entry (c .before)) in
+    (omega arith, length-set (l .table) _ _ ∙ l .inv .1, λ v. rw e (counted-more (list-of t) (l .table) (l .i) at (l .inv .2) v))
 
 same-length : tie.Need-same-length Inv-loop μ-loop
 same-length c = omega arith

@@ -1,59 +1,57 @@
--- `scores::score_list` meets its contract: as `tally_list`, with the scores for the tally.
+-- `scores::score_list` meets its contract: each arm is one case of the scores for an answered tally.
 use mathlib.Core.Path.{_≡_, sym, ap, _∙_}
 use denote.Ref.{now}
-use Rattle.image.specs.Questions.{openOf, refusalOf}
-use Rattle.image.specs.declared.Opened.the-variants as O
-use Rattle.scores.specs.Scored.{scoredFor, scoredOf}
+use Rattle.scores.specs.Scored.{talliedOf, scoredFor, scoredOf}
+use Rattle.scores.specs.Answers.{scoreAnswer}
 use Rattle.scores.specs.declared.Scored.the-variants as S
-use Rattle.scores.proofs.Tallying.{site-fits, site-tallied, site-refused}
+use Rattle.scores.proofs.Answers.{tally-same}
 use borrow.Author.Needs.{needs}
 use Rattle.scores.proofs.score_list.Statement.{statement}
 use Rattle.scores.proofs.score_list.Tie as tie
 
--- the reader answered the header
-answered : (c : tie.After-known-told) → openOf (now (c .before .before .before .before .before .before .args .image)) ≡ O.Site (c .before .opened .given .0 .0)
-answered c = sym (c .before .before .before .open .ensures) ∙ c .before .opened .given .1
+-- the places that the answers speak of: the start, and the tally answered
+abbrev start : tie.After-tally-list → tie.Start
+start c = c .before .before .before
 
-open-requires : tie.Need-open-requires
-open-requires c κs = search needs
+abbrev listed : tie.After-known-told → tie.After-tally-list
+listed c = c .before .before .before
 
-enum-known-opened : tie.Need-enum-known-opened
-enum-known-opened c = search needs
+abbrev refused : tie.After-known-told2 → tie.After-tally-list
+refused c = c .before .before .before
 
-enum-told : tie.Need-enum-told
-enum-told c = search needs
+-- the tally's answer
+tallied-is : (c : tie.After-tally-list) → (let a = start c .args in c .tally-list .result ≡ talliedOf (now (a .image)) (now (a .list)))
+tallied-is c = tally-same _ _ (c .tally-list .ensures)
 
-refusal-of-requires : tie.Need-refusal-of-requires
-refusal-of-requires c κs = search needs
+tally-list-requires : tie.Need-tally-list-requires
+tally-list-requires c κs = tt
+
+enum-known-tallied : tie.Need-enum-known-tallied
+enum-known-tallied c = search needs
+
+scores-of-requires : tie.Need-scores-of-requires
+scores-of-requires c κs = tt
+
+enum-known-tallied-2 : tie.Need-enum-known-tallied-2
+enum-known-tallied-2 c = search needs
 
 returns : tie.Need-returns
 unfolding scoredOf
 returns c =
-    let a = c .before .before .before .before .before .before .args in
-    let t = c .before .enum-told .given .1 in
-    ap S.Refused (c .refusal-of .ensures ∙ ap refusalOf t) ∙ sym (ap scoredFor (site-refused (now (a .image)) _ (now (a .list)) (sym (c .before .before .before .open .ensures) ∙ t)))
-
-tally-site-requires : tie.Need-tally-site-requires
-tally-site-requires c κs = site-fits (now (c .before .before .before .before .before .before .args .image)) _ (answered c)
-
-scores-for-requires : tie.Need-scores-for-requires
-scores-for-requires c κs = search needs
+    let k = c .before in
+    ap scoreAnswer (ap S.Of (c .scores-of .ensures) ∙ ap scoredFor (sym (k .before .tallied .given .1) ∙ tallied-is (listed k)))
 
 returns-2 : tie.Need-returns-2
 unfolding scoredOf
-returns-2 c =
-    let a = c .before .before .before .before .before .before .before .before .args in
-    c .scores-for .ensures ∙ ap scoredFor (c .before .tally-site .ensures ∙ site-tallied (now (a .image)) _ (answered (c .before .before)) (now (a .list)))
+returns-2 c = ap scoreAnswer (ap scoredFor (sym (c .before .tallied2 .given .1) ∙ tallied-is (refused c)))
 
 pub score-list-spec : {M : Type 1} → statement M
 score-list-spec =
     tie.close
     (tie.spec
-    open-requires
-    enum-known-opened
-    enum-told
-    refusal-of-requires
+    tally-list-requires
+    enum-known-tallied
+    scores-of-requires
+    enum-known-tallied-2
     returns
-    tally-site-requires
-    scores-for-requires
     returns-2)
