@@ -1,1 +1,3 @@
 pub mod Signed
+pub mod Bounds
+pub mod Lossless

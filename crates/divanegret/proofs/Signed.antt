@@ -1,4 +1,7 @@
--- Numbers in an i64, as they are below 2 ^ 63, and made negative below 2 ^ 62.
+-- Numbers in an i64, as they are below 2 ^ 63, and made negative below 2 ^ 62: neither wraps.
+--
+--     is-pos                      an i64 below 2 ^ 63 is its number
+--     minus-fits, is-negative     the negative of a number below 2 ^ 62 fits an i64, and is what the code makes of it
 use Prim.Native.Nat.{ℕ, zero, suc, _<_}
 use mathlib.Core.Path.{_≡_, ap, _∙_}
 use native.Mathlib.Omega.{arith}

@@ -1,7 +1,15 @@
 -- The answers of the calls as the numbers that C gets: 0 or more for success, less than 0 for a refusal. include/divanegret.h says the same to a C reader.
 --
--- Where a number might be larger than its share of the code, it is cut off at the end of that share. No call's answer is that large: a place is at most
--- 4,096, a count of groups or a near count at most 512, a count of memberships at most 8,704, s and t at most 130,816 and o at most 4,096.
+--     refusalCode r     a refusal: number + 256 * place, made negative
+--     openCode o        an opened image: n + 65,536 m
+--     planCode p        a plan: groups + 65,536 memberships
+--     kindCode role     a role: its kind (0 core, 1 border, 2 outlier) + 65,536 times its community's number or its count of communities
+--     roleCode k        a handset: its role + 2 ^ 32 times its near count
+--     tallyCode t       a list: o + 65,536 t + 2 ^ 36 s
+--     lookedCode l      a group: the count of its members
+--     reportCode r      a report: the text's length, or the refusal's number made negative
+--
+-- Where a number might be larger than its share of the code, it is cut off at the end of that share. No call's answer is that large: specs/Lossless.
 use Prim.Native.Nat.{ℕ, _+_, _*_, min}
 use lib.IntN.{ℤ, pos, negℤ}
 use Rattle.image.specs.declared.Refusal.{Refusal}
@@ -9,8 +17,8 @@ use Rattle.image.specs.declared.Opened.{Opened}
 use Rattle.image.specs.declared.Opened.the-variants as O
 use Rattle.community.specs.declared.Role.{Role}
 use Rattle.community.specs.declared.Role.the-variants.{Core, Border, Outlier}
-use Rattle.planner.specs.declared.Planned.{Planned}
-use Rattle.planner.specs.declared.Planned.the-variants as P
+use Rattle.tables.specs.declared.Planned.{Planned}
+use Rattle.tables.specs.declared.Planned.the-variants as P
 use Rattle.planner.specs.declared.Known.{Known}
 use Rattle.planner.specs.declared.Known.the-variants as K
 use Rattle.scores.specs.declared.Tallied.{Tallied}
@@ -20,42 +28,34 @@ use Rattle.reporting.specs.declared.Reported.the-variants as R
 use Rattle.lookup.specs.declared.Looked.{Looked}
 use Rattle.lookup.specs.declared.Looked.the-variants as L
 
--- a refusal: number + 256 * place, made negative
 abbrev pub refusalCode : Refusal → ℤ
 refusalCode r = negℤ (pos (min (r .number) 255 + 256 * min (r .place) 4294967295))
 
--- an opened image: n + 65,536 m
 abbrev pub openCode : Opened → ℤ
 openCode (O.Site h) = pos (h .n + 65536 * h .m)
 openCode (O.Refused r) = refusalCode r
 
--- a plan: groups + 65,536 memberships
 abbrev pub planCode : Planned → ℤ
-planCode (P.Made g k) = pos (min g 65535 + 65536 * min k 65535)
+planCode (P.Made c) = pos (min (c .groups) 65535 + 65536 * min (c .memberships) 65535)
 planCode (P.Refused r) = refusalCode r
 
--- a role: its kind (0 core, 1 border, 2 outlier) + 65,536 times its community's number or its count of communities
 abbrev pub kindCode : Role → ℕ
 kindCode (Core k) = 0 + 65536 * min k 65535
 kindCode (Border k) = 1 + 65536 * min k 65535
 kindCode Outlier = 2
 
--- a handset: its role + 2 ^ 32 times its near count
 abbrev pub roleCode : Known → ℤ
 roleCode (K.Handset x) = pos (kindCode (x .role) + 4294967296 * min (x .neighbours) 65535)
 roleCode (K.Refused r) = refusalCode r
 
--- a list: o + 65,536 t + 2 ^ 36 s
 abbrev pub tallyCode : Tallied → ℤ
 tallyCode (T.Of x) = pos (min (x .leaving) 65535 + 65536 * min (x .tied) 1048575 + 68719476736 * min (x .pairs) 1048575)
 tallyCode (T.Refused r) = refusalCode r
 
--- a group: the count of its members
-abbrev pub partCode : Looked → ℕ → ℤ
-partCode L.Found n = pos n
-partCode (L.Refused r) n = refusalCode r
+abbrev pub lookedCode : Looked → ℤ
+lookedCode (L.Found n) = pos (min n 9223372036854775807)
+lookedCode (L.Refused r) = refusalCode r
 
--- a report: the text's length, or the refusal's number made negative
 abbrev pub reportCode : Reported → ℤ
 reportCode (R.Written n) = pos (min n 9223372036854775807)
 reportCode (R.Refused r) = negℤ (pos (r .number))

@@ -8,16 +8,16 @@ ghost use Rattle.image.specs.Questions.{openOf};
 ghost use Rattle.planner.specs.Plan.{planOf, startsAfter, membersAfter, knownOf};
 ghost use Rattle.scores.specs.Scored.{talliedOf};
 ghost use Rattle.reporting.specs.Report.{reportOf, textAfter};
-ghost use Rattle.lookup.specs.Lookup.{membersOf, lookedOf};
-ghost use Rattle.divanegret.specs.Codes.{refusalCode, openCode, planCode, kindCode, roleCode, tallyCode, partCode, reportCode};
+ghost use Rattle.lookup.specs.Lookup.{lookedOf};
+ghost use Rattle.divanegret.specs.Codes.{refusalCode, openCode, planCode, kindCode, roleCode, tallyCode, lookedCode, reportCode};
 use community::Role;
 use image::Opened;
 use image::Refusal;
 use lookup::Looked;
 use planner::Known;
-use planner::Planned;
 use reporting::Reported;
 use scores::Tallied;
+use tables::Planned;
 
 // The smaller of two numbers.
 fn at_most(x: u64, limit: u64) -> u64
@@ -47,7 +47,9 @@ fn plan_code(p: Planned) -> i64
     ensures { λ z. ⌜ z ≡ planCode p ⌝ }
 {
     match p {
-        Planned::Made(g, k) => (at_most(g as u64, 65535) + 65536 * at_most(k as u64, 65535)) as i64,
+        Planned::Made(c) => {
+            (at_most(c.groups as u64, 65535) + 65536 * at_most(c.memberships as u64, 65535)) as i64
+        }
         Planned::Refused(r) => refusal_code(r),
     }
 }
@@ -83,6 +85,15 @@ fn tally_code(t: Tallied) -> i64
             (inner + 68719476736 * at_most(x.pairs as u64, 1048575)) as i64
         }
         Tallied::Refused(r) => refusal_code(r),
+    }
+}
+
+fn looked_code(looked: Looked) -> i64
+    ensures { λ z. ⌜ z ≡ lookedCode looked ⌝ }
+{
+    match looked {
+        Looked::Found(count) => at_most(count as u64, 9223372036854775807) as i64,
+        Looked::Refused(r) => refusal_code(r),
     }
 }
 
@@ -138,12 +149,8 @@ pub extern "C" fn dvg_scores(image: &[u8], list: &[u16]) -> i64
 
 // The count of members of group k.
 #[no_mangle]
-pub extern "C" fn dvg_members<'a>(starts: &'a [u32], members: &'a [u16], k: usize) -> i64
-    ensures { λ z. ⌜ z ≡ partCode (lookedOf (now (starts .entry)) (now (members .entry)) k) (length (membersOf (now (starts .entry)) (now (members .entry)) k)) ⌝ }
+pub extern "C" fn dvg_members(starts: &[u32], members: &[u16], k: usize) -> i64
+    ensures { λ z. ⌜ z ≡ lookedCode (lookedOf (now (starts .entry)) (now (members .entry)) k) ⌝ }
 {
-    let looked = lookup::find_group(starts, members, k);
-    match looked {
-        Looked::Found => lookup::members(starts, members, k).len() as i64,
-        Looked::Refused(r) => refusal_code(r),
-    }
+    looked_code(lookup::find_group(starts, members, k))
 }

@@ -1,5 +1,6 @@
 -- The cases of the report's answer: of a refused image, and of a text that fits the buffer or does not; and what the program makes of each.
 --
+--     report-same                          two answers with the same number, place and values are the same
 --     site-answer, refused-answer          the call's answer and the buffer after it, for an accepted image and for a refused one
 --     program-long                         an input of more than 65,536 bytes
 --     program-written, program-refused     what the program prints after either answer
@@ -9,31 +10,39 @@ use mathlib.Core.Path.{_≡_, refl, sym, ap, _∙_, subst}
 use mathlib.Core.Bool.{Bool, true, false, cond}
 use mathlib.Core.List.{List, _++_}
 use lib.Dec.{leb}
-use lib.ListN.{length, drop}
+use lib.ListN.{length, getD, drop}
 use borrow.Author.Tests.{leb-true, le-leb, lt-ltb, le-ltb}
 use Rattle.sets.proofs.Writing.{sets-front}
 use Rattle.image.specs.Questions.{openOf}
+use Rattle.image.specs.Answers.{Answer}
 use Rattle.image.specs.declared.Header.{Header}
 use Rattle.image.specs.declared.Refusal.{Refusal}
 use Rattle.image.specs.declared.Opened.{Opened}
 use Rattle.image.specs.declared.Opened.the-variants as O
+use Rattle.image.proofs.Answers.{given-refused, refused-same}
 use Rattle.text.specs.Text.{Wrote}
-use Rattle.reporting.specs.Report.{reportText, writtenOf, writtenIn, reportFor, reportOf, afterFor, textAfter, refusedText, refusal15, refusal16, printed, programText, ReportCall}
+use Rattle.reporting.specs.Report.{reportText, writtenOf, writtenIn, reportFor, reportOf, afterFor, textAfter, refusedText, refusal15, refusal16, printed, programText, reportAnswer, ReportCall}
 use Rattle.reporting.specs.Held.{Filled}
 use Rattle.reporting.specs.declared.Reported.{Reported}
 use Rattle.reporting.specs.declared.Reported.the-variants as R
 
+pub report-same : (a b : Reported) → reportAnswer a ≡ reportAnswer b → a ≡ b
+report-same (R.Written k) (R.Written j) e = ap (λ (a : Answer). R.Written (getD (a .values) 0 0)) e
+report-same (R.Written k) (R.Refused r) e = given-refused _ _ r e
+report-same (R.Refused r) (R.Written k) e = given-refused _ _ r (sym e)
+report-same (R.Refused r) (R.Refused q) e = ap R.Refused (refused-same r q e)
+
 pub site-answer : {s l l′ : List ℕ} {r : Reported} (h : Header) → openOf s ≡ O.Site h → Filled (reportText s) l r l′ → ReportCall s l r l′
 unfolding reportOf textAfter
 site-answer {s} {l} h e f = record {
-  answer = f .answer ∙ sym (ap (λ (o : Opened). reportFor s o (length l)) e);
+  answer = ap reportAnswer (f .answer ∙ sym (ap (λ (o : Opened). reportFor s o (length l)) e));
   text = f .text ∙ sym (ap (λ (o : Opened). afterFor s o l) e);
 }
 
 pub refused-answer : (s l : List ℕ) (r : Refusal) → openOf s ≡ O.Refused r → ReportCall s l (R.Refused r) l
 unfolding reportOf textAfter
 refused-answer s l r e = record {
-  answer = sym (ap (λ (o : Opened). reportFor s o (length l)) e);
+  answer = ap reportAnswer (sym (ap (λ (o : Opened). reportFor s o (length l)) e));
   text = sym (ap (λ (o : Opened). afterFor s o l) e);
 }
 
@@ -70,7 +79,7 @@ program-short s room h = simp (le-ltb _ _ h)
 module _ (s l : List ℕ) (short : length s ≤ 65536) where
   written-text : (l′ : List ℕ) (k : ℕ) → length l < 9223372036854775808 → ReportCall s l (R.Written k) l′ → Wrote l 0 (reportText s) l′ k
   unfolding reportOf textAfter
-  written-text l′ k small call = go (openOf s) refl (call .answer)
+  written-text l′ k small call = go (openOf s) refl (report-same (R.Written k) (reportOf s (length l)) (call .answer))
     where
       go : (o : Opened) → openOf s ≡ o → R.Written k ≡ reportFor s o (length l) → Wrote l 0 (reportText s) l′ k
       go (O.Refused r) e q = let z : _≡_ {A = ℕ} 0 1 = cc in absurd (omega arith)
@@ -81,9 +90,9 @@ module _ (s l : List ℕ) (short : length s ≤ 65536) where
             next = omega (arith, f .0, f .1);
           }
 
-  refused-same : (l′ : List ℕ) (r : Refusal) → ReportCall s l (R.Refused r) l′ → l′ ≡ l
+  refused-text : (l′ : List ℕ) (r : Refusal) → ReportCall s l (R.Refused r) l′ → l′ ≡ l
   unfolding reportOf textAfter
-  refused-same l′ r call = call .text ∙ go (openOf s) refl (call .answer)
+  refused-text l′ r call = call .text ∙ go (openOf s) refl (report-same (R.Refused r) (reportOf s (length l)) (call .answer))
     where
       go : (o : Opened) → openOf s ≡ o → R.Refused r ≡ reportFor s o (length l) → afterFor s (openOf s) l ≡ l
       go (O.Refused x) e q = ap (λ (o : Opened). afterFor s o l) e
@@ -93,11 +102,11 @@ module _ (s l : List ℕ) (short : length s ≤ 65536) where
       → ReportCall s l answer l′ → Wrote l 0 (programText s (length l)) l′ k
   program-written l′ k answer small d call =
       let w : ReportCall s l (R.Written k) l′ = subst (λ (r : Reported). ReportCall s l r l′) d call in
-      subst (λ (t : List ℕ). Wrote l 0 t l′ k) (ap (printed s) (w .answer) ∙ sym (program-short s (length l) short)) (written-text l′ k small w)
+      subst (λ (t : List ℕ). Wrote l 0 t l′ k) (ap (printed s) (report-same (R.Written k) (reportOf s (length l)) (w .answer)) ∙ sym (program-short s (length l) short)) (written-text l′ k small w)
 
   pub program-refused : (l′ l″ : List ℕ) (r : Refusal) (k : ℕ) (answer : Reported) → answer ≡ R.Refused r
       → ReportCall s l answer l′ → Wrote l′ 0 (refusedText r) l″ k → Wrote l 0 (programText s (length l)) l″ k
   program-refused l′ l″ r k answer d call wrote =
       let w : ReportCall s l (R.Refused r) l′ = subst (λ (x : Reported). ReportCall s l x l′) d call in
-      subst (λ (t : List ℕ). Wrote l 0 t l″ k) (ap (printed s) (w .answer) ∙ sym (program-short s (length l) short))
-      (subst (λ (m : List ℕ). Wrote m 0 (refusedText r) l″ k) (refused-same l′ r w) wrote)
+      subst (λ (t : List ℕ). Wrote l 0 t l″ k) (ap (printed s) (report-same (R.Refused r) (reportOf s (length l)) (w .answer)) ∙ sym (program-short s (length l) short))
+      (subst (λ (m : List ℕ). Wrote m 0 (refusedText r) l″ k) (refused-text l′ r w) wrote)

@@ -10,6 +10,7 @@ use Rattle.text.specs.Text as X
 use Rattle.image.specs.declared.Refusal.{Refusal}
 use Rattle.reporting.specs.Report.{headLine, groupLine, listLine, refusedText, newline, handsetsWord, tiesWord, groupsWord, membershipsWord, coresWord, outliersWord, refusedWord}
 use Rattle.reporting.specs.Held.{tallyAt, tableLines, tableText}
+use Rattle.reporting.specs.declared.Head.{Head}
 
 pub lines-more : (starts members ts : List ℕ) (k : ℕ)
     → tableLines starts members ts (k + 1) ≡ tableLines starts members ts k ++ groupLine k (scoresFor (tallyAt ts k (membersOf starts members k))) (membersOf starts members k)
@@ -17,25 +18,25 @@ unfolding tableLines
 lines-more starts members ts k = ap (tableLines starts members ts) (add-one k)
 
 -- line one as its five writes leave it
-pub head-parts : (n m groups memberships : ℕ) → headLine n m groups memberships
-    ≡ ((((handsetsWord ++ decimal n) ++ (tiesWord ++ decimal m)) ++ (groupsWord ++ decimal groups)) ++ (membershipsWord ++ decimal memberships)) ++ newline
+pub head-parts : (h : Head) → headLine h
+    ≡ ((((handsetsWord ++ decimal (h .handsets)) ++ (tiesWord ++ decimal (h .ties))) ++ (groupsWord ++ decimal (h .groups))) ++ (membershipsWord ++ decimal (h .memberships))) ++ newline
 unfolding headLine
-head-parts n m groups memberships =
-    sym (five (handsetsWord ++ decimal n) (tiesWord ++ decimal m) (groupsWord ++ decimal groups) (membershipsWord ++ decimal memberships) newline
-    ∙ append-assoc handsetsWord (decimal n) _
-    ∙ ap (λ (l : List ℕ). handsetsWord ++ (decimal n ++ l)) (append-assoc tiesWord (decimal m) _
-    ∙ ap (λ (l : List ℕ). tiesWord ++ (decimal m ++ l)) (append-assoc groupsWord (decimal groups) _
-    ∙ ap (λ (l : List ℕ). groupsWord ++ (decimal groups ++ l)) (append-assoc membershipsWord (decimal memberships) newline))))
+head-parts h =
+    sym (five (handsetsWord ++ decimal (h .handsets)) (tiesWord ++ decimal (h .ties)) (groupsWord ++ decimal (h .groups)) (membershipsWord ++ decimal (h .memberships)) newline
+    ∙ append-assoc handsetsWord (decimal (h .handsets)) _
+    ∙ ap (λ (l : List ℕ). handsetsWord ++ (decimal (h .handsets) ++ l)) (append-assoc tiesWord (decimal (h .ties)) _
+    ∙ ap (λ (l : List ℕ). tiesWord ++ (decimal (h .ties) ++ l)) (append-assoc groupsWord (decimal (h .groups)) _
+    ∙ ap (λ (l : List ℕ). groupsWord ++ (decimal (h .groups) ++ l)) (append-assoc membershipsWord (decimal (h .memberships)) newline))))
   where
     five : (a b c d e : List ℕ) → (((a ++ b) ++ c) ++ d) ++ e ≡ a ++ (b ++ (c ++ (d ++ e)))
     five a b c d e = simp append-assoc
 
 -- the text as its four writes leave it
-pub text-parts : (n m groups memberships : ℕ) (starts members ts cores outliers : List ℕ) → tableText n m groups memberships starts members ts cores outliers
-    ≡ ((headLine n m groups memberships ++ tableLines starts members ts groups) ++ listLine coresWord (X.membersOf cores)) ++ listLine outliersWord (X.membersOf outliers)
+pub text-parts : (h : Head) (starts members ts cores outliers : List ℕ) → tableText h starts members ts cores outliers
+    ≡ ((headLine h ++ tableLines starts members ts (h .groups)) ++ listLine coresWord (X.membersOf cores)) ++ listLine outliersWord (X.membersOf outliers)
 unfolding tableText
-text-parts n m groups memberships starts members ts cores outliers =
-    sym (four (headLine n m groups memberships) (tableLines starts members ts groups) (listLine coresWord (X.membersOf cores)) (listLine outliersWord (X.membersOf outliers)))
+text-parts h starts members ts cores outliers =
+    sym (four (headLine h) (tableLines starts members ts (h .groups)) (listLine coresWord (X.membersOf cores)) (listLine outliersWord (X.membersOf outliers)))
   where
     four : (a b c d : List ℕ) → ((a ++ b) ++ c) ++ d ≡ a ++ (b ++ (c ++ d))
     four a b c d = simp append-assoc

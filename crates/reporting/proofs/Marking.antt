@@ -17,9 +17,9 @@ use lib.Seq.{take-suc}
 use borrow.Author.Tests.{lt-ltb, le-ltb, eq-eqb, ne-eqb}
 use Rattle.sets.specs.Below.{bit}
 use Rattle.sets.specs.Bits.{bitAt, withBit, withoutBit}
+use Rattle.sets.specs.Rows.{SetOf}
 use Rattle.sets.proofs.Bits.{bitAt-lt, bitAt-set-same, bitAt-set-other, bitAt-clear-same, bitAt-clear-other, bitAt-past, bitAt-zeros, length-withoutBit}
 use Rattle.community.specs.Network.{contains}
-use Rattle.planner.specs.Held.{SetOf}
 use Rattle.reporting.specs.Held.{Without}
 use Rattle.reporting.proofs.Outliers.{contains-append}
 

@@ -1,32 +1,33 @@
 -- The plan that the report works from: an accepted image has at most 512 communities and 8,704 memberships, so that its plan fits the two tables.
 --
---     plan-accepted    an image with a plan is accepted
 --     plan-held        the plan's counts and tables, and the set of cores
---     plan-refused     an image whose plan is refused is refused with the same
+--     plan-granted     the plan is not refused
 use Prim.Native.Nat.{ℕ, _≤_, _<_}
 use native.Mathlib.Omega.{arith}
-use mathlib.Core.Path.{_≡_, refl, sym, ap, _∙_}
+use mathlib.Core.Path.{_≡_, sym, ap, _∙_}
 use mathlib.Core.Bool.{_&&_}
-use mathlib.Core.List.{List}
+use mathlib.Core.List.{List, [], _∷_}
 use lib.Dec.{ltb}
 use lib.ListN.{length, replicate, length-replicate}
 use borrow.Author.Tests.{lt-ltb, le-leb}
 use Rattle.sets.specs.Below.{bit}
+use Rattle.sets.specs.Rows.{SetOf}
 use Rattle.image.specs.Image.{handsetCount}
-use Rattle.image.specs.Questions.{Accepted, headerOf, openOf}
+use Rattle.image.specs.Questions.{Accepted, headerOf}
 use Rattle.image.specs.declared.Header.{Header}
 use Rattle.image.specs.declared.Refusal.{Refusal}
 use Rattle.image.specs.declared.Opened.{Opened}
-use Rattle.image.specs.declared.Opened.the-variants as O
-use Rattle.image.proofs.Acceptance.{accepted, accepted-fits, opened}
+use Rattle.image.proofs.Acceptance.{accepted-fits, opened}
 use Rattle.community.specs.Network.{isCore, communities}
 use Rattle.community.specs.Site.{network}
 use Rattle.community.specs.Tables.{startTable, memberTable}
 use Rattle.community.proofs.Bound.{memberships-bound}
-use Rattle.planner.specs.Held.{SetOf}
-use Rattle.planner.specs.Plan.{byRoom, over, communitiesOf, planFor, planOf, tableFor, startsAfter, membersAfter, coreFor, PlanCall, CoreWords}
-use Rattle.planner.specs.declared.Planned.{Planned}
-use Rattle.planner.specs.declared.Planned.the-variants as P
+use Rattle.tables.specs.Plan.{byRoom, over, made, planAnswer}
+use Rattle.tables.specs.declared.Counts.{Counts}
+use Rattle.tables.specs.declared.Planned.{Planned}
+use Rattle.tables.specs.declared.Planned.the-variants as P
+use Rattle.tables.proofs.Answers.{plan-same}
+use Rattle.planner.specs.Plan.{communitiesOf, planFor, planOf, tableFor, startsAfter, membersAfter, coreFor, PlanCall, CoreWords}
 use Rattle.reporting.specs.Held.{PlanHeld}
 use Rattle.reporting.proofs.Whole.{communities-few}
 
@@ -48,7 +49,7 @@ module _ (s : List ℕ) (a : Accepted s) where
   unfolding headerOf
   bound = omega (arith, memberships-bound s a, accepted-fits s a .n-limit, accepted-fits s a .m-limit, length-replicate {A = ℕ} 8704 0)
 
-  plan-made : planOf s (length blankStarts) (length blankMembers) ≡ P.Made (length (communities (network s))) (length (memberTable (communities (network s))))
+  plan-made : planOf s (length blankStarts) (length blankMembers) ≡ made (length (communities (network s))) (length (memberTable (communities (network s))))
   unfolding planOf communitiesOf
   plan-made = ap (λ (o : Opened). planFor s o (length blankStarts) (length blankMembers)) (opened s a) ∙ in-room (communities (network s)) _ _ _ _ _ few bound
 
@@ -68,36 +69,25 @@ module _ (s : List ℕ) (a : Accepted s) where
   unfolding headerOf
   cores-held ws c = record { size = c .size; bits = λ v h. c .bits v h ∙ ap (λ (o : Opened). bit (coreFor s o v)) (opened s a) }
 
-  pub plan-held : (h : Header) (groups memberships : ℕ) (answer : Planned) (starts table ws : List ℕ) → h ≡ headerOf s → answer ≡ P.Made groups memberships
-      → PlanCall s blankStarts blankMembers answer starts table → CoreWords s ws → PlanHeld s h groups memberships starts table ws
-  plan-held h groups memberships answer starts table ws e d p c =
-      let m : P.Made groups memberships ≡ P.Made (length (communities (network s))) (length (memberTable (communities (network s)))) = sym d ∙ p .answer ∙ plan-made in
+  pub plan-held : (h : Header) (counts : Counts) (answer : Planned) (starts table ws : List ℕ) → h ≡ headerOf s → answer ≡ P.Made counts
+      → PlanCall s blankStarts blankMembers answer starts table → CoreWords s ws
+      → PlanHeld s h (record { handsets = h .n; ties = h .m; groups = counts .groups; memberships = counts .memberships }) starts table ws
+  unfolding headerOf
+  plan-held h counts answer starts table ws e d p c =
+      let m : counts .groups ∷ (counts .memberships ∷ []) ≡ length (communities (network s)) ∷ (length (memberTable (communities (network s))) ∷ []) =
+      ap (λ (x : Planned). planAnswer x .values) (sym d ∙ plan-same _ _ (p .answer) ∙ plan-made) in
+      let g : counts .groups ≡ length (communities (network s)) = cc in
+      let k : counts .memberships ≡ length (memberTable (communities (network s))) = cc in
       record {
         accepted = a;
         header = e;
-        groups-are = cc;
-        memberships-are = cc;
+        head-is = λ i. record { handsets = e i .n; ties = e i .m; groups = g i; memberships = k i };
         starts-are = p .starts ∙ starts-made;
         members-are = p .members ∙ members-made;
         cores-are = cores-held ws c;
       }
 
-pub plan-accepted : (s : List ℕ) (groups memberships : ℕ) (answer : Planned) (starts table : List ℕ) → answer ≡ P.Made groups memberships
-    → PlanCall s blankStarts blankMembers answer starts table → Accepted s
-unfolding planOf
-plan-accepted s groups memberships answer starts table d p = go (openOf s) refl (sym d ∙ p .answer)
-  where
-    go : (o : Opened) → openOf s ≡ o → P.Made groups memberships ≡ planFor s o (length blankStarts) (length blankMembers) → Accepted s
-    go (O.Site h) e q = accepted s h e .0
-    go (O.Refused r) e q = let z : _≡_ {A = ℕ} 0 1 = cc in absurd (omega arith)
-
-pub plan-refused : (s : List ℕ) (r : Refusal) (answer : Planned) (starts table : List ℕ) → answer ≡ P.Refused r
-    → PlanCall s blankStarts blankMembers answer starts table → openOf s ≡ O.Refused r
-unfolding planOf
-plan-refused s r answer starts table d p = go (openOf s) refl (sym d ∙ p .answer)
-  where
-    go : (o : Opened) → openOf s ≡ o → P.Refused r ≡ planFor s o (length blankStarts) (length blankMembers) → o ≡ O.Refused r
-    go (O.Refused x) e q = cc
-    go (O.Site h) e q =
-        let m : P.Refused r ≡ P.Made (length (communities (network s))) (length (memberTable (communities (network s)))) = sym d ∙ p .answer ∙ plan-made s (accepted s h e .0) in
-        let z : _≡_ {A = ℕ} 0 1 = cc in absurd (omega arith)
+  pub plan-granted : {A : Type 0} (r : Refusal) (answer : Planned) (starts table : List ℕ) → answer ≡ P.Refused r → PlanCall s blankStarts blankMembers answer starts table → A
+  plan-granted r answer starts table d p =
+      let m : P.Refused r ≡ made (length (communities (network s))) (length (memberTable (communities (network s)))) = sym d ∙ plan-same _ _ (p .answer) ∙ plan-made in
+      let z : _≡_ {A = ℕ} 0 1 = cc in absurd (omega arith)

@@ -5,33 +5,38 @@
 --     rows-none, rows-more          the rows of the first groups: of none, and of one more
 --     raised-more, raised-done      a table where the bits of a word are added one by one, the lowest first; raised-le: none is raised by more than 1
 --     edge-none, edge-more          one edge, for the groups of the first words: of none, and of one more; edge-room: no count is too large
+--     ends-at                       the ends that a record holds are those of its edge
 --     edges-none, edges-more        the first edges: none, and one more; edges-room: the next edge has room
 --     groups-counted                the counts by the rows are the groups' counts
 use Prim.Native.Nat.{ℕ, zero, suc, _+_, _*_, _-_, _^_, _≤_, _<_, min}
 use native.Mathlib.Omega.{arith}
 use native.Mathlib.Decide.{ℕ-discrete, decLt}
+use native.Mathlib.Nat.{add-zero}
 use native.Mathlib.Numerals.{add-one}
-use mathlib.Core.Path.{_≡_, refl, sym, ap, ap₂, _∙_}
+use mathlib.Core.Path.{_≡_, refl, sym, ap, ap₂, _∙_, subst₂}
 use mathlib.Core.Logic.{_⊎_, inl, inr, ⊎-elim}
 use mathlib.Core.Bool.{Bool, true, false, _&&_, _||_, cond}
 use mathlib.Core.List.{List, []}
 use lib.Dec.{eqb, leb, ltb}
 use lib.Bits.{bitAnd, bitXor, differ}
-use lib.ListN.{length, getD, set, take, replicate, length-replicate, getD-replicate}
+use lib.ListN.{length, getD, set, take, drop, replicate, length-replicate, getD-replicate}
 use lib.Seq.{getD-set-same, getD-set-other}
 use borrow.Author.Tests.{lt-ltb, le-ltb, le-leb, lt-leb, eq-eqb, ne-eqb}
 use Rattle.sets.specs.Below.{bit, count}
 use Rattle.sets.specs.Bits.{bitOf, bitAt, cell, withBit}
+use Rattle.sets.specs.Rows.{Table}
 use Rattle.sets.proofs.Bits.{bitOf-none, bitOf-lt, bitOf-and, bitOf-xor, bitOf-clear-same, bitOf-clear-other, bitAt-lt, bitAt-set-same, bitAt-set-other, bitAt-zeros, cell-word, length-withBit}
 use Rattle.sets.proofs.Counting.{count-cong, count-le, count-none}
 use Rattle.sets.proofs.Tests.{three}
+use Rattle.fields.specs.Bytes.{number}
+use Rattle.fields.specs.Fields.{endsOf}
+use Rattle.fields.proofs.Bytes.{number-part}
 use Rattle.image.specs.Image.{endA, endB}
 use Rattle.community.specs.Network.{contains}
 use Rattle.community.specs.Scores.{justOne}
-use Rattle.planner.specs.Held.{Table}
 use Rattle.lookup.specs.Lookup.{membersOf}
 use Rattle.scores.proofs.Entries.{bit-le}
-use Rattle.reporting.specs.Held.{inGroup, bitFor, tiedIn, leavesIn, Joined, Raised, Room, Ends, EdgeCounted, EdgesCounted, GroupsCounted}
+use Rattle.reporting.specs.Held.{inGroup, bitFor, tiedIn, leavesIn, Joined, Raised, Room, Edges, EdgeCounted, EdgesCounted, GroupsCounted}
 use Rattle.reporting.proofs.Marking.{bit-test, test-bit, and-false, or-false, contains-more}
 
 -- ---- the rows
@@ -299,6 +304,14 @@ edge-room rows u v words ts₀ ts room c i h = pick (decLt i 512)
 
 -- ---- all edges
 
+pub ends-at : (part : List ℕ) (k : ℕ) → 4 * k + 4 ≤ length part
+    → (let r : List ℕ = take ((4 * k + 4) - 4 * k) (drop (4 * k) part) in (endsOf r .a ≡ endA part k) × (endsOf r .b ≡ endB part k))
+unfolding endsOf endA endB
+ends-at part k h =
+    let part-of : (at : ℕ) → at + 2 ≤ 4 → number 2 (take ((4 * k + 4) - 4 * k) (drop (4 * k) part)) at ≡ number 2 part (4 * k + at) =
+    λ at l. number-part 2 part (4 * k) ((4 * k + 4) - 4 * k) at (omega arith) (omega arith) in
+    (part-of 0 (omega arith) ∙ ap (number 2 part) (add-zero (4 * k)), part-of 2 (omega arith))
+
 pub edges-none : (rows part : List ℕ) (words : ℕ) → EdgesCounted rows part 0 words (replicate 1024 0)
 edges-none rows part words = record {
   size = length-replicate {A = ℕ} 1024 0;
@@ -310,13 +323,15 @@ count-next : (n : ℕ) (f : ℕ → Bool) → count (n + 1) f ≡ count n f + bi
 unfolding count
 count-next n f = ap (λ (k : ℕ). count k f) (add-one n) ∙ omega arith
 
-pub edges-more : (rows part : List ℕ) (e words : ℕ) (ts ts′ : List ℕ) → EdgesCounted rows part e words ts
-    → EdgeCounted rows (endA part e) (endB part e) words ts ts′ → EdgesCounted rows part (e + 1) words ts′
-edges-more rows part e words ts ts′ c d = record {
-  size = d .size;
-  tied = λ k h. omega (arith, d .tied k h, c .tied k h, count-next e (λ i. tiedIn rows words (endA part i) (endB part i) k));
-  leaving = λ k h. omega (arith, d .leaving k h, c .leaving k h, count-next e (λ i. leavesIn rows words (endA part i) (endB part i) k));
-}
+pub edges-more : (rows part : List ℕ) (e words : ℕ) (ts ts′ : List ℕ) {u v : ℕ} → EdgesCounted rows part e words ts
+    → u ≡ endA part e → v ≡ endB part e → EdgeCounted rows u v words ts ts′ → EdgesCounted rows part (e + 1) words ts′
+edges-more rows part e words ts ts′ c p q held =
+    let d : EdgeCounted rows (endA part e) (endB part e) words ts ts′ = subst₂ (λ (u v : ℕ). EdgeCounted rows u v words ts ts′) p q held in
+    record {
+      size = d .size;
+      tied = λ k h. omega (arith, d .tied k h, c .tied k h, count-next e (λ i. tiedIn rows words (endA part i) (endB part i) k));
+      leaving = λ k h. omega (arith, d .leaving k h, c .leaving k h, count-next e (λ i. leavesIn rows words (endA part i) (endB part i) k));
+    }
 
 pub edges-room : (rows part : List ℕ) (e words : ℕ) (ts : List ℕ) → e ≤ 4096 → EdgesCounted rows part e words ts → Room ts
 edges-room rows part e words ts h c = record {
@@ -327,7 +342,7 @@ edges-room rows part e words ts h c = record {
 
 -- by the rows of the first groups
 module _ (rows part starts members : List ℕ) (m words groups : ℕ) (few : groups ≤ 512) (wide : groups ≤ 64 * words)
-    (table : Table rows (λ v k. ltb k groups && contains v (membersOf starts members k))) (ends : Ends part m) where
+    (table : Table rows (λ v k. ltb k groups && contains v (membersOf starts members k))) (ends : Edges part m) where
   in-group : (v k : ℕ) → v < 512 → k < groups → inGroup rows v k ≡ contains v (membersOf starts members k)
   in-group v k h l =
       ap (λ (x : ℕ). eqb x 1) (table .bits v k h (omega arith)) ∙ bit-test (ltb k groups && contains v (membersOf starts members k))

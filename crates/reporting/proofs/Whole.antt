@@ -12,10 +12,11 @@ use mathlib.Core.Path.{_≡_, refl, sym, ap, ap₂, _∙_, subst}
 use mathlib.Core.Bool.{_&&_, not}
 use mathlib.Core.List.{List, [], _++_}
 use lib.Dec.{ltb}
-use lib.ListN.{length, getD, take, drop, replicate, length-append}
+use lib.ListN.{length, getD, take, drop, replicate, length-append, length-take, length-drop}
 use lib.Seq.{take-at, take-all}
 use Rattle.sets.specs.Below.{select, bit}
 use Rattle.sets.specs.Bits.{bitAt}
+use Rattle.sets.specs.Rows.{SetOf}
 use Rattle.sets.proofs.Counting.{count-le}
 use Rattle.sets.proofs.Selecting.{length-select, select-ascends, select-cong}
 use Rattle.image.specs.Image.{handsetCount, edgeCount, edgeOffset, edgeRecords}
@@ -23,20 +24,20 @@ use Rattle.image.specs.Questions.{headerOf}
 use Rattle.image.specs.declared.Header.{Header}
 use Rattle.image.proofs.Acceptance.{accepted-fits, length-is, ends-below}
 use Rattle.community.specs.Network.{Network, isCore, isLeader, leaders, members, reachable, communities, cores, contains, role}
-use Rattle.community.specs.Scores.{pairs, tiedPairs, leaving}
+use Rattle.community.specs.Scores.{pairs, everyEdge, tiedPairs, leaving}
 use Rattle.community.specs.Site.{network}
 use Rattle.community.specs.Tables.{startTable, memberTable}
 use Rattle.community.proofs.Communities.{leader, length-communities, community-at}
 use Rattle.community.proofs.Site.{accepted-sound}
 use Rattle.community.proofs.Tables.{length-startTable, table-community, starts-ordered, starts-within}
-use Rattle.planner.specs.Held.{SetOf}
 use Rattle.lookup.specs.Lookup.{membersOf}
 use Rattle.lookup.proofs.Agreement.{members-slice}
 use Rattle.scores.specs.Scored.{tallyOf}
 use Rattle.scores.proofs.Tallying.{tied-once}
 use Rattle.text.specs.Text as X
 use Rattle.reporting.specs.Report.{headLine, groupLines, listLine, isOutlier, outliers, reportWith, reportText, coresWord, outliersWord}
-use Rattle.reporting.specs.Held.{tallyAt, Ends, GroupsCounted, tableLines, tableText, Without, PlanHeld}
+use Rattle.reporting.specs.Held.{tallyAt, Edges, GroupsCounted, tableLines, tableText, Without, PlanHeld}
+use Rattle.reporting.specs.declared.Head.{Head}
 use Rattle.reporting.proofs.Outliers.{outlier-test, held-members}
 use Rattle.reporting.proofs.Marking.{outside}
 
@@ -78,33 +79,39 @@ lines-are s gs starts table ts (suc k) p q =
     (lines-are s gs starts table ts k (λ j h. p j (omega arith)) (λ j h. q j (omega arith)))
     (rw (p k (omega arith), q k (omega arith)))
 
-module _ {s : List ℕ} {h : Header} {groups memberships : ℕ} {starts table cores-set : List ℕ} (held : PlanHeld s h groups memberships starts table cores-set) where
-  pub groups-few : groups ≤ 512
-  unfolding headerOf
-  groups-few = omega (arith, held .groups-are, communities-few (network s), accepted-fits s (held .accepted) .n-limit)
+module _ {s : List ℕ} {h : Header} {head : Head} {starts table cores-set : List ℕ} (held : PlanHeld s h head starts table cores-set) where
+  groups-are : head .groups ≡ length (communities (network s))
+  groups-are = ap (λ (x : Head). x .groups) (held .head-is)
 
-  part-at : (k : ℕ) → k < groups → membersOf starts table k ≡ getD (communities (network s)) k []
+  memberships-are : head .memberships ≡ length (memberTable (communities (network s)))
+  memberships-are = ap (λ (x : Head). x .memberships) (held .head-is)
+
+  pub groups-few : head .groups ≤ 512
+  unfolding headerOf
+  groups-few = omega (arith, groups-are, communities-few (network s), accepted-fits s (held .accepted) .n-limit)
+
+  part-at : (k : ℕ) → k < head .groups → membersOf starts table k ≡ getD (communities (network s)) k []
   part-at k l =
       let gs : List (List ℕ) = communities (network s) in
       rw (held .starts-are, held .members-are)
-      (part-is gs (drop (length (startTable gs)) (replicate 513 0)) (drop (length (memberTable gs)) (replicate 8704 0)) k (omega (arith, held .groups-are)))
+      (part-is gs (drop (length (startTable gs)) (replicate 513 0)) (drop (length (memberTable gs)) (replicate 8704 0)) k (omega (arith, groups-are)))
 
   -- the counts of a group are its community's tally
-  tally-held : (ts : List ℕ) → GroupsCounted (edgeRecords s) (edgeCount s) starts table groups ts
-      → (k : ℕ) → k < groups → tallyAt ts k (getD (communities (network s)) k []) ≡ tallyOf s (getD (communities (network s)) k [])
+  tally-held : (ts : List ℕ) → GroupsCounted (edgeRecords s) (edgeCount s) starts table (head .groups) ts
+      → (k : ℕ) → k < head .groups → tallyAt ts k (getD (communities (network s)) k []) ≡ tallyOf s (getD (communities (network s)) k [])
   unfolding tallyAt tallyOf leaving headerOf
   tally-held ts c k l =
-      let inside : k < length (communities (network s)) = omega (arith, held .groups-are) in
+      let inside : k < length (communities (network s)) = omega (arith, groups-are) in
       let list : List ℕ = getD (communities (network s)) k [] in
       let p : pairs (take 512 list) ≡ pairs list = ap pairs (take-all 512 list (omega (arith, community-few (network s) k inside, accepted-fits s (held .accepted) .n-limit))) in
-      let t : getD ts k 0 ≡ tiedPairs s list =
-      rw (part-at k l) at (c .tied k l) ∙ sym (tied-once s (held .accepted) list (community-apart (network s) k inside)) in
-      let o : getD ts (512 + k) 0 ≡ leaving s list = rw (part-at k l) at (c .leaving k l) in
+      let t : getD ts k 0 ≡ tiedPairs s everyEdge list =
+      rw (part-at k l) at (c .tied k l) ∙ sym (tied-once s (held .accepted) everyEdge list (community-apart (network s) k inside)) in
+      let o : getD ts (512 + k) 0 ≡ leaving s everyEdge list = rw (part-at k l) at (c .leaving k l) in
       λ i. record { pairs = p i; tied = t i; leaving = o i }
 
-  pub text-is : (ts outlier-set : List ℕ) → GroupsCounted (edgeRecords s) (edgeCount s) starts table groups ts
+  pub text-is : (ts outlier-set : List ℕ) → GroupsCounted (edgeRecords s) (edgeCount s) starts table (head .groups) ts
       → ((v : ℕ) → v < 512 → bitAt outlier-set v ≡ bit (ltb v (handsetCount s) && not (contains v (memberTable (communities (network s))))))
-      → tableText (handsetCount s) (edgeCount s) groups memberships starts table ts cores-set outlier-set ≡ reportText s
+      → tableText head starts table ts cores-set outlier-set ≡ reportText s
   unfolding tableText reportText reportWith cores outliers headerOf
   text-is ts outlier-set e o =
       let n : ℕ = handsetCount s in
@@ -115,9 +122,9 @@ module _ {s : List ℕ} {h : Header} {groups memberships : ℕ} {starts table co
       held-members outlier-set n (λ v. not (contains v (memberTable gs))) few o
       ∙ select-cong n (λ v. not (contains v (memberTable gs))) (λ v. isOutlier (role (network s) v)) (λ v l. sym (outlier-test (accepted-sound s (held .accepted)) v l)) in
       ap₂ (λ (a b : List ℕ). a ++ b)
-      (ap₂ (λ (a b : ℕ). headLine n (edgeCount s) a b) (held .groups-are) (held .memberships-are))
+      (ap headLine (held .head-is))
       (ap₂ (λ (a b : List ℕ). a ++ b)
-      (lines-are s gs starts table ts groups part-at (tally-held ts e) ∙ ap (groupLines s gs) (held .groups-are))
+      (lines-are s gs starts table ts (head .groups) part-at (tally-held ts e) ∙ ap (groupLines s gs) groups-are)
       (ap₂ (λ (a b : List ℕ). listLine coresWord a ++ listLine outliersWord b) core-list outlier-list))
 
   header-fits : (headerOf s .n ≤ 512) × (headerOf s .edges + 4 * headerOf s .m ≤ length s)
@@ -132,55 +139,55 @@ module _ {s : List ℕ} {h : Header} {groups memberships : ℕ} {starts table co
   pub edges-fit : h .edges + 4 * h .m ≤ length s
   edges-fit = rw (held .header) (header-fits .1)
 
-  pub members-fit : memberships ≤ length table
+  pub members-fit : head .memberships ≤ length table
   members-fit =
       let gs : List (List ℕ) = communities (network s) in
-      rw (held .members-are) (omega (arith, held .memberships-are, length-append (memberTable gs) (drop (length (memberTable gs)) (replicate 8704 0))))
+      rw (held .members-are) (omega (arith, memberships-are, length-append (memberTable gs) (drop (length (memberTable gs)) (replicate 8704 0))))
 
   -- the part of the member table that is written
-  written-part : take (memberships - 0) (drop 0 table) ≡ memberTable (communities (network s))
+  written-part : take (head .memberships - 0) (drop 0 table) ≡ memberTable (communities (network s))
   written-part =
       let gs : List (List ℕ) = communities (network s) in
-      ap (λ (k : ℕ). take k table) (let e : memberships - 0 ≡ memberships = omega arith in e)
-      ∙ ap (take memberships) (held .members-are)
-      ∙ take-at (memberTable gs) (drop (length (memberTable gs)) (replicate 8704 0)) memberships (sym (held .memberships-are))
+      ap (λ (k : ℕ). take k table) (let e : head .memberships - 0 ≡ head .memberships = omega arith in e)
+      ∙ ap (take (head .memberships)) (held .members-are)
+      ∙ take-at (memberTable gs) (drop (length (memberTable gs)) (replicate 8704 0)) (head .memberships) (sym memberships-are)
 
   -- the part of the image that the edge records stand in
   edges-part : take ((headerOf s .edges + 4 * headerOf s .m) - headerOf s .edges) (drop (headerOf s .edges) s) ≡ edgeRecords s
   unfolding headerOf edgeRecords
   edges-part = ap (λ (k : ℕ). take k (drop (edgeOffset s) s)) (let e : (edgeOffset s + 4 * edgeCount s) - edgeOffset s ≡ 4 * edgeCount s = omega arith in e)
 
-  header-ends : Ends (edgeRecords s) (headerOf s .m)
-  unfolding headerOf
+  header-ends : Edges (edgeRecords s) (headerOf s .m)
+  unfolding headerOf edgeRecords
   header-ends =
       let f = accepted-fits s (held .accepted) in
       record {
         few = f .m-limit;
+        whole = simp (length-take, length-drop) (omega (arith, f .edges-to, length-is s (held .accepted)));
         low = λ e l. let b = ends-below s (held .accepted) e l in (omega (arith, b .0, f .n-limit), omega (arith, b .1, f .n-limit));
       }
 
   -- the same from the header's own numbers
-  text-of-header : (ts outlier-set : List ℕ) → GroupsCounted (edgeRecords s) (headerOf s .m) starts table groups ts
+  text-of-header : (ts outlier-set : List ℕ) → GroupsCounted (edgeRecords s) (headerOf s .m) starts table (head .groups) ts
       → ((v : ℕ) → v < 512 → bitAt outlier-set v ≡ bit (ltb v (headerOf s .n) && not (contains v (memberTable (communities (network s))))))
-      → tableText (headerOf s .n) (headerOf s .m) groups memberships starts table ts cores-set outlier-set ≡ reportText s
+      → tableText head starts table ts cores-set outlier-set ≡ reportText s
   unfolding headerOf
   text-of-header ts outlier-set e o = text-is ts outlier-set e o
 
-  pub ends-held : Ends (take ((h .edges + 4 * h .m) - h .edges) (drop (h .edges) s)) (h .m)
+  pub ends-held : Edges (take ((h .edges + 4 * h .m) - h .edges) (drop (h .edges) s)) (h .m)
   ends-held = rw (held .header) (rw edges-part header-ends)
 
   pub text-held : (ts low outlier-set : List ℕ)
-      → GroupsCounted (take ((h .edges + 4 * h .m) - h .edges) (drop (h .edges) s)) (h .m) starts table groups ts
-      → SetOf low (λ v. ltb v (h .n)) → Without low (take (memberships - 0) (drop 0 table)) outlier-set
-      → tableText (h .n) (h .m) groups memberships starts table ts cores-set outlier-set ≡ reportText s
+      → GroupsCounted (take ((h .edges + 4 * h .m) - h .edges) (drop (h .edges) s)) (h .m) starts table (head .groups) ts
+      → SetOf low (λ v. ltb v (h .n)) → Without low (take (head .memberships - 0) (drop 0 table)) outlier-set
+      → tableText head starts table ts cores-set outlier-set ≡ reportText s
   text-held ts low outlier-set e p q =
       let m : List ℕ = memberTable (communities (network s)) in
-      let counted : GroupsCounted (take ((headerOf s .edges + 4 * headerOf s .m) - headerOf s .edges) (drop (headerOf s .edges) s)) (headerOf s .m) starts table groups ts =
-      subst (λ (x : Header). GroupsCounted (take ((x .edges + 4 * x .m) - x .edges) (drop (x .edges) s)) (x .m) starts table groups ts) (held .header) e in
-      ap (λ (x : Header). tableText (x .n) (x .m) groups memberships starts table ts cores-set outlier-set) (held .header)
-      ∙ text-of-header ts outlier-set
-      (subst (λ (part : List ℕ). GroupsCounted part (headerOf s .m) starts table groups ts) edges-part counted)
+      let counted : GroupsCounted (take ((headerOf s .edges + 4 * headerOf s .m) - headerOf s .edges) (drop (headerOf s .edges) s)) (headerOf s .m) starts table (head .groups) ts =
+      subst (λ (x : Header). GroupsCounted (take ((x .edges + 4 * x .m) - x .edges) (drop (x .edges) s)) (x .m) starts table (head .groups) ts) (held .header) e in
+      text-of-header ts outlier-set
+      (subst (λ (part : List ℕ). GroupsCounted part (headerOf s .m) starts table (head .groups) ts) edges-part counted)
       (λ v l.
       outside (h .n) p q v l
-      ∙ ap (λ (x : Header). bit (ltb v (x .n) && not (contains v (take (memberships - 0) (drop 0 table))))) (held .header)
+      ∙ ap (λ (x : Header). bit (ltb v (x .n) && not (contains v (take (head .memberships - 0) (drop 0 table))))) (held .header)
       ∙ ap (λ (part : List ℕ). bit (ltb v (headerOf s .n) && not (contains v part))) written-part)

@@ -6,7 +6,7 @@
 --     Joined rows l k ..   the rows with group k added to those of the handsets in l
 --     Raised ts base w ..  a table with 1 added at base + k for each set bit k of the word w
 --     Room ts              a table of 1,024 numbers that none of 4,096 edges makes too large
---     Ends part m          the ends of the first m edges, which have rows
+--     Edges part m         m edge records stand in the part, and the ends of each have rows
 --     EdgeCounted ..       a table with one edge added, for the groups of the first words of the rows
 --     EdgesCounted ..      the counts over the first m edges, for those groups
 --     GroupsCounted ..     the tied pairs and the leaving edges of each group of a plan's two tables
@@ -14,7 +14,7 @@
 --     tableText ..         the whole text from the tables and the two sets
 --     Filled t l r l′      a text t was written into the buffer l where it fits: the answer r, and the buffer after
 --     Without ws l ws′     the set ws with the numbers of l taken out
---     PlanHeld s ..        the plan of an accepted image in the two tables, with the set of cores
+--     PlanHeld s ..        an accepted image's header, the numbers of line one, the plan in the two tables, and the set of cores
 use Prim.Native.Nat.{ℕ, zero, suc, _+_, _*_, _-_, _≤_, _<_}
 use mathlib.Core.Path.{_≡_}
 use mathlib.Core.Bool.{Bool, _&&_, _||_, not, cond}
@@ -23,6 +23,7 @@ use lib.Dec.{eqb, leb, ltb}
 use lib.ListN.{length, getD, take, replicate}
 use Rattle.sets.specs.Below.{bit, count}
 use Rattle.sets.specs.Bits.{bitOf, bitAt, cell}
+use Rattle.sets.specs.Rows.{SetOf}
 use Rattle.image.specs.Image.{handsetCount, endA, endB}
 use Rattle.image.specs.Questions.{Accepted, headerOf}
 use Rattle.image.specs.declared.Header.{Header}
@@ -30,15 +31,15 @@ use Rattle.community.specs.Network.{contains, isCore, communities}
 use Rattle.community.specs.Scores.{pairs, justOne}
 use Rattle.community.specs.Site.{network}
 use Rattle.community.specs.Tables.{startTable, memberTable}
-use Rattle.planner.specs.Held.{SetOf}
-use Rattle.planner.specs.Plan.{over}
+use Rattle.tables.specs.Plan.{over}
 use Rattle.lookup.specs.Lookup.{membersOf}
 use Rattle.scores.specs.declared.Scores.{Scores}
 use Rattle.scores.specs.declared.Tally.{Tally}
 use Rattle.scores.specs.Scored.{scoresFor}
 use Rattle.text.specs.Text.{decimal}
 use Rattle.text.specs.Text as T
-use Rattle.reporting.specs.Report.{headLine, scoreText, groupLine, listLine, groupWord, densityWord, conductanceWord, coresWord, outliersWord, writtenOf, writtenIn}
+use Rattle.reporting.specs.Report.{headLine, headOf, scoreText, groupLine, listLine, groupWord, densityWord, conductanceWord, coresWord, outliersWord, writtenOf, writtenIn}
+use Rattle.reporting.specs.declared.Head.{Head}
 use Rattle.reporting.specs.declared.Reported.{Reported}
 
 -- what stands before the colon in the line of group k
@@ -73,8 +74,9 @@ pub record Room (ts : List ℕ) : Type 0 where
   pub tied : (k : ℕ) → k < 512 → getD ts k 0 ≤ 4096
   pub leaving : (k : ℕ) → k < 512 → getD ts (512 + k) 0 ≤ 4096
 
-pub record Ends (part : List ℕ) (m : ℕ) : Type 0 where
+pub record Edges (part : List ℕ) (m : ℕ) : Type 0 where
   pub few : m ≤ 4096
+  pub whole : 4 * m ≤ length part
   pub low : (e : ℕ) → e < m → (endA part e < 512) × (endB part e < 512)
 
 -- the edge between u and v is tied in group k, or leaves it; k is one of the first words' groups
@@ -107,10 +109,10 @@ unfoldable pub tableLines : List ℕ → List ℕ → List ℕ → ℕ → List 
 tableLines starts members ts zero = []
 tableLines starts members ts (suc k) = tableLines starts members ts k ++ groupLine k (scoresFor (tallyAt ts k (membersOf starts members k))) (membersOf starts members k)
 
-unfoldable pub tableText : ℕ → ℕ → ℕ → ℕ → List ℕ → List ℕ → List ℕ → List ℕ → List ℕ → List ℕ
-tableText n m groups memberships starts members ts cores outliers =
-    headLine n m groups memberships
-    ++ (tableLines starts members ts groups ++ (listLine coresWord (T.membersOf cores) ++ listLine outliersWord (T.membersOf outliers)))
+unfoldable pub tableText : Head → List ℕ → List ℕ → List ℕ → List ℕ → List ℕ → List ℕ
+tableText head starts members ts cores outliers =
+    headLine head
+    ++ (tableLines starts members ts (head .groups) ++ (listLine coresWord (T.membersOf cores) ++ listLine outliersWord (T.membersOf outliers)))
 
 pub record Filled (t l : List ℕ) (r : Reported) (l′ : List ℕ) : Type 0 where
   pub answer : r ≡ writtenOf t (length l)
@@ -120,11 +122,10 @@ pub record Without (ws l ws′ : List ℕ) : Type 0 where
   pub size : length ws′ ≡ length ws
   pub bits : (v : ℕ) → bitAt ws′ v ≡ bit (eqb (bitAt ws v) 1 && not (contains v l))
 
-pub record PlanHeld (s : List ℕ) (h : Header) (groups memberships : ℕ) (starts members cores : List ℕ) : Type 0 where
+pub record PlanHeld (s : List ℕ) (h : Header) (head : Head) (starts members cores : List ℕ) : Type 0 where
   pub accepted : Accepted s
   pub header : h ≡ headerOf s
-  pub groups-are : groups ≡ length (communities (network s))
-  pub memberships-are : memberships ≡ length (memberTable (communities (network s)))
+  pub head-is : head ≡ headOf s (communities (network s))
   pub starts-are : starts ≡ over (startTable (communities (network s))) (replicate 513 0)
   pub members-are : members ≡ over (memberTable (communities (network s))) (replicate 8704 0)
   pub cores-are : SetOf cores (λ v. ltb v (handsetCount s) && isCore (network s) v)

@@ -1,14 +1,15 @@
 -- The text of a report, and the answers of the calls that write it (paper 01, "Scores, lookup, report").
 --
 --     headLine, groupLine, listLine    the kinds of lines, each ended by byte 10
+--     headOf s gs                      the numbers of line one
 --     reportText s                     the whole text for an accepted image: its exact bytes
 --     outliers g                       the handsets in no community, ascending
 --     reportOf s room                  the answer for an image and a buffer of room bytes: its refusal, 16, or the text's length
 --     textAfter s buffer               every byte of the buffer after the call
+--     reportAnswer r                   its number, place and values: the text's length
 --     ReportCall                       the outcome of a call: its answer and the buffer
 --     refusedText                      what the program prints for a refusal
 --     programText s room               what the report program prints for an input, with a buffer of room bytes
---     refusalIn                        the paper's number and place for each case of the answer
 use Prim.Native.Nat.{ℕ, zero, suc}
 use mathlib.Core.Path.{_≡_}
 use mathlib.Core.Bool.{Bool, true, false, cond}
@@ -18,6 +19,7 @@ use lib.ListN.{length, getD, drop}
 use Rattle.sets.specs.Below.{select}
 use Rattle.image.specs.Image.{handsetCount, edgeCount}
 use Rattle.image.specs.Questions.{openOf}
+use Rattle.image.specs.Answers.{Answer, refused, given}
 use Rattle.image.specs.declared.Refusal.{Refusal}
 use Rattle.image.specs.declared.Opened.{Opened}
 use Rattle.image.specs.declared.Opened.the-variants as O
@@ -31,6 +33,7 @@ use Rattle.scores.specs.declared.Score.the-variants.{Ratio, Nothing}
 use Rattle.scores.specs.declared.Scores.{Scores}
 use Rattle.scores.specs.Scored.{tallyOf, scoresFor}
 use Rattle.text.specs.Text.{decimal, numbers}
+use Rattle.reporting.specs.declared.Head.{Head}
 use Rattle.reporting.specs.declared.Reported.{Reported}
 use Rattle.reporting.specs.declared.Reported.the-variants as R
 
@@ -82,9 +85,10 @@ abbrev pub newline : List ℕ
 newline = 10 ∷ []
 
 -- n, m, and the plan's two counts
-unfoldable pub headLine : ℕ → ℕ → ℕ → ℕ → List ℕ
-headLine n m groups memberships =
-    handsetsWord ++ (decimal n ++ (tiesWord ++ (decimal m ++ (groupsWord ++ (decimal groups ++ (membershipsWord ++ (decimal memberships ++ newline)))))))
+unfoldable pub headLine : Head → List ℕ
+headLine h =
+    handsetsWord ++ (decimal (h .handsets) ++ (tiesWord ++ (decimal (h .ties)
+    ++ (groupsWord ++ (decimal (h .groups) ++ (membershipsWord ++ (decimal (h .memberships) ++ newline)))))))
 
 -- two numbers with a slash between, not reduced; a hyphen for no score
 unfoldable pub scoreText : Score → List ℕ
@@ -115,10 +119,14 @@ isOutlier Outlier = true
 unfoldable pub outliers : Network → List ℕ
 outliers g = select (g .n) (λ v. isOutlier (role g v))
 
+-- n, m, and the counts of the communities gs
+abbrev pub headOf : List ℕ → List (List ℕ) → Head
+headOf s gs = record { handsets = handsetCount s; ties = edgeCount s; groups = length gs; memberships = length (memberTable gs) }
+
 -- of an image with the communities gs
 unfoldable pub reportWith : List ℕ → List (List ℕ) → List ℕ
 reportWith s gs =
-    headLine (handsetCount s) (edgeCount s) (length gs) (length (memberTable gs))
+    headLine (headOf s gs)
     ++ (groupLines s gs (length gs) ++ (listLine coresWord (cores (network s)) ++ listLine outliersWord (outliers (network s))))
 
 unfoldable pub reportText : List ℕ → List ℕ
@@ -151,14 +159,14 @@ afterFor s (O.Refused r) buffer = buffer
 unfoldable pub textAfter : List ℕ → List ℕ → List ℕ
 textAfter s buffer = afterFor s (openOf s) buffer
 
--- the paper's number and place for each case of the answer; 0 where the text is written
-abbrev pub refusalIn : Reported → Refusal
-refusalIn (R.Written k) = record { number = 0; place = 0 }
-refusalIn (R.Refused r) = r
+-- the paper's number, place and values for each case of the answer
+abbrev pub reportAnswer : Reported → Answer
+reportAnswer (R.Written k) = given (k ∷ [])
+reportAnswer (R.Refused r) = refused r
 
 -- the outcome of a call: of the image s, the buffer l as lent, the answer r, and the buffer l′ after the call
 pub record ReportCall (s l : List ℕ) (r : Reported) (l′ : List ℕ) : Type 0 where
-  pub answer : r ≡ reportOf s (length l)
+  pub answer : reportAnswer r ≡ reportAnswer (reportOf s (length l))
   pub text : l′ ≡ textAfter s l
 
 -- ---- the report program

@@ -9,9 +9,9 @@ ghost use mathlib.Core.Bool.{_&&_};
 ghost use lib.Dec.{ltb};
 ghost use lib.ListN.{length, getD, replicate};
 ghost use Rattle.community.specs.Network.{contains};
-ghost use Rattle.planner.specs.Held.{Table};
+ghost use Rattle.sets.specs.Rows.{Table};
 ghost use Rattle.lookup.specs.Lookup.{membersOf};
-ghost use Rattle.reporting.specs.Held.{Joined, Raised, Room, Ends, EdgeCounted, EdgesCounted, GroupsCounted};
+ghost use Rattle.reporting.specs.Held.{Joined, Raised, Room, Edges, EdgeCounted, EdgesCounted, GroupsCounted};
 
 // Adds group k to the rows of the handsets in the list.
 fn mark_members(rows: &mut [u64], list: &[u16], k: usize)
@@ -20,7 +20,7 @@ fn mark_members(rows: &mut [u64], list: &[u16], k: usize)
 {
     let mut i: usize = 0;
     while i < list.len() {
-        sets::mark(rows, crate::wide(list[i]) * 512 + k);
+        sets::mark(rows, (list[i] as usize) * 512 + k);
         i += 1;
     }
 }
@@ -68,14 +68,15 @@ fn count_edge(rows: &[u64], u: usize, v: usize, words: usize, counts: &mut [u32]
 
 // Counts each of the first m edges, for the groups of the first `words` words of the rows.
 fn count_edges(rows: &[u64], edges: &[u8], m: usize, words: usize, counts: &mut [u32])
-    requires { ⌜ (length (now rows) ≡ 4096) × ((words ≤ 8) × (Ends (now edges) m × (now counts ≡ replicate 1024 0))) ⌝ }
+    requires { ⌜ (length (now rows) ≡ 4096) × ((words ≤ 8) × (Edges (now edges) m × (now counts ≡ replicate 1024 0))) ⌝ }
     ensures { λ _. ⌜ EdgesCounted (now (rows .entry)) (now (edges .entry)) m words (now (counts .exit)) ⌝ }
 {
     let mut k: usize = 0;
     while k < m {
-        let u = crate::wide(fields::read2(edges, 4 * k));
-        let v = crate::wide(fields::read2(edges, 4 * k + 2));
-        count_edge(rows, u, v, words, counts);
+        let at = fields::EDGE_BYTES * k;
+        let past = at + fields::EDGE_BYTES;
+        let ends = fields::read_ends(&edges[at..past]);
+        count_edge(rows, ends.a, ends.b, words, counts);
         k += 1;
     }
 }
@@ -89,7 +90,7 @@ pub(crate) fn count_groups<'a>(
     groups: usize,
     counts: &mut [u32],
 )
-    requires { ⌜ (groups ≤ 512) × (Ends (now edges) m × (now counts ≡ replicate 1024 0)) ⌝ }
+    requires { ⌜ (groups ≤ 512) × (Edges (now edges) m × (now counts ≡ replicate 1024 0)) ⌝ }
     ensures { λ _. ⌜ GroupsCounted (now (edges .entry)) m (now (starts .entry)) (now (members .entry)) groups (now (counts .exit)) ⌝ }
 {
     let mut rows = [0u64; 4096];

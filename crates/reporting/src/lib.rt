@@ -6,16 +6,16 @@ mod counts;
 use image::Header;
 use image::Opened;
 use image::Refusal;
-use planner::Planned;
 use scores::Score;
 use scores::Tally;
+use tables::Planned;
 ghost use Prim.Native.Nat.{ℕ, _≤_, _<_};
 ghost use mathlib.Core.Path.{_≡_};
 ghost use mathlib.Core.List.{_++_};
 ghost use lib.Dec.{ltb};
 ghost use lib.ListN.{length, getD, replicate};
-ghost use Rattle.image.specs.Questions.{headerOf};
-ghost use Rattle.planner.specs.Held.{SetOf};
+ghost use Rattle.sets.specs.Rows.{SetOf};
+ghost use Rattle.image.specs.Questions.{Accepted, headerOf};
 ghost use Rattle.scores.specs.Scored.{scoresFor};
 ghost use Rattle.text.specs.Text.{Wrote, decimal, membersOf};
 ghost use Rattle.reporting.specs.Report.{headLine, scoreText, groupLine, listLine, reportText, ReportCall, refusedText, programText};
@@ -27,6 +27,14 @@ pub enum Reported {
     Refused(Refusal),
 }
 
+// The numbers of a report's line one: the site's n and m, and the plan's two counts.
+struct Head {
+    handsets: u16,
+    ties: u16,
+    groups: usize,
+    memberships: usize,
+}
+
 // Writes a word and a number.
 fn put_labelled(text: &mut [u8], at: usize, word: &[u8], n: u64) -> usize
     ensures { λ r. ⌜ Wrote (now (text .entry)) at (now (word .entry) ++ decimal n) (now (text .exit)) r ⌝ }
@@ -35,14 +43,14 @@ fn put_labelled(text: &mut [u8], at: usize, word: &[u8], n: u64) -> usize
     text::put_decimal(text, next, n)
 }
 
-// Writes line one: n, m, and the plan's two counts.
-fn put_head(text: &mut [u8], at: usize, n: u16, m: u16, groups: usize, memberships: usize) -> usize
-    ensures { λ r. ⌜ Wrote (now (text .entry)) at (headLine n m groups memberships) (now (text .exit)) r ⌝ }
+// Writes line one.
+fn put_head(text: &mut [u8], at: usize, head: Head) -> usize
+    ensures { λ r. ⌜ Wrote (now (text .entry)) at (headLine head) (now (text .exit)) r ⌝ }
 {
-    let p1 = put_labelled(text, at, b"handsets ", n as u64);
-    let p2 = put_labelled(text, p1, b" ties ", m as u64);
-    let p3 = put_labelled(text, p2, b" groups ", groups as u64);
-    let p4 = put_labelled(text, p3, b" memberships ", memberships as u64);
+    let p1 = put_labelled(text, at, b"handsets ", head.handsets as u64);
+    let p2 = put_labelled(text, p1, b" ties ", head.ties as u64);
+    let p3 = put_labelled(text, p2, b" groups ", head.groups as u64);
+    let p4 = put_labelled(text, p3, b" memberships ", head.memberships as u64);
     text::put(text, p4, 10)
 }
 
@@ -133,24 +141,21 @@ fn put_set(text: &mut [u8], at: usize, word: &[u8], set: &[u64]) -> usize
     text::put(text, p2, 10)
 }
 
-// Writes the whole report from the plan's counts and tables, the counts, and the sets of cores and of outliers.
+// Writes the whole report from the numbers of line one, the plan's tables, the counts, and the sets of cores and of outliers.
 fn put_report<'a>(
     text: &mut [u8],
-    n: u16,
-    m: u16,
-    groups: usize,
-    memberships: usize,
+    head: Head,
     starts: &'a [u32],
     members: &'a [u16],
     counts: &'a [u32],
     cores: &'a [u64],
     outliers: &'a [u64],
 ) -> usize
-    requires { ⌜ groups ≤ 512 ⌝ }
-    ensures { λ r. ⌜ Wrote (now (text .entry)) 0 (tableText n m groups memberships (now (starts .entry)) (now (members .entry)) (now (counts .entry)) (now (cores .entry)) (now (outliers .entry))) (now (text .exit)) r ⌝ }
+    requires { ⌜ head .groups ≤ 512 ⌝ }
+    ensures { λ r. ⌜ Wrote (now (text .entry)) 0 (tableText head (now (starts .entry)) (now (members .entry)) (now (counts .entry)) (now (cores .entry)) (now (outliers .entry))) (now (text .exit)) r ⌝ }
 {
-    let p1 = put_head(text, 0, n, m, groups, memberships);
-    let p2 = put_groups(text, p1, starts, members, counts, groups);
+    let p1 = put_head(text, 0, head);
+    let p2 = put_groups(text, p1, starts, members, counts, head.groups);
     let p3 = put_set(text, p2, b"cores:", cores);
     put_set(text, p3, b"outliers:", outliers)
 }
@@ -158,45 +163,20 @@ fn put_report<'a>(
 // Measures the report in a buffer of one byte, and writes it where it fits. Where it does not, the refusal 16, and nothing is written.
 fn write_report<'a>(
     text: &mut [u8],
-    n: u16,
-    m: u16,
-    groups: usize,
-    memberships: usize,
+    head: Head,
     starts: &'a [u32],
     members: &'a [u16],
     counts: &'a [u32],
     cores: &'a [u64],
     outliers: &'a [u64],
 ) -> Reported
-    requires { ⌜ groups ≤ 512 ⌝ }
-    ensures { λ r. ⌜ Filled (tableText n m groups memberships (now (starts .entry)) (now (members .entry)) (now (counts .entry)) (now (cores .entry)) (now (outliers .entry))) (now (text .entry)) r (now (text .exit)) ⌝ }
+    requires { ⌜ head .groups ≤ 512 ⌝ }
+    ensures { λ r. ⌜ Filled (tableText head (now (starts .entry)) (now (members .entry)) (now (counts .entry)) (now (cores .entry)) (now (outliers .entry))) (now (text .entry)) r (now (text .exit)) ⌝ }
 {
     let mut none = [0u8; 1];
-    let need = put_report(
-        &mut none,
-        n,
-        m,
-        groups,
-        memberships,
-        starts,
-        members,
-        counts,
-        cores,
-        outliers,
-    );
+    let need = put_report(&mut none, head, starts, members, counts, cores, outliers);
     if need <= text.len() {
-        let length = put_report(
-            text,
-            n,
-            m,
-            groups,
-            memberships,
-            starts,
-            members,
-            counts,
-            cores,
-            outliers,
-        );
+        let length = put_report(text, head, starts, members, counts, cores, outliers);
         return Reported::Written(length);
     }
     Reported::Refused(Refusal {
@@ -217,63 +197,46 @@ fn mark_below(set: &mut [u64], n: usize)
     }
 }
 
-// A number of a table, as the sets take it.
-fn wide(x: u16) -> usize
-    ensures { λ r. ⌜ r ≡ x ⌝ }
-{
-    x as usize
-}
-
 // Takes each number of a table out of a set.
 fn unmark_all(set: &mut [u64], table: &[u16])
     ensures { λ _. ⌜ Without (now (set .entry)) (now (table .entry)) (now (set .exit)) ⌝ }
 {
     let mut i: usize = 0;
     while i < table.len() {
-        sets::unmark(set, wide(table[i]));
+        sets::unmark(set, table[i] as usize);
         i += 1;
     }
 }
 
-// Writes the report of an accepted image from its plan.
+// Writes the report of an accepted image from its header, the numbers of line one, and its plan.
 fn report_plan<'a>(
     text: &mut [u8],
     image: &'a [u8],
     h: Header,
-    groups: usize,
-    memberships: usize,
+    head: Head,
     starts: &'a [u32],
     members: &'a [u16],
     cores: &'a [u64],
 ) -> Reported
-    requires { ⌜ PlanHeld (now image) h groups memberships (now starts) (now members) (now cores) ⌝ }
+    requires { ⌜ PlanHeld (now image) h head (now starts) (now members) (now cores) ⌝ }
     ensures { λ r. ⌜ Filled (reportText (now (image .entry))) (now (text .entry)) r (now (text .exit)) ⌝ }
 {
     let a = h.edges as usize;
     let m = h.m as usize;
-    let b = a + 4 * m;
+    let b = a + fields::EDGE_BYTES * m;
+    let groups = head.groups;
+    let memberships = head.memberships;
     let mut counts = [0u32; 1024];
     counts::count_groups(&image[a..b], m, starts, members, groups, &mut counts);
     let mut outliers = [0u64; 8];
     mark_below(&mut outliers, h.n as usize);
     unmark_all(&mut outliers, &members[0..memberships]);
-    write_report(
-        text,
-        h.n,
-        h.m,
-        groups,
-        memberships,
-        starts,
-        members,
-        &counts,
-        cores,
-        &outliers,
-    )
+    write_report(text, head, starts, members, &counts, cores, &outliers)
 }
 
-// Writes the report of an image with the header h. The plan of an accepted image fits the two tables, so that it is refused only where the image is.
+// Writes the report of an accepted image with the header h. Its plan fits the two tables, so that it is never refused.
 fn report_site(text: &mut [u8], image: &[u8], h: Header) -> Reported
-    requires { ⌜ h ≡ headerOf (now image) ⌝ }
+    requires { ⌜ Accepted (now image) × (h ≡ headerOf (now image)) ⌝ }
     ensures { λ r. ⌜ ReportCall (now (image .entry)) (now (text .entry)) r (now (text .exit)) ⌝ }
 {
     let mut starts = [0u32; 513];
@@ -282,26 +245,25 @@ fn report_site(text: &mut [u8], image: &[u8], h: Header) -> Reported
     let answer = outcome.answer;
     let cores = outcome.cores;
     match answer {
-        Planned::Made(groups, memberships) => report_plan(
-            text,
-            image,
-            h,
-            groups,
-            memberships,
-            &starts,
-            &members,
-            &cores,
-        ),
+        Planned::Made(counts) => {
+            let head = Head {
+                handsets: h.n,
+                ties: h.m,
+                groups: counts.groups,
+                memberships: counts.memberships,
+            };
+            report_plan(text, image, h, head, &starts, &members, &cores)
+        }
         Planned::Refused(refusal) => Reported::Refused(refusal),
     }
 }
 
 // Writes the report of an image into the buffer, and answers the text's length. A refused image, or a buffer that does not hold the whole text
-// (16), is refused with nothing written; past the text the buffer holds what it held. Only the header is looked at here: the planner reads the rest.
+// (16), is refused with nothing written; past the text the buffer holds what it held.
 pub fn report(image: &[u8], text: &mut [u8]) -> Reported
     ensures { λ r. ⌜ ReportCall (now (image .entry)) (now (text .entry)) r (now (text .exit)) ⌝ }
 {
-    let opened = image::open_header(image);
+    let opened = image::open(image);
     let Opened::Site(h) = opened else {
         return Reported::Refused(image::refusal_of(opened));
     };

@@ -1,6 +1,8 @@
 -- `divanegret::dvg_plan` meets its contract: the code of what the plan call answers, and its tables.
 use mathlib.Core.Path.{ap, _∙_}
 use mir.Facts.{toZ-ofZ}
+use Rattle.tables.proofs.Answers.{plan-same}
+use Rattle.planner.specs.Plan.{planOf}
 use Rattle.divanegret.specs.Codes.{planCode}
 use borrow.Author.Needs.{needs}
 use Rattle.divanegret.proofs.dvg_plan.Statement.{statement}
@@ -20,8 +22,9 @@ same-length-2 c = search needs
 
 returns : tie.Need-returns
 returns c =
-    let p = c .before .before .before .before .before .plan .ensures in
-    (toZ-ofZ (search needs) ∙ c .plan-code .ensures ∙ ap planCode (p .answer), p .starts, p .members)
+    let called = c .before .before .before .before .before .plan in
+    let p = called .ensures in
+    (toZ-ofZ (search needs) ∙ c .plan-code .ensures ∙ ap planCode (plan-same (called .result) (planOf _ _ _) (p .answer)), p .starts, p .members)
 
 pub dvg-plan-spec : {M : Type 1} → statement M
 dvg-plan-spec =

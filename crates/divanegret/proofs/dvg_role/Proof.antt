@@ -1,6 +1,8 @@
 -- `divanegret::dvg_role` meets its contract: the code of what the role call answers.
 use mathlib.Core.Path.{ap, _∙_}
 use mir.Facts.{toZ-ofZ}
+use Rattle.planner.specs.Plan.{knownOf}
+use Rattle.planner.proofs.Answers.{known-same}
 use Rattle.divanegret.specs.Codes.{roleCode}
 use borrow.Author.Needs.{needs}
 use Rattle.divanegret.proofs.dvg_role.Statement.{statement}
@@ -14,7 +16,8 @@ role-code-requires c κs = search needs
 
 returns : tie.Need-returns
 returns c =
-    toZ-ofZ (search needs) ∙ c .role-code .ensures ∙ ap roleCode (c .before .role .ensures)
+    let called = c .before .role in
+    toZ-ofZ (search needs) ∙ c .role-code .ensures ∙ ap roleCode (known-same (called .result) (knownOf _ _) (called .ensures))
 
 pub dvg-role-spec : {M : Type 1} → statement M
 dvg-role-spec = tie.close (tie.spec role-requires role-code-requires returns)

@@ -1,6 +1,8 @@
 -- `divanegret::dvg_scores` meets its contract: the code of what the tally of the list is.
 use mathlib.Core.Path.{ap, _∙_}
 use mir.Facts.{toZ-ofZ}
+use Rattle.scores.specs.Scored.{talliedOf}
+use Rattle.scores.proofs.Answers.{tally-same}
 use Rattle.divanegret.specs.Codes.{tallyCode}
 use borrow.Author.Needs.{needs}
 use Rattle.divanegret.proofs.dvg_scores.Statement.{statement}
@@ -14,7 +16,8 @@ tally-code-requires c κs = search needs
 
 returns : tie.Need-returns
 returns c =
-    toZ-ofZ (search needs) ∙ c .tally-code .ensures ∙ ap tallyCode (c .before .tally-list .ensures)
+    let called = c .before .tally-list in
+    toZ-ofZ (search needs) ∙ c .tally-code .ensures ∙ ap tallyCode (tally-same (called .result) (talliedOf _ _) (called .ensures))
 
 pub dvg-scores-spec : {M : Type 1} → statement M
 dvg-scores-spec = tie.close (tie.spec tally-list-requires tally-code-requires returns)

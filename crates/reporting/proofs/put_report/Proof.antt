@@ -9,6 +9,22 @@ use denote.Ref.{now}
 use Rattle.reporting.proofs.put_report.Statement.{statement}
 use Rattle.reporting.proofs.put_report.Tie as tie
 
+-- where the function starts, and after each of its four writes
+abbrev start : tie.After-put-head-arg → tie.Start
+start c = c .before .before .before .before .before .before .before
+
+abbrev head : tie.After-put-groups → tie.After-put-head
+head c = c .before .before .before .before
+
+abbrev groups : tie.After-put-set → tie.After-put-groups
+groups c = c .before .before .before .before .before
+
+abbrev cores : tie.After-put-set2 → tie.After-put-set
+cores c = c .before .before .before .before .before
+
+abbrev outliers : tie.After-slice-known5 → tie.After-put-set2
+outliers c = c .before .before
+
 put-head-requires : tie.Need-put-head-requires
 put-head-requires c κs = tt
 
@@ -32,12 +48,12 @@ same-length c = omega arith
 
 returns : tie.Need-returns
 returns c =
-    let w4 = c .before .before in
-    let w3 = w4 .before .before .before .before .before in
-    let w2 = w3 .before .before .before .before .before in
-    let w1 = w2 .before .before .before .before in
-    let start = w1 .before .before .before .before .before .before .before .before in
-    let h : length (now (start .args .text)) ≤ 9223372036854775808 = omega (arith, start .good .0 .1) in
+    let w4 = outliers c in
+    let w3 = cores w4 in
+    let w2 = groups w3 in
+    let w1 = head w2 in
+    let s = start (w1 .before) in
+    let h : length (now (s .args .text)) ≤ 9223372036854775808 = omega (arith, s .good .0 .1) in
     rw text-parts (chain h (chain h (chain h (w1 .put-head .ensures) (w2 .put-groups .ensures)) (w3 .put-set .ensures)) (w4 .put-set2 .ensures))
 
 pub put-report-spec : {M : Type 1} → statement M

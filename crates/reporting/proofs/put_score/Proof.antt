@@ -7,6 +7,13 @@ use borrow.Author.Needs.{needs}
 use Rattle.reporting.proofs.put_score.Statement.{statement}
 use Rattle.reporting.proofs.put_score.Tie as tie
 
+-- the writes of a ratio: its first number, and the slash with the second
+abbrev first : tie.After-put-labelled → tie.After-put-decimal
+first c = c .before .before .before .before .before
+
+abbrev second : tie.After-slice-known3 → tie.After-put-labelled
+second c = c .before .before
+
 enum-known-score : tie.Need-enum-known-score
 enum-known-score c = search needs
 
@@ -31,8 +38,8 @@ same-length c = omega arith
 returns : tie.Need-returns
 unfolding scoreText
 returns c =
-    let ratio = c .before .before .before .before .before .before .before .before .before .before .score .given .1 in
-    rw ratio (chain (omega arith) (c .before .before .before .before .before .before .before .put-decimal .ensures) (c .before .before .put-labelled .ensures))
+    let w = first (second c) in
+    rw (w .before .before .before .score .given .1) (chain (omega arith) (w .put-decimal .ensures) (second c .put-labelled .ensures))
 
 same-length-2 : tie.Need-same-length-2
 same-length-2 c = omega arith

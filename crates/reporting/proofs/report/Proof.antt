@@ -1,17 +1,25 @@
--- `reporting::report` meets its contract: a header that is refused ends the call with the image's refusal, and the rest is `report_site`'s.
+-- `reporting::report` meets its contract: an image that the reader refuses ends the call with its refusal, and the report of an accepted one is `report_site`'s.
 use native.Mathlib.Omega.{arith}
 use mathlib.Core.Path.{_≡_, sym, ap, _∙_}
 use denote.Ref.{now}
-use Rattle.image.specs.Questions.{openHeader, refusalOf}
+use Rattle.image.specs.Questions.{openOf, refusalOf}
 use Rattle.image.specs.declared.Opened.the-variants as O
-use Rattle.image.proofs.Acceptance.{header-no, header-yes}
+use Rattle.image.proofs.Acceptance.{accepted}
+use Rattle.image.proofs.Answers.{open-same}
 use Rattle.reporting.proofs.Answers.{refused-answer}
 use borrow.Author.Needs.{needs}
 use Rattle.reporting.proofs.report.Statement.{statement}
 use Rattle.reporting.proofs.report.Tie as tie
 
-open-header-requires : tie.Need-open-header-requires
-open-header-requires c κs = tt
+-- where the function starts, and what the reader answered there
+abbrev start : tie.After-open → tie.Start
+start c = c .before .before .before
+
+answered : (c : tie.After-open) → c .«open» .result ≡ openOf (now (start c .args .image))
+answered c = open-same _ _ (c .«open» .ensures)
+
+open-requires : tie.Need-open-requires
+open-requires c κs = tt
 
 enum-known-opened : tie.Need-enum-known-opened
 enum-known-opened c = search needs
@@ -25,13 +33,17 @@ refusal-of-requires c κs = tt
 returns : tie.Need-returns
 returns c =
     let told = c .before .enum-told .given .1 in
-    let start = c .before .before .before .before .before .before in
-    let e : openHeader (now (start .args .image)) ≡ O.Refused (c .refusal-of .result) =
-    sym (c .before .before .before .open-header .ensures) ∙ told ∙ ap O.Refused (sym (c .refusal-of .ensures ∙ ap refusalOf told)) in
-    refused-answer (now (start .args .image)) (now (start .args .text)) (c .refusal-of .result) (header-no (now (start .args .image)) (c .refusal-of .result) e)
+    let read = c .before .before .before in
+    let s = start read in
+    let e : openOf (now (s .args .image)) ≡ O.Refused (c .refusal-of .result) =
+    sym (answered read) ∙ told ∙ ap O.Refused (sym (c .refusal-of .ensures ∙ ap refusalOf told)) in
+    refused-answer (now (s .args .image)) (now (s .args .text)) (c .refusal-of .result) e
 
 report-site-requires : tie.Need-report-site-requires
-report-site-requires c κs = header-yes (now (c .before .before .before .before .before .before .before .args .image)) (c .before .before .opened .given .0 .0) (sym (c .before .before .before .before .open-header .ensures) ∙ c .before .before .opened .given .1) .1
+report-site-requires c κs =
+    let told = c .before .before .opened .given in
+    let read = c .before .before .before .before in
+    accepted (now (start read .args .image)) (told .0 .0) (sym (answered read) ∙ told .1)
 
 same-length : tie.Need-same-length
 same-length c = omega arith
@@ -43,7 +55,7 @@ pub report-spec : {M : Type 1} → statement M
 report-spec =
     tie.close
     (tie.spec
-    open-header-requires
+    open-requires
     enum-known-opened
     enum-told
     refusal-of-requires

@@ -9,6 +9,35 @@ use Rattle.reporting.proofs.Whole.{groups-few, handsets-few, edges-fit,
 use Rattle.reporting.proofs.report_plan.Statement.{statement}
 use Rattle.reporting.proofs.report_plan.Tie as tie
 
+-- where the function starts, when the edges are counted, the numbers below n marked, the members taken out, and the text written
+abbrev start : tie.After-struct-known2 → tie.Start
+start c = c .before .before .before .before .before .before .before
+
+abbrev counting : tie.After-counts → tie.After-struct-known2
+counting c = c .before .before
+
+abbrev counted : tie.After-struct-known3 → tie.After-count-groups
+counted c = c .before .before .before
+
+abbrev marked : tie.After-outliers3 → tie.After-mark-below
+marked c = c .before .before
+
+abbrev left : tie.After-outliers5 → tie.After-unmark-all
+left c = c .before .before .before .before
+
+abbrev wrote : tie.After-slice-known2 → tie.After-write-report
+wrote c = c .before .before
+
+-- the start, from each of those
+abbrev marking-start : tie.After-struct-known3 → tie.Start
+marking-start c = start (counting (counted c .before))
+
+abbrev leaving-start : tie.After-outliers3 → tie.Start
+leaving-start c = marking-start (marked c .before)
+
+abbrev writing-start : tie.After-outliers5 → tie.Start
+writing-start c = leaving-start (left c .before .before)
+
 cast-a : tie.Need-cast-a
 cast-a c = omega arith
 
@@ -28,13 +57,13 @@ part-count-groups-start : tie.Need-part-count-groups-start
 part-count-groups-start c = omega arith
 
 part-count-groups-end : tie.Need-part-count-groups-end
-part-count-groups-end c = edges-fit (c .before .before .before .before .before .before .before .pre)
+part-count-groups-end c = edges-fit (start c .pre)
 
 slice-aggregate-count-groups : tie.Need-slice-aggregate-count-groups
 slice-aggregate-count-groups c = refl
 
 count-groups-requires : tie.Need-count-groups-requires
-count-groups-requires c κs = let held = c .before .before .before .before .before .before .before .before .before .pre in (groups-few held, (ends-held held, refl))
+count-groups-requires c κs = let held = start (counting c) .pre in (groups-few held, (ends-held held, refl))
 
 slice-aggregate-mark-below : tie.Need-slice-aggregate-mark-below
 slice-aggregate-mark-below c = refl
@@ -43,7 +72,7 @@ cast-mark-below : tie.Need-cast-mark-below
 cast-mark-below c = omega arith
 
 mark-below-requires : tie.Need-mark-below-requires
-mark-below-requires c κs = (handsets-few (c .before .before .before .before .before .before .before .before .before .before .before .before .before .pre), refl)
+mark-below-requires c κs = (handsets-few (marking-start c .pre), refl)
 
 slice-aggregate-unmark-all : tie.Need-slice-aggregate-unmark-all
 slice-aggregate-unmark-all c = omega arith
@@ -55,7 +84,7 @@ part-unmark-all-start : tie.Need-part-unmark-all-start
 part-unmark-all-start c = omega arith
 
 part-unmark-all-end : tie.Need-part-unmark-all-end
-part-unmark-all-end c = members-fit (c .before .before .before .before .before .before .before .before .before .before .before .before .before .before .before .before .pre)
+part-unmark-all-end c = members-fit (leaving-start c .pre)
 
 unmark-all-requires : tie.Need-unmark-all-requires
 unmark-all-requires c κs = tt
@@ -67,21 +96,20 @@ slice-aggregate-write-report-2 : tie.Need-slice-aggregate-write-report-2
 slice-aggregate-write-report-2 c = omega arith
 
 write-report-requires : tie.Need-write-report-requires
-write-report-requires c κs = groups-few (c .before .before .before .before .before .before .before .before .before .before .before .before .before .before .before .before .before .before .before .before .before .before .pre)
+write-report-requires c κs = groups-few (writing-start c .pre)
 
 same-length : tie.Need-same-length
 same-length c = omega arith
 
 returns : tie.Need-returns
 returns c =
-    let wrote = c .before .before in
-    let left = wrote .before .before .before .before .before in
-    let low = left .before .before .before .before in
-    let counted = low .before .before .before .before in
-    let start = counted .before .before .before .before .before .before .before .before .before .before in
-    subst (λ (t : List ℕ). Filled t (now (start .args .text)) (wrote .write-report .result) (wrote .write-report .last .0))
-    (text-held (start .pre) _ _ _ (counted .count-groups .ensures) (low .mark-below .ensures) (left .unmark-all .ensures))
-    (wrote .write-report .ensures)
+    let w = wrote c in
+    let l = left (w .before) in
+    let m = marked (l .before .before) in
+    let s = writing-start (w .before) in
+    subst (λ (t : List ℕ). Filled t (now (s .args .text)) (w .write-report .result) (w .write-report .last .0))
+    (text-held (s .pre) _ _ _ (counted (m .before) .count-groups .ensures) (m .mark-below .ensures) (l .unmark-all .ensures))
+    (w .write-report .ensures)
 
 pub report-plan-spec : {M : Type 1} → statement M
 report-plan-spec =

@@ -1,15 +1,27 @@
--- `reporting::report_site` meets its contract: the plan of an accepted image fits the two tables, so that the answer is the text's; any other image is
--- refused with its plan's refusal.
+-- `reporting::report_site` meets its contract: the plan of an accepted image fits the two tables, so that it is made, and the answer is the text's.
 use native.Mathlib.Omega.{arith}
 use mathlib.Core.Path.{refl}
 use denote.Ref.{now}
-use Rattle.image.specs.Questions.{Accepted, headerOf}
+use Rattle.image.specs.Questions.{headerOf}
 use Rattle.image.proofs.Acceptance.{opened}
-use Rattle.reporting.proofs.Planning.{plan-accepted, plan-held, plan-refused}
-use Rattle.reporting.proofs.Answers.{site-answer, refused-answer}
+use Rattle.reporting.proofs.Planning.{plan-held, plan-granted}
+use Rattle.reporting.proofs.Answers.{site-answer}
 use borrow.Author.Needs.{needs}
 use Rattle.reporting.proofs.report_site.Statement.{statement}
 use Rattle.reporting.proofs.report_site.Tie as tie
+
+-- where the function starts, when the plan's answer is told, and when the report is written
+abbrev start : tie.After-plan-and-cores → tie.Start
+start c = c .before .before .before .before .before
+
+abbrev planned : tie.After-cores → tie.After-plan-and-cores
+planned c = c .before .before .before
+
+abbrev made : tie.After-cores2 → tie.After-answer
+made c = c .before .before .before .before .before
+
+abbrev wrote : tie.After-slice-known2 → tie.After-report-plan
+wrote c = c .before .before
 
 slice-aggregate-plan-and-cores : tie.Need-slice-aggregate-plan-and-cores
 slice-aggregate-plan-and-cores c = refl
@@ -32,24 +44,13 @@ slice-aggregate-report-plan-2 c = omega arith
 slice-aggregate-report-plan-3 : tie.Need-slice-aggregate-report-plan-3
 slice-aggregate-report-plan-3 c = omega arith
 
--- where the plan is made, and where the function starts
-abbrev planned : tie.After-cores2 → tie.After-plan-and-cores
-planned c = c .before .before .before .before .before .before .before .before .before .before
-
-abbrev start : tie.After-plan-and-cores → tie.Start
-start c = c .before .before .before .before .before
-
-passed : (c : tie.After-cores2) → Accepted (now (start (planned c) .args .image))
-passed c =
-    let made = c .before .before .before .before .before .answer .given in
-    plan-accepted (now (start (planned c) .args .image)) (made .0 .0) (made .0 .1 .0) _ _ _ (made .1) (planned c .plan-and-cores .ensures .0)
-
 report-plan-requires : tie.Need-report-plan-requires
 report-plan-requires c κs =
-    let made = c .before .before .before .before .before .answer .given in
-    let s = start (planned c) in
-    let p = planned c .plan-and-cores .ensures in
-    plan-held (now (s .args .image)) (passed c) (s .args .h) (made .0 .0) (made .0 .1 .0) _ _ _ _ (s .pre) (made .1) (p .0) (p .1)
+    let told = made c .answer .given in
+    let p = planned (made c .before .before) in
+    let s = start p in
+    plan-held (now (s .args .image)) (s .pre .0) (s .args .h) (told .0 .0) _ _ _ _ (s .pre .1) (told .1)
+    (p .plan-and-cores .ensures .0) (p .plan-and-cores .ensures .1)
 
 enum-known-answer-2 : tie.Need-enum-known-answer-2
 enum-known-answer-2 c = search needs
@@ -59,16 +60,14 @@ same-length c = omega arith
 
 returns : tie.Need-returns
 returns c =
-    let written = c .before .before in
-    let image = now (start (planned (written .before)) .args .image) in
-    site-answer (headerOf image) (opened image (passed (written .before))) (written .report-plan .ensures)
+    let s = start (planned (made (wrote c .before) .before .before)) in
+    site-answer (headerOf (now (s .args .image))) (opened (now (s .args .image)) (s .pre .0)) (wrote c .report-plan .ensures)
 
 returns-2 : tie.Need-returns-2
 returns-2 c =
-    let refused = c .before .answer2 .given in
-    let made = c .before .before .before .before .before .before in
-    let a = start made .args in
-    refused-answer (now (a .image)) (now (a .text)) (refused .0 .0) (plan-refused (now (a .image)) (refused .0 .0) _ _ _ (refused .1) (made .plan-and-cores .ensures .0))
+    let told = c .before .answer2 .given in
+    let p = planned (c .before .before .before) in
+    plan-granted (now (start p .args .image)) (start p .pre .0) (told .0 .0) _ _ _ (told .1) (p .plan-and-cores .ensures .0)
 
 pub report-site-spec : {M : Type 1} → statement M
 report-site-spec =

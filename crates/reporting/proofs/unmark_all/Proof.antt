@@ -1,4 +1,4 @@
--- `reporting::unmark_all` meets its contract. After i steps the first i numbers are taken out. The measure is the count of numbers left.
+-- `reporting::unmark_all` meets its contract. After i steps the first i numbers of the table are taken out. The measure is the count of numbers left.
 use native.Mathlib.Omega.{arith}
 use Prim.Native.Nat.{ℕ, _-_, _≤_}
 use mathlib.Core.Path.{refl, ap, _∙_}
@@ -6,7 +6,7 @@ use mathlib.Core.List.{List}
 use denote.Ref.{now}
 use lib.ListN.{length, take}
 use lib.Seq.{take-all}
-use Rattle.sets.specs.Bits.{bitAt, withoutBit}
+use Rattle.sets.specs.Bits.{bitAt}
 use Rattle.sets.proofs.Bits.{length-withoutBit}
 use Rattle.reporting.specs.Held.{Without}
 use Rattle.reporting.proofs.Marking.{without-start, without-more}
@@ -19,17 +19,27 @@ Inv-loop set₀ table i₀ set i = (i ≤ length table) × Without set₀ (take 
 abbrev μ-loop : tie.MeasureT-loop
 μ-loop set₀ table i₀ set i = length table - i
 
+-- where the function starts, and the loop before a number is looked at and after it is taken out
+abbrev start : tie.At-loop Inv-loop μ-loop → tie.Start Inv-loop μ-loop
+start c = c .before .before .before
+
+abbrev looked : tie.After-shared-slice-known2 Inv-loop μ-loop → tie.At-loop Inv-loop μ-loop
+looked c = c .before .before .before
+
+abbrev marked : tie.After-slice-known2 Inv-loop μ-loop → tie.After-unmark Inv-loop μ-loop
+marked c = c .before .before
+
 loop-holds : tie.Need-loop-holds Inv-loop μ-loop
 loop-holds c = (omega arith, record { size = refl; bits = without-start (now (c .before .before .args .set)) })
 
-mul-wide : tie.Need-mul-wide Inv-loop μ-loop
-mul-wide c = omega arith
+mul-unmark : tie.Need-mul-unmark Inv-loop μ-loop
+mul-unmark c = omega arith
 
-shared-slice-read-wide : tie.Need-shared-slice-read-wide Inv-loop μ-loop
-shared-slice-read-wide c = omega arith
+shared-slice-read-unmark : tie.Need-shared-slice-read-unmark Inv-loop μ-loop
+shared-slice-read-unmark c = omega arith
 
-wide-requires : tie.Need-wide-requires Inv-loop μ-loop
-wide-requires c κs = tt
+cast-unmark : tie.Need-cast-unmark Inv-loop μ-loop
+cast-unmark c = omega (arith, c .shared-slice-known2 .given (looked c .loop .i))
 
 unmark-requires : tie.Need-unmark-requires Inv-loop μ-loop
 unmark-requires c κs = tt
@@ -42,10 +52,10 @@ loop-less c = omega arith
 
 loop-again : tie.Need-loop-again Inv-loop μ-loop
 loop-again c =
-    let at-loop = c .before .before .before .before .before .before .before in
+    let at-loop = looked (marked c .before) in
     let l = at-loop .loop in
-    let a = at-loop .before .before .before .args in
-    let e = c .before .before .unmark .ensures ∙ ap (withoutBit (l .set)) (c .before .before .before .wide .ensures) in (
+    let a = start at-loop .args in
+    let e = marked c .unmark .ensures in (
       omega arith,
       record {
         size = ap length e ∙ length-withoutBit (l .set) _ ∙ l .inv .1 .size;
@@ -57,7 +67,7 @@ same-length : tie.Need-same-length Inv-loop μ-loop
 same-length c = c .before .loop .inv .1 .size
 
 returns : tie.Need-returns Inv-loop μ-loop
-returns c = rw (take-all (c .before .loop .i) (now (c .before .before .before .before .args .table)) (omega arith)) at (c .before .loop .inv .1)
+returns c = rw (take-all (c .before .loop .i) (now (start (c .before) .args .table)) (omega arith)) at (c .before .loop .inv .1)
 
 pub unmark-all-spec : {M : Type 1} → statement M
 unmark-all-spec =
@@ -66,9 +76,9 @@ unmark-all-spec =
     Inv-loop
     μ-loop
     loop-holds
-    mul-wide
-    shared-slice-read-wide
-    wide-requires
+    mul-unmark
+    shared-slice-read-unmark
+    cast-unmark
     unmark-requires
     add-i
     loop-less

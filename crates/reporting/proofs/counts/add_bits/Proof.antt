@@ -7,7 +7,7 @@ use lib.ListN.{length, getD, length-set}
 use lib.Count.{trailingZeros}
 use Rattle.sets.specs.Below.{sum}
 use Rattle.sets.specs.Bits.{bitOf}
-use Rattle.planner.proofs.Lowest.{lowest, cleared-is, cleared-lt, cleared-falls}
+use Rattle.sets.proofs.Lowest.{lowest, cleared-is, cleared-lt, cleared-falls}
 use Rattle.reporting.specs.Held.{bitFor}
 use Rattle.reporting.proofs.Tallying.{bitFor-le, bitFor-at, raised-more, raised-done}
 use Rattle.reporting.proofs.counts.add_bits.Statement.{statement}

@@ -16,6 +16,16 @@ Inv-loop rows u v words counts₀ j₀ counts j = (j ≤ words) × EdgeCounted r
 abbrev μ-loop : tie.MeasureT-loop
 μ-loop rows u v words counts₀ j₀ counts j = words - j
 
+-- the loop, from where the tied pairs are counted, and that place from where the leaving edges are
+abbrev turn : tie.After-add-bits-arg Inv-loop μ-loop → tie.At-loop Inv-loop μ-loop
+turn c = c .before .before .before .before
+
+abbrev tied : tie.After-add-bits-arg2 Inv-loop μ-loop → tie.After-add-bits Inv-loop μ-loop
+tied c = c .before .before .before
+
+abbrev left : tie.After-slice-known3 Inv-loop μ-loop → tie.After-add-bits2 Inv-loop μ-loop
+left c = c .before .before
+
 loop-holds : tie.Need-loop-holds Inv-loop μ-loop
 loop-holds c =
     let start = c .before .before in
@@ -58,7 +68,7 @@ low c =
 
 add-bits-requires : tie.Need-add-bits-requires Inv-loop μ-loop
 add-bits-requires c κs =
-    let at-loop = c .before .before .before .before in
+    let at-loop = turn c in
     (omega (arith, at-loop .loop .inv .1 .size), (λ k h. omega (arith, low at-loop (64 * at-loop .loop .j + k) (omega arith))))
 
 mul-add-bits-2 : tie.Need-mul-add-bits-2 Inv-loop μ-loop
@@ -69,8 +79,8 @@ add-add-bits c = omega arith
 
 add-bits-requires-2 : tie.Need-add-bits-requires-2 Inv-loop μ-loop
 add-bits-requires-2 c κs =
-    let at-loop = c .before .before .before .before .before .before .before .before in
-    let raised = c .before .before .before .add-bits .ensures in
+    let at-loop = turn (tied c .before) in
+    let raised = tied c .add-bits .ensures in
     let j : ℕ = at-loop .loop .j in (
       omega (arith, raised .size, at-loop .loop .inv .1 .size),
       (λ k h. omega (arith, raised-le raised (512 + 64 * j + k), low at-loop (512 + 64 * j + k) (omega arith))),
@@ -84,11 +94,12 @@ loop-less c = omega arith
 
 loop-again : tie.Need-loop-again Inv-loop μ-loop
 loop-again c =
-    let at-loop = c .before .before .before .before .before .before .before .before .before .before .before in
+    let t = tied (left c .before) in
+    let at-loop = turn (t .before) in
     let a = at-loop .before .before .before .args in (
       omega arith,
       edge-more (now (a .rows)) (a .u) (a .v) (at-loop .loop .j) (now (a .counts)) (at-loop .loop .counts) _ _ (omega arith) (at-loop .loop .inv .1)
-          (c .before .before .before .before .before .before .add-bits .ensures) (c .before .before .add-bits2 .ensures),
+          (t .add-bits .ensures) (left c .add-bits2 .ensures),
     )
 
 same-length : tie.Need-same-length Inv-loop μ-loop

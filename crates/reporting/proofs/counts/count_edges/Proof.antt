@@ -1,13 +1,14 @@
 -- `reporting::counts::count_edges` meets its contract. After k steps the table holds the counts over the first k edges, so that none is above 4,096. The measure
 -- is the count of edges left.
 use native.Mathlib.Omega.{arith}
-use Prim.Native.Nat.{ℕ, _-_, _≤_}
+use Prim.Native.Nat.{ℕ, _+_, _*_, _-_, _≤_}
 use mathlib.Core.Path.{_≡_, sym, ap, _∙_, subst}
 use denote.Ref.{now}
 use lib.ListN.{length, length-replicate}
+use Rattle.fields.specs.declared.Ends.{Ends}
 use Rattle.image.specs.Image.{endA, endB}
-use Rattle.reporting.specs.Held.{EdgesCounted}
-use Rattle.reporting.proofs.Tallying.{edges-none, edges-more, edges-room}
+use Rattle.reporting.specs.Held.{Edges, EdgesCounted}
+use Rattle.reporting.proofs.Tallying.{ends-at, edges-none, edges-more, edges-room}
 use Rattle.reporting.proofs.counts.count_edges.Statement.{statement}
 use Rattle.reporting.proofs.counts.count_edges.Tie as tie
 
@@ -17,78 +18,85 @@ Inv-loop rows edges m words counts₀ k₀ counts k = (k ≤ m) × EdgesCounted 
 abbrev μ-loop : tie.MeasureT-loop
 μ-loop rows edges m words counts₀ k₀ counts k = m - k
 
--- where the function starts
+-- where the function starts, a turn of the loop when its edge is read, and when the edge is counted
 abbrev start : tie.At-loop Inv-loop μ-loop → tie.Start Inv-loop μ-loop
 start c = c .before .before .before .before
 
-few : (c : tie.At-loop Inv-loop μ-loop) → start c .args .m ≤ 4096
-few c = start c .pre .1 .1 .0 .few
+abbrev turn : tie.After-read-ends Inv-loop μ-loop → tie.In-loop Inv-loop μ-loop
+turn c = c .before .before
+
+abbrev counted : tie.After-slice-known2 Inv-loop μ-loop → tie.After-count-edge Inv-loop μ-loop
+counted c = c .before .before
+
+given-edges : (c : tie.At-loop Inv-loop μ-loop) → Edges (now (start c .args .edges)) (start c .args .m)
+given-edges c = start c .pre .1 .1 .0
+
+-- the record of edge k stands in the part
+inside : (c : tie.In-loop Inv-loop μ-loop) → (c .before .loop .k ≤ 4095) × (4 * c .before .loop .k + 4 ≤ length (now (start (c .before) .args .edges)))
+inside c = (omega (arith, given-edges (c .before) .few), omega (arith, given-edges (c .before) .whole))
 
 loop-holds : tie.Need-loop-holds Inv-loop μ-loop
 loop-holds c =
     let s = c .before .before .before in
     (omega arith, rw (s .pre .1 .1 .1) (edges-none (now (s .args .rows)) (now (s .args .edges)) (s .args .words)))
 
-mul-read2 : tie.Need-mul-read2 Inv-loop μ-loop
-mul-read2 c = omega (arith, few (c .before))
+mul-at : tie.Need-mul-at Inv-loop μ-loop
+mul-at c = omega (arith, inside c .0)
 
-read2-requires : tie.Need-read2-requires Inv-loop μ-loop
-read2-requires c κs = tt
+add-past : tie.Need-add-past Inv-loop μ-loop
+add-past c = omega (arith, inside c .0)
 
-wide-requires : tie.Need-wide-requires Inv-loop μ-loop
-wide-requires c κs = tt
+sub-read-ends : tie.Need-sub-read-ends Inv-loop μ-loop
+sub-read-ends c = omega arith
 
-mul-read2-2 : tie.Need-mul-read2-2 Inv-loop μ-loop
-mul-read2-2 c = omega (arith, few (c .before .before .before))
+part-read-ends-start : tie.Need-part-read-ends-start Inv-loop μ-loop
+part-read-ends-start c = omega arith
 
-add-read2 : tie.Need-add-read2 Inv-loop μ-loop
-add-read2 c = omega (arith, few (c .before .before .before))
+part-read-ends-end : tie.Need-part-read-ends-end Inv-loop μ-loop
+part-read-ends-end c = inside c .1
 
-read2-requires-2 : tie.Need-read2-requires-2 Inv-loop μ-loop
-read2-requires-2 c κs = tt
-
-wide-requires-2 : tie.Need-wide-requires-2 Inv-loop μ-loop
-wide-requires-2 c κs = tt
+read-ends-requires : tie.Need-read-ends-requires Inv-loop μ-loop
+read-ends-requires c κs = tt
 
 -- the two ends of edge k
-ends : (c : tie.After-wide2 Inv-loop μ-loop) → (let at-loop = c .before .before .before .before .before in let edges = now (start at-loop .args .edges) in
-    (c .before .before .wide .result ≡ endA edges (at-loop .loop .k)) × (c .wide2 .result ≡ endB edges (at-loop .loop .k)))
-unfolding endA endB
-ends c = (c .before .before .wide .ensures ∙ c .before .before .before .read2 .ensures, c .wide2 .ensures ∙ c .before .read22 .ensures)
+ends : (c : tie.After-read-ends Inv-loop μ-loop) → (let at-loop = turn c .before in let edges = now (start at-loop .args .edges) in
+    (c .read-ends .result .a ≡ endA edges (at-loop .loop .k)) × (c .read-ends .result .b ≡ endB edges (at-loop .loop .k)))
+ends c =
+    let at-loop = turn c .before in
+    let e = ends-at (now (start at-loop .args .edges)) (at-loop .loop .k) (inside (turn c) .1) in
+    (ap (λ (x : Ends). x .a) (c .read-ends .ensures) ∙ e .0, ap (λ (x : Ends). x .b) (c .read-ends .ensures) ∙ e .1)
 
 count-edge-requires : tie.Need-count-edge-requires Inv-loop μ-loop
 count-edge-requires c κs =
-    let at-loop = c .before .before .before .before .before .before in
+    let at-loop = turn (c .before) .before in
     let l = at-loop .loop in
     let s = start at-loop in
     let e = ends (c .before) in
-    let low = s .pre .1 .1 .0 .low (l .k) (omega arith) in (
+    let low = given-edges at-loop .low (l .k) (omega arith) in (
       s .pre .0,
       (
         omega (arith, e .0, low .0),
         (
           omega (arith, e .1, low .1),
-          (s .pre .1 .0, edges-room (now (s .args .rows)) (now (s .args .edges)) (l .k) (s .args .words) (l .counts) (omega (arith, few at-loop)) (l .inv .1)),
+          (s .pre .1 .0, edges-room (now (s .args .rows)) (now (s .args .edges)) (l .k) (s .args .words) (l .counts) (omega (arith, given-edges at-loop .few)) (l .inv .1)),
         ),
       ),
     )
 
 add-k : tie.Need-add-k Inv-loop μ-loop
-add-k c = omega (arith, few (c .before .before .before .before .before .before .before .before .before))
+add-k c = omega (arith, inside (turn (counted c .before .before)) .0)
 
 loop-less : tie.Need-loop-less Inv-loop μ-loop
 loop-less c = omega arith
 
 loop-again : tie.Need-loop-again Inv-loop μ-loop
 loop-again c =
-    let counted = c .before .before in
-    let at-loop = counted .before .before .before .before .before .before .before in
+    let read = counted c .before .before in
+    let at-loop = turn read .before in
     let l = at-loop .loop in
     let a = start at-loop .args in
-    let e = ends (counted .before .before) in (
-      omega arith,
-      edges-more (now (a .rows)) (now (a .edges)) (l .k) (a .words) (l .counts) _ (l .inv .1) (rw (e .0, e .1) at (counted .count-edge .ensures)),
-    )
+    let e = ends read in
+    (omega arith, edges-more (now (a .rows)) (now (a .edges)) (l .k) (a .words) (l .counts) _ (l .inv .1) (e .0) (e .1) (counted c .count-edge .ensures))
 
 same-length : tie.Need-same-length Inv-loop μ-loop
 same-length c = c .before .loop .inv .1 .size ∙ sym (ap length (start (c .before) .pre .1 .1 .1) ∙ length-replicate {A = ℕ} 1024 0)
@@ -106,13 +114,12 @@ count-edges-spec =
     Inv-loop
     μ-loop
     loop-holds
-    mul-read2
-    read2-requires
-    wide-requires
-    mul-read2-2
-    add-read2
-    read2-requires-2
-    wide-requires-2
+    mul-at
+    add-past
+    sub-read-ends
+    part-read-ends-start
+    part-read-ends-end
+    read-ends-requires
     count-edge-requires
     add-k
     loop-less

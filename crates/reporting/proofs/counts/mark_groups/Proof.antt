@@ -7,7 +7,7 @@ use denote.Ref.{now}
 use lib.Dec.{ltb}
 use lib.ListN.{length, length-replicate}
 use Rattle.community.specs.Network.{contains}
-use Rattle.planner.specs.Held.{Table}
+use Rattle.sets.specs.Rows.{Table}
 use Rattle.lookup.specs.Lookup.{membersOf}
 use Rattle.reporting.proofs.Tallying.{rows-none, rows-more}
 use Rattle.reporting.proofs.counts.mark_groups.Statement.{statement}

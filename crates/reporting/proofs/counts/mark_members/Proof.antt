@@ -1,12 +1,10 @@
 -- `reporting::counts::mark_members` meets its contract. After i steps the first i handsets of the list are added to the group. The measure is the count of
 -- handsets left.
 use native.Mathlib.Omega.{arith}
-use Prim.Native.Nat.{ℕ, _+_, _*_, _-_, _≤_}
-use mathlib.Core.Path.{ap, _∙_}
+use Prim.Native.Nat.{_-_, _≤_}
 use denote.Ref.{now}
-use lib.ListN.{length, take}
+use lib.ListN.{length, getD, take}
 use lib.Seq.{take-all}
-use Rattle.sets.specs.Bits.{withBit}
 use Rattle.reporting.specs.Held.{Joined}
 use Rattle.reporting.proofs.Tallying.{joined-none, joined-more}
 use Rattle.reporting.proofs.counts.mark_members.Statement.{statement}
@@ -18,24 +16,34 @@ Inv-loop rows₀ list k i₀ rows i = (i ≤ length list) × Joined rows₀ (tak
 abbrev μ-loop : tie.MeasureT-loop
 μ-loop rows₀ list k i₀ rows i = length list - i
 
+-- where the function starts, and the loop before a handset is looked at and after it is marked
+abbrev start : tie.At-loop Inv-loop μ-loop → tie.Start Inv-loop μ-loop
+start c = c .before .before .before
+
+abbrev looked : tie.After-shared-slice-known2 Inv-loop μ-loop → tie.At-loop Inv-loop μ-loop
+looked c = c .before .before .before
+
+abbrev marked : tie.After-slice-known2 Inv-loop μ-loop → tie.After-mark Inv-loop μ-loop
+marked c = c .before .before
+
+-- a handset's number
+small : (c : tie.After-shared-slice-known2 Inv-loop μ-loop) → getD (now (start (looked c) .args .list)) (looked c .loop .i) 0 ≤ 65535
+small c = omega (arith, c .shared-slice-known2 .given (looked c .loop .i))
+
 loop-holds : tie.Need-loop-holds Inv-loop μ-loop
 loop-holds c = (omega arith, joined-none (now (c .before .before .args .rows)) (c .before .before .args .k))
 
-mul-wide : tie.Need-mul-wide Inv-loop μ-loop
-mul-wide c = omega arith
-
-shared-slice-read-wide : tie.Need-shared-slice-read-wide Inv-loop μ-loop
-shared-slice-read-wide c = omega arith
-
-wide-requires : tie.Need-wide-requires Inv-loop μ-loop
-wide-requires c κs = tt
-
--- a handset's number
-small : (c : tie.After-wide Inv-loop μ-loop) → c .wide .result ≤ 65535
-small c = omega (arith, c .wide .ensures, c .before .shared-slice-known2 .given (c .before .before .before .before .loop .i))
-
 mul-mark : tie.Need-mul-mark Inv-loop μ-loop
-mul-mark c = omega (arith, small c)
+mul-mark c = omega arith
+
+shared-slice-read-mark : tie.Need-shared-slice-read-mark Inv-loop μ-loop
+shared-slice-read-mark c = omega arith
+
+cast-mark : tie.Need-cast-mark Inv-loop μ-loop
+cast-mark c = omega (arith, small c)
+
+mul-mark-2 : tie.Need-mul-mark-2 Inv-loop μ-loop
+mul-mark-2 c = omega (arith, small c)
 
 add-mark : tie.Need-add-mark Inv-loop μ-loop
 add-mark c = omega (arith, small c)
@@ -51,20 +59,19 @@ loop-less c = omega arith
 
 loop-again : tie.Need-loop-again Inv-loop μ-loop
 loop-again c =
-    let at-loop = c .before .before .before .before .before .before .before in
+    let at-loop = looked (marked c .before) in
     let l = at-loop .loop in
-    let start = at-loop .before .before .before in
-    let a = start .args in
-    let e = c .before .before .mark .ensures ∙ ap (λ (x : ℕ). withBit (l .rows) (x * 512 + a .k)) (c .before .before .before .wide .ensures) in (
+    let s = start at-loop in
+    let a = s .args in (
       omega arith,
-      rw e (joined-more (now (a .rows)) (l .rows) (now (a .list)) (a .k) (l .i) (start .pre .0) (start .pre .1) (omega arith) (l .inv .1)),
+      rw (marked c .mark .ensures) (joined-more (now (a .rows)) (l .rows) (now (a .list)) (a .k) (l .i) (s .pre .0) (s .pre .1) (omega arith) (l .inv .1)),
     )
 
 same-length : tie.Need-same-length Inv-loop μ-loop
 same-length c = c .before .loop .inv .1 .size
 
 returns : tie.Need-returns Inv-loop μ-loop
-returns c = rw (take-all (c .before .loop .i) (now (c .before .before .before .before .args .list)) (omega arith)) at (c .before .loop .inv .1)
+returns c = rw (take-all (c .before .loop .i) (now (start (c .before) .args .list)) (omega arith)) at (c .before .loop .inv .1)
 
 pub mark-members-spec : {M : Type 1} → statement M
 mark-members-spec =
@@ -73,10 +80,10 @@ mark-members-spec =
     Inv-loop
     μ-loop
     loop-holds
-    mul-wide
-    shared-slice-read-wide
-    wide-requires
     mul-mark
+    shared-slice-read-mark
+    cast-mark
+    mul-mark-2
     add-mark
     mark-requires
     add-i

@@ -1,0 +1,264 @@
+-- How large the numbers of an answer can be. An accepted image has at most 512 handsets and 4,096 edges, which bounds every count; a refusal is one of the
+-- paper's questions, and its place is an index below those bounds.
+--
+--     Small r                        a refusal with a number from 1 to 16 and a place of at most 4,096
+--     OpenSmall, PlanSmall, ..       an answer whose numbers are small, by its cases
+--     open-small, plan-small, role-small, tally-small, looked-small, report-small    those of each call are
+use Prim.Native.Nat.{ℕ, zero, suc, _+_, _-_, _≤_}
+use native.Mathlib.Omega.{arith}
+use native.Mathlib.Decide.{decLe}
+use mathlib.Core.Path.{_≡_, refl, sym, subst}
+use mathlib.Core.Logic.{⊎-elim}
+use mathlib.Core.Bool.{Bool, true, false, _&&_, not, cond}
+use mathlib.Core.List.{List, [], _∷_}
+use lib.Dec.{T, leb, ltb, eqb, leb→le, le→leb}
+use lib.ListN.{length, getD, drop, length-take, length-drop}
+use Rattle.sets.specs.Below.{any, find, count}
+use Rattle.sets.proofs.Tests.{and-left, and-right, or-right, decide, find-law, find-none, not-any}
+use Rattle.sets.proofs.Counting.{count-le, sum-le, sum-const}
+use Rattle.image.specs.Image.{handsetCount, edgeCount, handsetRecords, edgeRecords, handsetRecord, endA, endB}
+use Rattle.image.specs.Questions.{headerOf, countsFit, thresholdsFit, tablesFit, outOfLimits, badEnd, isLoop, repeatsEarlier, ask, askEach, askEdges, askRecords, askHeader, openOf, Accepted}
+use Rattle.image.specs.declared.Header.{Header}
+use Rattle.image.specs.declared.Refusal.{Refusal}
+use Rattle.image.specs.declared.Opened.{Opened}
+use Rattle.image.specs.declared.Opened.the-variants as O
+use Rattle.image.proofs.Acceptance.{accepted, accepted-fits}
+use Rattle.community.specs.Network.{Network, contains, communityNumber, membershipCount, borderOf, communities, neighbourhoodSize, isCore, role}
+use Rattle.community.specs.Scores.{countPairs, pairs, everyEdge, joinedBy, tiedPairs, justOne, leaving}
+use Rattle.community.specs.Site.{network}
+use Rattle.community.specs.Tables.{memberTable}
+use Rattle.community.specs.declared.Role.{Role}
+use Rattle.community.specs.declared.Role.the-variants.{Core, Border, Outlier}
+use Rattle.community.proofs.Bound.{memberships-bound}
+use Rattle.tables.specs.Plan.{refusal, made}
+use Rattle.tables.specs.declared.Planned.{Planned}
+use Rattle.tables.specs.declared.Planned.the-variants as P
+use Rattle.planner.specs.Plan.{communitiesOf, planFor, planOf, standing, knownFor, knownOf}
+use Rattle.planner.specs.declared.Known.{Known}
+use Rattle.planner.specs.declared.Known.the-variants as K
+use Rattle.scores.specs.Scored.{tallyOf, badEntry, askEntries, talliedFor, talliedOf}
+use Rattle.scores.specs.declared.Tallied.{Tallied}
+use Rattle.scores.specs.declared.Tallied.the-variants as T
+use Rattle.scores.proofs.Entries.{bit-le}
+use Rattle.lookup.specs.Lookup.{startOf, placed, between, membersOf, refusal14, lookedOf}
+use Rattle.lookup.specs.declared.Looked.{Looked}
+use Rattle.lookup.specs.declared.Looked.the-variants as L
+use Rattle.reporting.specs.Report.{reportText, refusal16, writtenOf, reportFor, reportOf}
+use Rattle.reporting.specs.declared.Reported.{Reported}
+use Rattle.reporting.specs.declared.Reported.the-variants as R
+use Rattle.reporting.proofs.Whole.{communities-few}
+
+pub record Small (r : Refusal) : Type 0 where
+  pub some : 1 ≤ r .number
+  pub number : r .number ≤ 16
+  pub place : r .place ≤ 4096
+
+-- ---- the reader
+
+abbrev pub OpenSmall : Opened → Type 0
+OpenSmall (O.Site h) = (h .n ≤ 512) × (h .m ≤ 4096)
+OpenSmall (O.Refused r) = Small r
+
+ask-small : (b : Bool) (k p : ℕ) (next : Opened) → 1 ≤ k → k ≤ 16 → p ≤ 4096 → (T b → OpenSmall next) → OpenSmall (ask b k p next)
+unfolding ask
+ask-small true k p next some few near rest = rest tt
+ask-small false k p next some few near rest = record { some = some; number = few; place = near }
+
+find-le : (n : ℕ) (f : ℕ → Bool) → find n f ≤ n
+find-le n f = ⊎-elim (λ t. omega (arith, find-law n f t .0)) (λ t. omega (arith, find-none n f t)) (decide (any n f))
+
+each-small : (n : ℕ) (bad : ℕ → Bool) (k : ℕ) (next : Opened) → 1 ≤ k → k ≤ 16 → n ≤ 4096 → OpenSmall next → OpenSmall (askEach n bad k next)
+unfolding askEach
+each-small n bad k next some few near rest = ask-small (not (any n bad)) k (find n bad) next some few (omega (arith, find-le n bad)) (λ t. rest)
+
+pub open-small : (s : List ℕ) → OpenSmall (openOf s)
+unfolding openOf askHeader askRecords askEdges countsFit
+open-small s =
+    let h : Header = headerOf s in
+    ask-small (leb 32 (length s)) 1 0 _ (omega arith) (omega arith) (omega arith)
+    (λ q1. ask-small (eqb (h .len) (length s)) 2 0 _ (omega arith) (omega arith) (omega arith)
+    (λ q2. ask-small (countsFit h) 3 0 _ (omega arith) (omega arith) (omega arith)
+    (λ q3.
+    let n : h .n ≤ 512 = leb→le (h .n) 512 (and-left (leb (h .n) 512) _ q3) in
+    let m : h .m ≤ 4096 = leb→le (h .m) 4096 (and-right (leb (h .n) 512) _ q3) in
+    ask-small (eqb (h .reserved) 0) 4 0 _ (omega arith) (omega arith) (omega arith)
+    (λ q4. ask-small (thresholdsFit h) 5 0 _ (omega arith) (omega arith) (omega arith)
+    (λ q5. ask-small (tablesFit h) 6 0 _ (omega arith) (omega arith) (omega arith)
+    (λ q6.
+    each-small (h .n) (λ v. outOfLimits (handsetRecord (handsetRecords s) v)) 7 _ (omega arith) (omega arith) (omega arith)
+    (each-small (h .m) (badEnd (edgeRecords s) (h .n)) 8 _ (omega arith) (omega arith) m
+    (each-small (h .m) (isLoop (edgeRecords s)) 9 _ (omega arith) (omega arith) m
+    (each-small (h .m) (repeatsEarlier (edgeRecords s)) 10 _ (omega arith) (omega arith) m (n, m))))))))))
+
+-- a refusal with a number of ours, and place 0
+own-small : (k : ℕ) → 1 ≤ k → k ≤ 16 → Small (refusal k)
+own-small k some few = record { some = some; number = few; place = omega arith }
+
+-- ---- the plan
+
+abbrev pub PlanSmall : Planned → Type 0
+PlanSmall (P.Made c) = (c .groups ≤ 512) × (c .memberships ≤ 8704)
+PlanSmall (P.Refused r) = Small r
+
+module _ (s : List ℕ) (ok : Accepted s) where
+  handsets-at-most : handsetCount s ≤ 512
+  unfolding headerOf
+  handsets-at-most = accepted-fits s ok .n-limit
+
+  edges-at-most : edgeCount s ≤ 4096
+  unfolding headerOf
+  edges-at-most = accepted-fits s ok .m-limit
+
+  communities-at-most : length (communities (network s)) ≤ 512
+  communities-at-most = omega (arith, communities-few (network s), handsets-at-most)
+
+  memberships-at-most : length (memberTable (communities (network s))) ≤ 8704
+  memberships-at-most = omega (arith, memberships-bound s ok, handsets-at-most, edges-at-most)
+
+pub plan-small : (s : List ℕ) (a b : ℕ) → PlanSmall (planOf s a b)
+unfolding planOf communitiesOf
+plan-small s a b = go (openOf s) refl (open-small s)
+  where
+    room : (x y : Bool) → Accepted s → PlanSmall (cond x (cond y (made (length (communitiesOf s)) (length (memberTable (communitiesOf s)))) (P.Refused (refusal 12))) (P.Refused (refusal 11)))
+    room true true ok = (communities-at-most s ok, memberships-at-most s ok)
+    room true false ok = own-small 12 (omega arith) (omega arith)
+    room false y ok = own-small 11 (omega arith) (omega arith)
+
+    go : (o : Opened) → openOf s ≡ o → OpenSmall o → PlanSmall (planFor s o a b)
+    go (O.Site h) e small = room (ltb (length (communitiesOf s)) a) (leb (length (memberTable (communitiesOf s))) b) (accepted s h e .0)
+    go (O.Refused r) e small = small
+
+-- ---- a handset's role
+
+abbrev pub RoleSmall : Role → Type 0
+RoleSmall (Core k) = k ≤ 512
+RoleSmall (Border k) = k ≤ 512
+RoleSmall Outlier = 0 ≤ 512
+
+abbrev pub KnownSmall : Known → Type 0
+KnownSmall (K.Handset x) = RoleSmall (x .role) × (x .neighbours ≤ 512)
+KnownSmall (K.Refused r) = Small r
+
+community-number-le : (v : ℕ) (gs : List (List ℕ)) → communityNumber v gs ≤ length gs
+unfolding communityNumber
+community-number-le v [] = omega arith
+community-number-le v (x ∷ gs) = go (contains v x) (community-number-le v gs)
+  where
+    go : (b : Bool) → communityNumber v gs ≤ length gs → cond b 0 (suc (communityNumber v gs)) ≤ suc (length gs)
+    go true h = omega arith
+    go false h = omega arith
+
+membership-count-le : (v : ℕ) (gs : List (List ℕ)) → membershipCount v gs ≤ length gs
+unfolding membershipCount
+membership-count-le v [] = omega arith
+membership-count-le v (x ∷ gs) = omega (arith, bit-le (contains v x), membership-count-le v gs)
+
+border-small : (k : ℕ) → k ≤ 512 → RoleSmall (borderOf k)
+border-small zero h = omega arith
+border-small (suc k) h = h
+
+pub role-small : (s : List ℕ) (v : ℕ) → KnownSmall (knownOf s v)
+unfolding knownOf standing role neighbourhoodSize
+role-small s v = go (openOf s) refl (open-small s)
+  where
+    g : Network
+    g = network s
+
+    of-role : (b : Bool) → Accepted s → RoleSmall (cond b (Core (communityNumber v (communities g))) (borderOf (membershipCount v (communities g))))
+    of-role true ok = omega (arith, community-number-le v (communities g), communities-at-most s ok)
+    of-role false ok = border-small (membershipCount v (communities g)) (omega (arith, membership-count-le v (communities g), communities-at-most s ok))
+
+    of-handset : (b : Bool) → Accepted s → KnownSmall (cond b (K.Handset (standing s v)) (K.Refused (refusal 13)))
+    of-handset true ok = (of-role (isCore g v) ok, omega (arith, count-le (g .n) (g .neighbour v), handsets-at-most s ok))
+    of-handset false ok = own-small 13 (omega arith) (omega arith)
+
+    go : (o : Opened) → openOf s ≡ o → OpenSmall o → KnownSmall (knownFor s o v)
+    go (O.Site h) e small = of-handset (ltb v (h .n)) (accepted s h e .0)
+    go (O.Refused r) e small = small
+
+-- ---- the tally of a list
+
+abbrev pub TallySmall : Tallied → Type 0
+TallySmall (T.Of x) = (x .pairs ≤ 262144) × (x .tied ≤ 262144) × (x .leaving ≤ 4096)
+TallySmall (T.Refused r) = Small r
+
+-- a list of at most 512 places has at most 512 * 512 pairs of them
+pairs-le : (n : ℕ) (f : ℕ → ℕ → Bool) → n ≤ 512 → countPairs n f ≤ 262144
+unfolding countPairs
+pairs-le n f h =
+    omega (arith, sum-le n (λ j. count j (λ i. f i j)) (λ j. 512) (λ j l. omega (arith, count-le j (λ i. f i j))), sum-const n 512)
+
+module _ (n : ℕ) (l : List ℕ) where
+  -- place 512 is bad in every list
+  late : T (badEntry n l 512)
+  unfolding badEntry
+  late = or-right (leb n (getD l 512 0)) (leb 512 512) (le→leb 512 512 (omega arith))
+
+  place-few : T (any (length l) (badEntry n l)) → find (length l) (badEntry n l) ≤ 4096
+  place-few t = pick (decLe (find (length l) (badEntry n l)) 512)
+    where
+      pick : Dec (find (length l) (badEntry n l) ≤ 512) → find (length l) (badEntry n l) ≤ 4096
+      pick (yes h) = omega arith
+      pick (no h) = absurd (not-any (find (length l) (badEntry n l)) (badEntry n l) 512 (find-law (length l) (badEntry n l) t .2) (omega arith) late)
+
+  list-few : T (not (any (length l) (badEntry n l))) → length l ≤ 512
+  list-few t = pick (decLe (length l) 512)
+    where
+      pick : Dec (length l ≤ 512) → length l ≤ 512
+      pick (yes h) = h
+      pick (no h) = absurd (not-any (length l) (badEntry n l) 512 t (omega arith) late)
+
+pub tally-small : (s l : List ℕ) → TallySmall (talliedOf s l)
+unfolding talliedOf askEntries tallyOf pairs tiedPairs leaving
+tally-small s l = go (openOf s) refl (open-small s)
+  where
+    entries : (n : ℕ) (b : Bool) → any (length l) (badEntry n l) ≡ b → Accepted s
+        → TallySmall (cond b (T.Refused (record { number = 13; place = find (length l) (badEntry n l) })) (T.Of (tallyOf s l)))
+    entries n true e ok = record { some = omega arith; number = omega arith; place = place-few n l (subst T (sym e) tt) }
+    entries n false e ok =
+        let few : length l ≤ 512 = list-few n l (subst (λ (b : Bool). T (not b)) (sym e) tt) in
+        let edges : List ℕ = edgeRecords s in (
+          pairs-le (length l) (λ i j. true) few,
+          pairs-le (length l) (λ i j. joinedBy s everyEdge (getD l i 0) (getD l j 0)) few,
+          omega (arith, count-le (edgeCount s) (λ k. everyEdge k && justOne (contains (endA edges k) l) (contains (endB edges k) l)), edges-at-most s ok),
+        )
+
+    go : (o : Opened) → openOf s ≡ o → OpenSmall o → TallySmall (talliedFor s o l)
+    go (O.Site h) e small = entries (h .n) (any (length l) (badEntry (h .n) l)) refl (accepted s h e .0)
+    go (O.Refused r) e small = small
+
+-- ---- a group's members, and the report
+
+abbrev pub LookedSmall : ℕ → Looked → Type 0
+LookedSmall room (L.Found k) = k ≤ room
+LookedSmall room (L.Refused r) = Small r
+
+pub looked-small : (starts table : List ℕ) (k : ℕ) → LookedSmall (length table) (lookedOf starts table k)
+unfolding lookedOf membersOf
+looked-small starts table k = go (placed starts (length table) k)
+  where
+    a : ℕ
+    a = startOf starts k
+
+    b : ℕ
+    b = startOf starts (k + 1)
+
+    go : (q : Bool) → LookedSmall (length table) (cond q (L.Found (length (cond q (between a b table) []))) (L.Refused refusal14))
+    go true = omega (arith, length-take (b - a) (drop a table), length-drop a table)
+    go false = own-small 14 (omega arith) (omega arith)
+
+abbrev pub ReportSmall : ℕ → Reported → Type 0
+ReportSmall room (R.Written k) = k ≤ room
+ReportSmall room (R.Refused r) = Small r
+
+pub report-small : (s : List ℕ) (room : ℕ) → ReportSmall room (reportOf s room)
+unfolding reportOf writtenOf
+report-small s room = go (openOf s) (open-small s)
+  where
+    fitting : (b : Bool) → leb (length (reportText s)) room ≡ b → ReportSmall room (cond b (R.Written (length (reportText s))) (R.Refused refusal16))
+    fitting true e = leb→le (length (reportText s)) room (subst T (sym e) tt)
+    fitting false e = own-small 16 (omega arith) (omega arith)
+
+    go : (o : Opened) → OpenSmall o → ReportSmall room (reportFor s o room)
+    go (O.Site h) small = fitting (leb (length (reportText s)) room) refl
+    go (O.Refused r) small = small
