@@ -1,5 +1,8 @@
 /* divanegret: the talk-group planner of a site controller, for firmware written in C.
  *
+ * docs/SITE-IMAGE.md has the site image byte by byte, the meaning of near, core, group, role and
+ * score, and every refusal; this file says how C calls the planner.
+ *
  * Every function here is a thin, proved wrapper around the planner's library; its outcome is
  * fixed for every input, byte by byte. The functions
  *   - only read the image, the list, and the tables given as const;
@@ -21,7 +24,8 @@
  *
  * A result is never both: 0 or more is success, less than 0 is a refusal. dvg_report returns the
  * refusal's number made negative. The other functions return the refusal's place as well:
- * -(number + 256 * place). The numbers and places are those of the site image's specification. */
+ * -(number + 256 * place). The numbers and places are those of docs/SITE-IMAGE.md; the numbers have
+ * names below. */
 #ifndef DIVANEGRET_H
 #define DIVANEGRET_H
 
@@ -35,6 +39,29 @@ extern "C" {
 /* The parts of a refusal returned by any function but dvg_report. */
 #define DVG_NUMBER(r) ((int32_t)(-(r) % 256))
 #define DVG_PLACE(r) ((int32_t)(-(r) / 256))
+
+/* The numbers of refusals, each with the question that got a no. A place is that of the first bad
+ * one; where none is named it is 0. Questions 1 to 10 are put to the image in this order, each to the
+ * whole image before the next; every call on an image puts them before its own. */
+#define DVG_TOO_SHORT 1      /* Are there at least 32 bytes, the header? */
+#define DVG_WRONG_LENGTH 2   /* Is the header's length the lent length? */
+#define DVG_COUNTS 3         /* Are there at most 512 handsets and at most 4,096 ties? */
+#define DVG_RESERVED 4       /* Are bytes 30 and 31 zero? */
+#define DVG_THRESHOLDS 5     /* Is G at most 8,000,000,000,000, 1 <= p <= q <= 1,000, and mu at
+                                most 512? */
+#define DVG_TABLES 6         /* Is each table past the header, in the image, clear of the other? */
+#define DVG_COORDINATE 7     /* Is every x and y from -1,000,000 to 1,000,000? Place: a handset. */
+#define DVG_NO_HANDSET 8     /* Is each end of every tie below n? Place: a tie. */
+#define DVG_LOOP 9           /* Do the ends of every tie differ? Place: a tie. */
+#define DVG_REPEATED 10      /* Is no pair tied twice, either way round? Place: the later tie. */
+#define DVG_STARTS_SHORT 11  /* dvg_plan: does the start table hold the count of groups plus 1? */
+#define DVG_MEMBERS_SHORT 12 /* dvg_plan: does the member table hold all memberships? */
+#define DVG_ENTRY 13         /* dvg_role: is the handset below n? dvg_scores: is each entry below n,
+                                and none at index 512 or later? Place: the entry's index. */
+#define DVG_NO_GROUP 14      /* dvg_members: is k + 1 a place in the start table, and is starts[k] <=
+                                starts[k + 1] <= the member table's length? */
+#define DVG_LONG_INPUT 15    /* The report program alone: does its input end within 65,536 bytes? */
+#define DVG_TEXT_SHORT 16    /* dvg_report: does the buffer hold the whole text? */
 
 /* A start table of DVG_STARTS entries and a member table of DVG_MEMBERS entries suffice for every
  * image; for a given one, n + 1 and n + 2 m do. */

@@ -95,7 +95,7 @@ static void check_report(const uint8_t *image)
           length == (int64_t)REPORT_LENGTH && memcmp(text, report_of_s, REPORT_LENGTH) == 0);
     memset(text, 0xa5, sizeof text);
     length = dvg_report(image, LENGTH, text, REPORT_LENGTH - 1);
-    check("report refuses a buffer one byte short", length == -16);
+    check("report refuses a buffer one byte short", length == -DVG_TEXT_SHORT);
     check("report leaves a short buffer as it was", untouched(text, sizeof text, 0xa5));
 }
 
@@ -110,7 +110,8 @@ static void check_refused(const uint8_t *image)
     put(bad + TIES_AT + 4 * 5, 2, 1); /* tie 5 is now 1-0, as tie 0 the other way round */
     put(bad + TIES_AT + 4 * 5 + 2, 2, 0);
     refused = dvg_open(bad, LENGTH);
-    check("open refuses a repeated tie", DVG_NUMBER(refused) == 10 && DVG_PLACE(refused) == 5);
+    check("open refuses a repeated tie",
+          DVG_NUMBER(refused) == DVG_REPEATED && DVG_PLACE(refused) == 5);
     memset(starts, 0xa5, sizeof starts);
     memset(members, 0xa5, sizeof members);
     check("plan refuses it too",
@@ -118,11 +119,13 @@ static void check_refused(const uint8_t *image)
     check("plan leaves both tables as they were",
           untouched(starts, sizeof starts, 0xa5) && untouched(members, sizeof members, 0xa5));
     memset(text, 0xa5, sizeof text);
-    check("report answers the number alone", dvg_report(bad, LENGTH, text, sizeof text) == -10);
+    check("report answers the number alone",
+          dvg_report(bad, LENGTH, text, sizeof text) == -DVG_REPEATED);
     check("report leaves the buffer as it was", untouched(text, sizeof text, 0xa5));
-    check("open refuses a length that is not the image's", dvg_open(image, LENGTH - 1) == -2);
-    check("open refuses less than a header", dvg_open(image, 31) == -1);
-    check("open refuses no bytes at all", dvg_open(image, 0) == -1);
+    check("open refuses a length that is not the image's",
+          dvg_open(image, LENGTH - 1) == -DVG_WRONG_LENGTH);
+    check("open refuses less than a header", dvg_open(image, 31) == -DVG_TOO_SHORT);
+    check("open refuses no bytes at all", dvg_open(image, 0) == -DVG_TOO_SHORT);
 }
 
 static void check_plan(const uint8_t *image)
@@ -134,8 +137,10 @@ static void check_plan(const uint8_t *image)
     int64_t plan;
     memset(starts, 0xa5, sizeof starts);
     memset(members, 0xa5, sizeof members);
-    check("plan refuses a short start table", dvg_plan(image, LENGTH, starts, 2, members, 8) == -11);
-    check("plan refuses a short member table", dvg_plan(image, LENGTH, starts, 3, members, 7) == -12);
+    check("plan refuses a short start table",
+          dvg_plan(image, LENGTH, starts, 2, members, 8) == -DVG_STARTS_SHORT);
+    check("plan refuses a short member table",
+          dvg_plan(image, LENGTH, starts, 3, members, 7) == -DVG_MEMBERS_SHORT);
     check("plan leaves short tables as they were",
           untouched(starts, sizeof starts, 0xa5) && untouched(members, sizeof members, 0xa5));
     plan = dvg_plan(image, LENGTH, starts, DVG_STARTS, members, DVG_MEMBERS);
@@ -150,9 +155,10 @@ static void check_plan(const uint8_t *image)
               untouched(members + 8, sizeof members - sizeof expected_members, 0xa5));
     check("members of group 0", dvg_members(starts, 3, members, 8, 0) == 4);
     check("members of group 1", dvg_members(starts, 3, members, 8, 1) == 4);
-    check("no members of group 2", dvg_members(starts, 3, members, 8, 2) == -14);
-    check("no members of the last number", dvg_members(starts, 3, members, 8, UINT64_MAX) == -14);
-    check("no members past the table", dvg_members(starts, 3, members, 7, 1) == -14);
+    check("no members of group 2", dvg_members(starts, 3, members, 8, 2) == -DVG_NO_GROUP);
+    check("no members of the last number",
+          dvg_members(starts, 3, members, 8, UINT64_MAX) == -DVG_NO_GROUP);
+    check("no members past the table", dvg_members(starts, 3, members, 7, 1) == -DVG_NO_GROUP);
 }
 
 static int has_role(int64_t answer, int32_t kind, int32_t value, int32_t near)
@@ -170,8 +176,8 @@ static void check_roles(const uint8_t *image)
     check("handset 3 is a border in two groups",
           has_role(dvg_role(image, LENGTH, 3), DVG_BORDER, 2, 3));
     check("handset 4 is a core of group 1", has_role(dvg_role(image, LENGTH, 4), DVG_CORE, 1, 4));
-    check("handset 7 is not there", dvg_role(image, LENGTH, 7) == -13);
-    check("nor is the last number", dvg_role(image, LENGTH, UINT64_MAX) == -13);
+    check("handset 7 is not there", dvg_role(image, LENGTH, 7) == -DVG_ENTRY);
+    check("nor is the last number", dvg_role(image, LENGTH, UINT64_MAX) == -DVG_ENTRY);
     memcpy(other, image, LENGTH);
     put(other + 24, 2, 3); /* epsilon 3/5, mu 3 */
     put(other + 26, 2, 5);
@@ -191,14 +197,15 @@ static void check_scores(const uint8_t *image)
     check("scores of an empty list", dvg_scores(image, LENGTH, group, 0) == 0);
     scores = dvg_scores(image, LENGTH, bad, 3);
     check("scores refuse a handset that is not there",
-          DVG_NUMBER(scores) == 13 && DVG_PLACE(scores) == 2);
+          DVG_NUMBER(scores) == DVG_ENTRY && DVG_PLACE(scores) == 2);
     memset(same, 0, sizeof same);
     scores = dvg_scores(image, LENGTH, same, 512);
     check("scores of handset 0 named 512 times", DVG_PAIRS(scores) == 130816 &&
                                                      DVG_TIED_PAIRS(scores) == 0 &&
                                                      DVG_LEAVING(scores) == 2);
     scores = dvg_scores(image, LENGTH, same, 513);
-    check("scores refuse a list of 513", DVG_NUMBER(scores) == 13 && DVG_PLACE(scores) == 512);
+    check("scores refuse a list of 513",
+          DVG_NUMBER(scores) == DVG_ENTRY && DVG_PLACE(scores) == 512);
 }
 
 int main(void)

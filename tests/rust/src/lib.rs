@@ -8,11 +8,13 @@
 //! | `ffi`       | the proved planner, through its C interface (feature `proved`)              |
 //! | `sites`     | sites to try, their images, and renumberings of images                      |
 //! | `damage`    | damaged images                                                              |
+//! | `examples`  | the inputs stored with the report program                                   |
 //! | `compare`   | one image through every call of a planner, compared with the reference      |
 
 pub mod calls;
 pub mod compare;
 pub mod damage;
+pub mod examples;
 pub mod fast;
 #[cfg(feature = "proved")]
 pub mod ffi;

@@ -585,9 +585,10 @@ outliers:
     #[test]
     fn groups_are_ordered_by_smallest_core() {
         let found = findings(&sites::hub());
-        assert_eq!(found.record(0), Ok(Record { near: 9, role: Role::Border(8) }));
-        assert_eq!(found.record(11), Ok(Record { near: 11, role: Role::Core(1) }));
-        assert_eq!(found.start_table().last(), Some(&88));
+        assert_eq!(found.record(0), Ok(Record { near: 6, role: Role::Border(5) }));
+        assert_eq!(found.record(9), Ok(Record { near: 8, role: Role::Core(1) }));
+        assert_eq!(found.record(36), Ok(Record { near: 1, role: Role::Outlier }));
+        assert_eq!(found.start_table(), [0, 8, 16, 24, 32, 40]);
         // Handset 0 is a border of the second group only; the first has the smaller core.
         let mut site = sites::site_s(4);
         let swap = |handset: u16| [6, 1, 2, 3, 4, 5, 0][usize::from(handset)];

@@ -224,23 +224,24 @@ pub fn untied(handsets: usize, mu: u16) -> Site {
     }
 }
 
-/// Handset 0 is a border in eight communities: eight cliques of ten, each with one handset tied to
-/// it. It is alike to nine handsets, one short of mu.
+/// Handset 0 is a border in five communities: five cliques of seven, each with one handset tied to it.
+/// It is alike to six handsets, itself among them, one short of mu. The last handset is tied to it from
+/// too far away and is an outlier.
 pub fn hub() -> Site {
-    let (cliques, size) = (8, 10);
-    let mut draft = Draft::new(1 + cliques * size);
+    let (cliques, size) = (5, 7);
+    let mut positions = vec![(0, 0)];
+    let mut ties = Vec::new();
     for clique in 0..cliques {
-        let first = 1 + clique * size;
-        draft.clique(first, size);
-        draft.tie(0, first);
+        let members = 1 + clique * size..1 + (clique + 1) * size;
+        for u in members.clone() {
+            ties.extend((u + 1..members.end).map(|v| (u, v)));
+        }
+        ties.push((members.start + clique, 0));
+        positions.extend((-3..=3).map(|y| (i32::from(clique) - 2, y)));
     }
-    Site {
-        positions: vec![(0, 0); draft.handsets],
-        ties: draft.ties,
-        gamma_squared: 0,
-        epsilon: (1, 5),
-        mu: size as u16,
-    }
+    ties.push((positions.len() as u16, 0));
+    positions.push((MOST_COORDINATE, -MOST_COORDINATE));
+    Site { positions, ties, gamma_squared: 100, epsilon: (1, 4), mu: size }
 }
 
 /// A site as hospitals have them: wards of some dozen handsets within 60 metres, most ties within a

@@ -1,25 +1,9 @@
-//! Writes a named example image to a file: `image NAME PATH`. The inputs stored with the report
-//! program can be made again with it.
+//! Writes the input of a stored example to a file: `image NAME PATH`, where NAME is the example's crate.
+//! `image report_hub crates/report_hub/stdin` makes that one again.
 
 use std::process::ExitCode;
 
-use divanegret_tests::sites;
-
-/// The names, each with its image.
-fn examples() -> [(&'static str, Vec<u8>); 4] {
-    let mut refused = sites::site_s(4);
-    refused.ties.push((1, 0));
-    [
-        // Site S of the specification with mu 4.
-        ("site-s", sites::site_s(4).plain_image()),
-        // No handsets.
-        ("empty", sites::untied(0, 0).plain_image()),
-        // Site S with its first tie once more, the other way round: refused 10 8.
-        ("refused", refused.plain_image()),
-        // A border in eight communities.
-        ("hub", sites::hub().plain_image()),
-    ]
-}
+use divanegret_tests::examples::examples;
 
 fn main() -> ExitCode {
     let words: Vec<String> = std::env::args().skip(1).collect();
@@ -31,8 +15,8 @@ fn main() -> ExitCode {
         _ => None,
     };
     let Some((image, path)) = chosen else {
-        let names = examples.map(|(name, _)| name).join(", ");
-        eprintln!("usage: image NAME PATH, where NAME is one of {names}");
+        let names: Vec<&str> = examples.iter().map(|(name, _)| *name).collect();
+        eprintln!("usage: image NAME PATH, where NAME is one of {}", names.join(", "));
         return ExitCode::from(2);
     };
     match std::fs::write(path, image) {

@@ -1,0 +1,69 @@
+//! The inputs stored with the report program, made again. The tests hold them equal.
+
+use crate::sites;
+
+/// Each crate of the repository that has a stored input, and that input.
+pub fn examples() -> Vec<(&'static str, Vec<u8>)> {
+    let mut refused = sites::site_s(4);
+    refused.ties[5] = (3, 2);
+    vec![
+        // Site S of the specification with mu 4.
+        ("report", sites::site_s(4).plain_image()),
+        // Site S with a blank mu.
+        ("report_blank", sites::site_s(0).plain_image()),
+        // No handsets.
+        ("report_empty", sites::untied(0, 3).plain_image()),
+        // A border in five groups, and an outlier.
+        ("report_hub", sites::hub().plain_image()),
+        // Site S whose tie 5 repeats tie 3 the other way round: refused 10 5.
+        ("report_refused", refused.plain_image()),
+    ]
+}
+
+#[cfg(test)]
+mod tests {
+    use super::*;
+    use crate::reference;
+    use std::collections::BTreeMap;
+    use std::fs;
+    use std::path::{Path, PathBuf};
+
+    fn crates() -> PathBuf {
+        Path::new(env!("CARGO_MANIFEST_DIR")).join("../../crates")
+    }
+
+    /// The stored input of each crate whose name begins with `report`, where it has one.
+    fn stored() -> BTreeMap<String, Vec<u8>> {
+        let mut stored = BTreeMap::new();
+        for entry in fs::read_dir(crates()).expect("the repository's crates") {
+            let name = entry.expect("a crate").file_name().into_string().expect("a crate's name");
+            let input = crates().join(&name).join("stdin");
+            if name.starts_with("report") && input.exists() {
+                stored.insert(name, fs::read(input).expect("a stored input"));
+            }
+        }
+        stored
+    }
+
+    /// Every stored input has a maker, every maker a stored input, and the two are equal.
+    #[test]
+    fn stored_inputs_can_be_made_again() {
+        let stored = stored();
+        let examples = examples();
+        let made: Vec<&str> = examples.iter().map(|(name, _)| *name).collect();
+        assert_eq!(stored.keys().map(String::as_str).collect::<Vec<_>>(), made);
+        for (name, image) in examples {
+            assert_eq!(stored[name], image, "crates/{name}/stdin");
+        }
+    }
+
+    #[test]
+    fn stored_outputs_are_those_of_the_reference() {
+        for (name, image) in examples() {
+            let path = crates().join(name).join("stdout");
+            let output = fs::read_to_string(path).expect("a stored output");
+            let expected = String::from_utf8(reference::program(&image)).expect("text");
+            assert_eq!(output, expected, "crates/{name}/stdout");
+        }
+    }
+}
