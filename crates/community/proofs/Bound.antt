@@ -67,9 +67,9 @@ last {g} ok (one {u} {v} a b t) = (u, t, core-self ok u a (step-core ok u v t), 
 last {g} ok (more {u} {v} {w} r b t) = (v, t, r, to-below r)
 
 module _ {g : Network} (ok : Sound g) where
-  alike-near : (w v : ℕ) → T (similar g w v) → T (g .neighbour w v)
+  similar-neighbours : (w v : ℕ) → T (similar g w v) → T (g .neighbour w v)
   unfolding similar
-  alike-near w v t = and-left (g .neighbour w v) (meetsEpsilon g (commonNeighbours g w v) (neighbourhoodSize g w) (neighbourhoodSize g v)) t
+  similar-neighbours w v t = and-left (g .neighbour w v) (meetsEpsilon g (commonNeighbours g w v) (neighbourhoodSize g w) (neighbourhoodSize g v)) t
 
   groupsOf-core : (v : ℕ) → v < g .n → T (isCore g v) → leadersReaching g v ≤ 1
   unfolding leadersReaching
@@ -93,7 +93,7 @@ module _ {g : Network} (ok : Sound g) where
             let w : ℕ = m .0 in (
               w,
               m .3,
-              and-make (g .neighbour w v) (not (eqb w v)) (alike-near w v (step-similar ok w v (m .1)))
+              and-make (g .neighbour w v) (not (eqb w v)) (similar-neighbours w v (step-similar ok w v (m .1)))
                   (not-T (eqb w v) (λ e. T-not (isCore g v) c (subst (λ (x : ℕ). T (isCore g x)) (eqb→eq w v e) (step-core ok w v (m .1))))),
               (m .2, step-core ok w v (m .1)),
             );

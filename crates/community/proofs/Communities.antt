@@ -16,7 +16,7 @@ use Rattle.community.specs.Network.{Sound}
 use Rattle.community.proofs.Similarity.{reaches-core, core-self, Reachable-back}
 
 -- P has just the members of the k-th listed community
-pub record Listed (g : Network) (P : ℕ → Type 0) (k : ℕ) : Type 0 where
+pub record ListedAt (g : Network) (P : ℕ → Type 0) (k : ℕ) : Type 0 where
   pub place : k < length (communities g)
   pub same : (v : ℕ) → P v ↔ List·Memᴰ v (getD (communities g) k [])
 
@@ -104,7 +104,7 @@ unfolding leader leaders
 leader-ascends g i j h k = select-ascends (g .n) (isLeader g) i j h (rw (length-communities g) at k)
 
 module _ {g : Network} (ok : Sound g) where
-  listed-community : (P : ℕ → Type 0) (k : ℕ) → Listed g P k → IsCommunity g P
+  listed-community : (P : ℕ → Type 0) (k : ℕ) → ListedAt g P k → IsCommunity g P
   listed-community P k l =
       let u : ℕ = leader g k in
       let to : (v : ℕ) → P v → Reachable g u v = λ v x. member-reachable g k v (l .place) (l .same v .0 x) in
@@ -117,7 +117,7 @@ module _ {g : Network} (ok : Sound g) where
         closed = λ v w x r. of w (Reachable-trans (to v x) r);
       }
 
-  community-listed : (P : ℕ → Type 0) → IsCommunity g P → (k : ℕ) × Listed g P k
+  community-listed : (P : ℕ → Type 0) → IsCommunity g P → (k : ℕ) × ListedAt g P k
   community-listed P d =
       let c : ℕ = d .has-core .0 in
       let cP : P c = d .has-core .1 in
@@ -139,7 +139,7 @@ module _ {g : Network} (ok : Sound g) where
       )
 
   -- demand 3: exactly when
-  pub exactly : (P : ℕ → Type 0) → IsCommunity g P ↔ ((k : ℕ) × Listed g P k)
+  pub exactly : (P : ℕ → Type 0) → IsCommunity g P ↔ ((k : ℕ) × ListedAt g P k)
   exactly P = (community-listed P, (λ l. listed-community P (l .0) (l .1)))
 
   -- each core is in one listed community only

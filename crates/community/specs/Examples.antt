@@ -55,10 +55,10 @@ pub record Examples : Type 0 where
   pub similar-577 : similar (network (siteS 577 1000 4)) 2 3 ≡ true
   pub dissimilar-578 : similar (network (siteS 578 1000 4)) 2 3 ≡ false
   -- tied at (0,0) and (1,2): near at G = 5, not at 4; the same at (-1,-1) and (0,1)
-  pub near-5 : neighbour (pair 5) 0 1 ≡ true
-  pub far-4 : neighbour (pair 4) 0 1 ≡ false
-  pub near-5-negative : neighbour (pairNeg 5) 0 1 ≡ true
-  pub far-4-negative : neighbour (pairNeg 4) 0 1 ≡ false
+  pub neighbours-5 : neighbour (pair 5) 0 1 ≡ true
+  pub apart-4 : neighbour (pair 4) 0 1 ≡ false
+  pub neighbours-5-negative : neighbour (pairNeg 5) 0 1 ≡ true
+  pub apart-4-negative : neighbour (pairNeg 4) 0 1 ≡ false
   -- n = 0: no groups, start table 0
   pub accepted-nobody : openOf nobody ≡ Site (headerOf nobody)
   pub communities-nobody : communities (network nobody) ≡ []

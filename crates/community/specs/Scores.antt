@@ -4,7 +4,7 @@
 --     pairs l                s, the count of all pairs of places in l
 --     everyEdge              the test that every edge passes
 --     joinedBy s test u v    u and v are the two ends of an edge that passes; with every edge, u and v are adjacent (the paper: tied)
---     tiedPairs s test l     t, the count of pairs of places whose handsets are joined so
+--     joinedPairs s test l     t, the count of pairs of places whose handsets are joined so
 --     leaving s test l       o, the count of edges that pass and have just one end in l
 --
 -- Density is (s - t) / s and conductance o / (2 t + o), neither reduced. The laws are in proofs/Tallying of the crate `scores`.
@@ -32,9 +32,9 @@ unfoldable pub joinedBy : List ℕ → (ℕ → Bool) → ℕ → ℕ → Bool
 unfolding any joins edgeCount edgeRecords
 joinedBy s test u v = any (edgeCount s) (λ k. test k && joins (edgeRecords s) u v k)
 
-unfoldable pub tiedPairs : List ℕ → (ℕ → Bool) → List ℕ → ℕ
+unfoldable pub joinedPairs : List ℕ → (ℕ → Bool) → List ℕ → ℕ
 unfolding countPairs joinedBy
-tiedPairs s test l = countPairs (length l) (λ i j. joinedBy s test (getD l i 0) (getD l j 0))
+joinedPairs s test l = countPairs (length l) (λ i j. joinedBy s test (getD l i 0) (getD l j 0))
 
 abbrev pub justOne : Bool → Bool → Bool
 justOne a b = (a && not b) || (b && not a)

@@ -85,12 +85,12 @@ module _ (s : List ℕ) (ok : Accepted s) (x y : List ℕ) where
   at : (k : ℕ) → k < length (communitiesOf s) → group (startTable (communitiesOf s) ++ x) (memberTable (communitiesOf s) ++ y) k ≡ getD (communitiesOf s) k []
   at k h = table-community (communitiesOf s) x y k h
 
-  to-list : (P : ℕ → Type 0) (k : ℕ) → ListedAs (startTable (communitiesOf s) ++ x) (memberTable (communitiesOf s) ++ y) (length (communitiesOf s)) P k → C.Listed (network s) P k
+  to-list : (P : ℕ → Type 0) (k : ℕ) → ListedAs (startTable (communitiesOf s) ++ x) (memberTable (communitiesOf s) ++ y) (length (communitiesOf s)) P k → C.ListedAt (network s) P k
   unfolding communitiesOf
   to-list P k l =
       record { place = l .place; same = λ v. subst (λ (m : List ℕ). P v ↔ List·Memᴰ v m) (at k (l .place)) (l .same v) }
 
-  from-list : (P : ℕ → Type 0) (k : ℕ) → C.Listed (network s) P k → ListedAs (startTable (communitiesOf s) ++ x) (memberTable (communitiesOf s) ++ y) (length (communitiesOf s)) P k
+  from-list : (P : ℕ → Type 0) (k : ℕ) → C.ListedAt (network s) P k → ListedAs (startTable (communitiesOf s) ++ x) (memberTable (communitiesOf s) ++ y) (length (communitiesOf s)) P k
   unfolding communitiesOf
   from-list P k l =
       record { place = l .place; same = λ v. subst (λ (m : List ℕ). P v ↔ List·Memᴰ v m) (sym (at k (l .place))) (l .same v) }

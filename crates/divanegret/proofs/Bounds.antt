@@ -24,7 +24,7 @@ use Rattle.image.specs.declared.Opened.{Opened}
 use Rattle.image.specs.declared.Opened.the-variants as O
 use Rattle.image.proofs.Acceptance.{accepted, accepted-fits}
 use Rattle.community.specs.Network.{Network, contains, communityNumber, membershipCount, borderOf, communities, neighbourhoodSize, isCore, role}
-use Rattle.community.specs.Scores.{countPairs, pairs, everyEdge, joinedBy, tiedPairs, justOne, leaving}
+use Rattle.community.specs.Scores.{countPairs, pairs, everyEdge, joinedBy, joinedPairs, justOne, leaving}
 use Rattle.community.specs.Site.{network}
 use Rattle.community.specs.Tables.{memberTable}
 use Rattle.community.specs.declared.Role.{Role}
@@ -179,7 +179,7 @@ role-small s v = go (openOf s) refl (open-small s)
 -- ---- the tally of a list
 
 abbrev pub TallySmall : Tallied → Type 0
-TallySmall (T.Of x) = (x .pairs ≤ 262144) × (x .tied ≤ 262144) × (x .leaving ≤ 4096)
+TallySmall (T.Of x) = (x .pairs ≤ 262144) × (x .joined ≤ 262144) × (x .leaving ≤ 4096)
 TallySmall (T.Refused r) = Small r
 
 -- a list of at most 512 places has at most 512 * 512 pairs of them
@@ -209,7 +209,7 @@ module _ (n : ℕ) (l : List ℕ) where
       pick (no h) = absurd (not-any (length l) (badEntry n l) 512 t (omega arith) late)
 
 pub tally-small : (s l : List ℕ) → TallySmall (talliedOf s l)
-unfolding talliedOf askEntries tallyOf pairs tiedPairs leaving
+unfolding talliedOf askEntries tallyOf pairs joinedPairs leaving
 tally-small s l = go (openOf s) refl (open-small s)
   where
     entries : (n : ℕ) (b : Bool) → any (length l) (badEntry n l) ≡ b → Accepted s

@@ -36,7 +36,7 @@ use Rattle.reporting.specs.Report.{reportOf, reportAnswer}
 use Rattle.reporting.specs.declared.Reported.{Reported}
 use Rattle.reporting.specs.declared.Reported.the-variants as R
 use Rattle.divanegret.specs.Codes.{refusalCode, openCode, planCode, kindCode, roleCode, tallyCode, lookedCode, reportCode}
-use Rattle.divanegret.specs.Lossless.{int32, handsetsIn, tiesIn, groupsIn, membershipsIn, kindIn, valueIn, nearCountIn, leavingIn, tiedPairsIn, pairsIn, itself, Taken, takenBy, siteAnswer, numberOnly, whole, Lossless}
+use Rattle.divanegret.specs.Lossless.{int32, handsetsIn, tiesIn, groupsIn, membershipsIn, kindIn, valueIn, nearCountIn, leavingIn, joinedPairsIn, pairsIn, itself, Taken, takenBy, siteAnswer, numberOnly, whole, Lossless}
 use Rattle.divanegret.proofs.Bounds.{Small, OpenSmall, PlanSmall, RoleSmall, KnownSmall, TallySmall, LookedSmall, ReportSmall, open-small, plan-small, role-small, tally-small, looked-small, report-small}
 
 -- a number below 2 ^ 31 is its int32_t
@@ -114,17 +114,17 @@ upper : (k o s : ℕ) → k ≡ o + 68719476736 * s → o < 68719476736 → k / 
 upper k o s e h = omega arith
 
 tally-of : (k s t o : ℕ) → k ≡ o + 65536 * t + 68719476736 * s → t < 1048576 → o < 65536
-    → takenBy (pairsIn ∷ tiedPairsIn ∷ leavingIn ∷ []) (pos k) ≡ whole (given (s ∷ t ∷ o ∷ []))
+    → takenBy (pairsIn ∷ joinedPairsIn ∷ leavingIn ∷ []) (pos k) ≡ whole (given (s ∷ t ∷ o ∷ []))
 unfolding takenBy
 tally-of k s t o e l h =
     let x : k % 65536 ≡ o = omega arith in
     let w : k / 65536 ≡ t + 1048576 * s = omega arith in
     success (values-3 (ap pos (upper k (o + 65536 * t) s e (omega arith))) (ap pos (middle (k / 65536) t s w l)) (ap pos x))
 
-tally-taken : (x : Tallied) → TallySmall x → takenBy (pairsIn ∷ tiedPairsIn ∷ leavingIn ∷ []) (tallyCode x) ≡ whole (tallyAnswer x)
+tally-taken : (x : Tallied) → TallySmall x → takenBy (pairsIn ∷ joinedPairsIn ∷ leavingIn ∷ []) (tallyCode x) ≡ whole (tallyAnswer x)
 tally-taken (T.Of x) small =
-    tally-of _ (x .pairs) (x .tied) (x .leaving) (omega (arith, small .0, small .1, small .2)) (omega (arith, small .1)) (omega (arith, small .2))
-tally-taken (T.Refused r) small = refusal-taken (pairsIn ∷ tiedPairsIn ∷ leavingIn ∷ []) r small
+    tally-of _ (x .pairs) (x .joined) (x .leaving) (omega (arith, small .0, small .1, small .2)) (omega (arith, small .1)) (omega (arith, small .2))
+tally-taken (T.Refused r) small = refusal-taken (pairsIn ∷ joinedPairsIn ∷ leavingIn ∷ []) r small
 
 -- a count that is at most the length of what was lent
 count-taken : (k room : ℕ) → room < 9223372036854775808 → k ≤ room → takenBy (itself ∷ []) (pos (min k 9223372036854775807)) ≡ whole (given (k ∷ []))

@@ -49,7 +49,7 @@ roleCode (K.Handset x) = pos (kindCode (x .role) + 4294967296 * min (x .neighbou
 roleCode (K.Refused r) = refusalCode r
 
 abbrev pub tallyCode : Tallied → ℤ
-tallyCode (T.Of x) = pos (min (x .leaving) 65535 + 65536 * min (x .tied) 1048575 + 68719476736 * min (x .pairs) 1048575)
+tallyCode (T.Of x) = pos (min (x .leaving) 65535 + 65536 * min (x .joined) 1048575 + 68719476736 * min (x .pairs) 1048575)
 tallyCode (T.Refused r) = refusalCode r
 
 abbrev pub lookedCode : Looked → ℤ

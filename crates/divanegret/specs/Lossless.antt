@@ -70,8 +70,8 @@ nearCountIn r = int32 (natAbs r / 4294967296)
 abbrev pub leavingIn : ℤ → ℤ
 leavingIn r = pos (natAbs r % 65536)
 
-abbrev pub tiedPairsIn : ℤ → ℤ
-tiedPairsIn r = pos (natAbs r / 65536 % 1048576)
+abbrev pub joinedPairsIn : ℤ → ℤ
+joinedPairsIn r = pos (natAbs r / 65536 % 1048576)
 
 abbrev pub pairsIn : ℤ → ℤ
 pairsIn r = pos (natAbs r / 68719476736)
@@ -108,7 +108,7 @@ pub record Lossless : Type 0 where
   pub opened : (s : List ℕ) → takenBy (handsetsIn ∷ tiesIn ∷ []) (openCode (openOf s)) ≡ whole (siteAnswer (openOf s))
   pub planned : (s : List ℕ) (a b : ℕ) → takenBy (groupsIn ∷ membershipsIn ∷ []) (planCode (planOf s a b)) ≡ whole (planAnswer (planOf s a b))
   pub role : (s : List ℕ) (v : ℕ) → takenBy (nearCountIn ∷ kindIn ∷ valueIn ∷ []) (roleCode (knownOf s v)) ≡ whole (knownAnswer (knownOf s v))
-  pub scores : (s l : List ℕ) → takenBy (pairsIn ∷ tiedPairsIn ∷ leavingIn ∷ []) (tallyCode (talliedOf s l)) ≡ whole (tallyAnswer (talliedOf s l))
+  pub scores : (s l : List ℕ) → takenBy (pairsIn ∷ joinedPairsIn ∷ leavingIn ∷ []) (tallyCode (talliedOf s l)) ≡ whole (tallyAnswer (talliedOf s l))
   pub members : (starts table : List ℕ) (k : ℕ) → length table < 9223372036854775808
       → takenBy (itself ∷ []) (lookedCode (lookedOf starts table k)) ≡ whole (lookAnswer (lookedOf starts table k))
   pub report : (s : List ℕ) (room : ℕ) → room < 9223372036854775808

@@ -81,7 +81,8 @@ fn tally_code(t: Tallied) -> i64
 {
     match t {
         Tallied::Of(x) => {
-            let inner = at_most(x.leaving as u64, 65535) + 65536 * at_most(x.tied as u64, 1048575);
+            let inner = at_most(x.leaving as u64, 65535)
+                + 65536 * at_most(x.joined as u64, 1048575);
             (inner + 68719476736 * at_most(x.pairs as u64, 1048575)) as i64
         }
         Tallied::Refused(r) => refusal_code(r),

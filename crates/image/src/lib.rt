@@ -196,8 +196,8 @@ pub fn within(a: &[u8], b: &[u8], limit: u64) -> bool
     let mut i: usize = 0;
     while i < fields::COORDINATES {
         let d = squared_gap(fields::coordinate(a, 4 * i), fields::coordinate(b, 4 * i));
-        let near = d <= room;
-        fits = fits & near;
+        let covered = d <= room;
+        fits = fits & covered;
         room = std::num::wrapping_sub_u64(room, d);
         i += 1;
     }

@@ -2,12 +2,12 @@
 -- smaller such relation leaves just that, so first the neighbour relation is left and then the similarity relation.
 --
 --     Along, dropped-is            a symmetric relation that holds of each handset with itself, and else only along edges; what dropping leaves of one
---     near-table, similar-table    so the two tables are those of the neighbour relation and of the similarity relation
+--     neighbour-table, similar-table    so the two tables are those of the neighbour relation and of the similarity relation
 --     Read, header-is              the numbers of the header are those of the image, and edgePart-is, handsetPart-is: the parts that are handed on are the records
---     near-size, near-common       the counts of the neighbour table are those of the network; enough-is: and the test by them is the definition's
+--     neighbour-size, neighbour-common       the counts of the neighbour table are those of the network; enough-is: and the test by them is the definition's
 --     cores-set                    the cores by the sizes of the similarity table
---     edges-ready, near-ready, unlike-ready     the edges of the part and of the two sets stand there, and their ends are handsets
---     near-kept, surveyed          the two steps that drop edges; near-sizes: the sizes after the first
+--     edges-ready, short-ready, dissimilar-ready     the edges of the part and of the two sets stand there, and their ends are handsets
+--     neighbours-kept, surveyed          the two steps that drop edges; neighbour-sizes: the sizes after the first
 use Prim.Native.Nat.{ℕ, _+_, _*_, _-_, _/_, _≤_, _<_, min}
 use native.Mathlib.Omega.{arith}
 use native.Mathlib.Nat.{add-sub-cancel-left}
@@ -37,7 +37,7 @@ use Rattle.community.specs.Site.{network}
 use Rattle.community.proofs.Similarity.{similar-sym, similar-self}
 use Rattle.community.proofs.Site.{adjacent-comm, neighbour-comm, neighbour-self, accepted-sound}
 use Rattle.search.specs.Communities.{both, similarIn, coreIn, Surveyed}
-use Rattle.planner.specs.Held.{HasEnds, EdgeSet, isNear, Dropped, enough, nearIn, NearKept}
+use Rattle.planner.specs.Held.{HasEnds, EdgeSet, isShort, Dropped, enough, neighbourIn, NeighboursKept}
 use Rattle.planner.proofs.Words.{set-passes, passes-set}
 use Rattle.planner.proofs.Edges.{dropped-cong}
 
@@ -96,20 +96,20 @@ module _ (s : List ℕ) (P R : ℕ → ℕ → Bool) (p : Along s P) (r : Along 
   }
 
 module _ (s : List ℕ) (ok : Accepted s) where
-  near-only : (u v : ℕ) → T (neighbour s u v) → (u ≡ v) ⊎ T (adjacent s u v)
+  neighbour-only : (u v : ℕ) → T (neighbour s u v) → (u ≡ v) ⊎ T (adjacent s u v)
   unfolding neighbour
-  near-only u v t =
+  neighbour-only u v t =
       ⊎-elim (λ x. inl (eqb→eq u v x)) (λ x. inr (and-left (adjacent s u v) (within s u v) x)) (or-cases (eqb u v) (adjacent s u v && within s u v) t)
 
-  near-along : Along s (neighbour s)
-  near-along = record { symmetric = neighbour-comm s; self = neighbour-self s; only = near-only }
+  neighbour-along : Along s (neighbour s)
+  neighbour-along = record { symmetric = neighbour-comm s; self = neighbour-self s; only = neighbour-only }
 
   -- u is v, or they are the ends of an edge
-  abbrev tied : ℕ → ℕ → Bool
-  tied u v = eqb u v || adjacent s u v
+  abbrev selfOrAdjacent : ℕ → ℕ → Bool
+  selfOrAdjacent u v = eqb u v || adjacent s u v
 
-  tied-along : Along s tied
-  tied-along = record {
+  self-or-adjacent-along : Along s selfOrAdjacent
+  self-or-adjacent-along = record {
     symmetric = λ u v. ap₂ _||_ (eqb-comm u v) (adjacent-comm s u v);
     self = λ u. or-left (eqb u u) (adjacent s u u) (eqb-refl u);
     only = λ u v t. ⊎-elim (λ x. inl (eqb→eq u v x)) (λ x. inr x) (or-cases (eqb u v) (adjacent s u v) t);
@@ -120,14 +120,14 @@ module _ (s : List ℕ) (ok : Accepted s) where
   similar-along = record {
     symmetric = similar-sym (accepted-sound s ok);
     self = λ u. similar-self (accepted-sound s ok) u (neighbour-self s u);
-    only = λ u v t. near-only u v (and-left (neighbour s u v) (meetsEpsilon (network s) (commonNeighbours (network s) u v) (neighbourhoodSize (network s) u) (neighbourhoodSize (network s) v)) t);
+    only = λ u v t. neighbour-only u v (and-left (neighbour s u v) (meetsEpsilon (network s) (commonNeighbours (network s) u v) (neighbourhoodSize (network s) u) (neighbourhoodSize (network s) v)) t);
   }
 
   -- the ends of an edge are neighbours exactly when they are within gamma
-  edge-near : (k : ℕ) → k < edgeCount s
+  edge-short : (k : ℕ) → k < edgeCount s
       → neighbour s (endA (edgeRecords s) k) (endB (edgeRecords s) k) ≡ within s (endA (edgeRecords s) k) (endB (edgeRecords s) k)
   unfolding neighbour adjacent isLoop
-  edge-near k h =
+  edge-short k h =
       let a : ℕ = endA (edgeRecords s) k in
       let b : ℕ = endB (edgeRecords s) k in
       let j : T (adjacent s a b) = any-make (edgeCount s) (joins (edgeRecords s) a b) k h (joins-one (edgeRecords s) a b k refl refl) in
@@ -136,10 +136,10 @@ module _ (s : List ℕ) (ok : Accepted s) where
       (λ w. or-right (eqb a b) (adjacent s a b && within s a b) (and-make (adjacent s a b) (within s a b) j w))
 
   -- the table of all edges
-  related-is : (u v : ℕ) → related s u v ≡ (both (network s) u v && tied u v)
+  related-is : (u v : ℕ) → related s u v ≡ (both (network s) u v && selfOrAdjacent u v)
   unfolding related adjacent
   related-is u v =
-      T-ext (related s u v) (both (network s) u v && tied u v)
+      T-ext (related s u v) (both (network s) u v && selfOrAdjacent u v)
       (λ t.
       ⊎-elim
       (λ x.
@@ -157,15 +157,15 @@ module _ (s : List ℕ) (ok : Accepted s) where
       make u v (h .0) (h .1) (or-right (eqb u v) (adjacent s u v) x))
       (or-cases (ltb u (handsetCount s) && eqb u v) (any (edgeCount s) (joins (edgeRecords s) u v)) t))
       (λ t.
-      let b = and-left (both (network s) u v) (tied u v) t in
+      let b = and-left (both (network s) u v) (selfOrAdjacent u v) t in
       ⊎-elim
       (λ x. or-left (ltb u (handsetCount s) && eqb u v) (any (edgeCount s) (joins (edgeRecords s) u v)) (and-make (ltb u (handsetCount s)) (eqb u v) (and-left (ltb u (handsetCount s)) (ltb v (handsetCount s)) b) x))
       (λ x. or-right (ltb u (handsetCount s) && eqb u v) (any (edgeCount s) (joins (edgeRecords s) u v)) x)
-      (or-cases (eqb u v) (adjacent s u v) (and-right (both (network s) u v) (tied u v) t)))
+      (or-cases (eqb u v) (adjacent s u v) (and-right (both (network s) u v) (selfOrAdjacent u v) t)))
     where
-      make : (u v : ℕ) → u < handsetCount s → v < handsetCount s → T (tied u v) → T (both (network s) u v && tied u v)
+      make : (u v : ℕ) → u < handsetCount s → v < handsetCount s → T (selfOrAdjacent u v) → T (both (network s) u v && selfOrAdjacent u v)
       make u v hu hv r =
-          and-make (both (network s) u v) (tied u v)
+          and-make (both (network s) u v) (selfOrAdjacent u v)
           (and-make (ltb u (handsetCount s)) (ltb v (handsetCount s)) (lt→ltb u (handsetCount s) hu) (lt→ltb v (handsetCount s) hv)) r
 
   -- an edge of the image that is too long
@@ -173,27 +173,27 @@ module _ (s : List ℕ) (ok : Accepted s) where
   tooLong k = ltb k (edgeCount s) && not (within s (endA (edgeRecords s) k) (endB (edgeRecords s) k))
 
   -- dropping these leaves the neighbour relation
-  pub near-table : {ws after : List ℕ} → Table ws (related s) → Dropped (edgeRecords s) tooLong ws after → Table after (nearIn (network s))
-  unfolding nearIn neighbour
-  near-table t d =
-      dropped-is s tied (neighbour s) tied-along near-along
+  pub neighbour-table : {ws after : List ℕ} → Table ws (related s) → Dropped (edgeRecords s) tooLong ws after → Table after (neighbourIn (network s))
+  unfolding neighbourIn neighbour
+  neighbour-table t d =
+      dropped-is s selfOrAdjacent (neighbour s) self-or-adjacent-along neighbour-along
       (λ u v x. ⊎-elim (λ e. or-left (eqb u v) (adjacent s u v) e) (λ w. or-right (eqb u v) (adjacent s u v) (and-left (adjacent s u v) (within s u v) w)) (or-cases (eqb u v) (adjacent s u v && within s u v) x))
       tooLong
       (λ k x.
       let h = ltb→lt k (edgeCount s) (and-left (ltb k (edgeCount s)) (not (within s (endA (edgeRecords s) k) (endB (edgeRecords s) k))) x) in
-      (h, subst (λ (b : Bool). T (not b)) (sym (edge-near k h)) (and-right (ltb k (edgeCount s)) (not (within s (endA (edgeRecords s) k) (endB (edgeRecords s) k))) x)))
+      (h, subst (λ (b : Bool). T (not b)) (sym (edge-short k h)) (and-right (ltb k (edgeCount s)) (not (within s (endA (edgeRecords s) k) (endB (edgeRecords s) k))) x)))
       (λ k h x n.
-      and-make (ltb k (edgeCount s)) (not (within s (endA (edgeRecords s) k) (endB (edgeRecords s) k))) (lt→ltb k (edgeCount s) h) (subst (λ (b : Bool). T (not b)) (edge-near k h) n))
-      d (both (network s)) (table-cong (related s) (λ u v. both (network s) u v && tied u v) (λ u v hu hv. related-is u v) t)
+      and-make (ltb k (edgeCount s)) (not (within s (endA (edgeRecords s) k) (endB (edgeRecords s) k))) (lt→ltb k (edgeCount s) h) (subst (λ (b : Bool). T (not b)) (edge-short k h) n))
+      d (both (network s)) (table-cong (related s) (λ u v. both (network s) u v && selfOrAdjacent u v) (λ u v hu hv. related-is u v) t)
 
   -- dropping the edges whose ends do not have enough in common leaves the similarity relation
   pub similar-table : {ws after : List ℕ} (gone : ℕ → Bool)
       → ((k : ℕ) → T (gone k) → (k < edgeCount s) × T (not (meets (network s) (endA (edgeRecords s) k) (endB (edgeRecords s) k))))
       → ((k : ℕ) → k < edgeCount s → T (within s (endA (edgeRecords s) k) (endB (edgeRecords s) k)) → T (not (meets (network s) (endA (edgeRecords s) k) (endB (edgeRecords s) k))) → T (gone k))
-      → Table ws (nearIn (network s)) → Dropped (edgeRecords s) gone ws after → Table after (similarIn (network s))
-  unfolding nearIn similarIn similar
+      → Table ws (neighbourIn (network s)) → Dropped (edgeRecords s) gone ws after → Table after (similarIn (network s))
+  unfolding neighbourIn similarIn similar
   similar-table gone only each t d =
-      dropped-is s (neighbour s) (similar (network s)) near-along similar-along
+      dropped-is s (neighbour s) (similar (network s)) neighbour-along similar-along
       (λ u v x. and-left (neighbour s u v) (meets (network s) u v) x)
       gone
       (λ k x.
@@ -203,7 +203,7 @@ module _ (s : List ℕ) (ok : Accepted s) where
       (λ k h y n.
       let a : ℕ = endA (edgeRecords s) k in
       let b : ℕ = endB (edgeRecords s) k in
-      each k h (subst (λ (x : Bool). T x) (edge-near k h) y)
+      each k h (subst (λ (x : Bool). T x) (edge-short k h) y)
       (not-T (meets (network s) a b) (λ z. T-not (neighbour s a b && meets (network s) a b) n (and-make (neighbour s a b) (meets (network s) a b) y z))))
       d (both (network s)) t
 
@@ -294,46 +294,46 @@ module _ (g : Network) (small : g .n ≤ 512) where
       ∙ count-in (g .n) (λ v. both g u v && R u v) small (λ v l. both-no u v (R u v) l)
       ∙ count-cong (g .n) (λ v. both g u v && R u v) (R u) (λ v l. both-yes u v (R u v) h l)
 
-  pub near-size : {ws : List ℕ} (u : ℕ) → Table ws (nearIn g) → u < g .n → sum 512 (λ w. cell ws u w) ≡ neighbourhoodSize g u
-  unfolding nearIn neighbourhoodSize
-  near-size u t h = row-in (g .neighbour) u t h
+  pub neighbour-size : {ws : List ℕ} (u : ℕ) → Table ws (neighbourIn g) → u < g .n → sum 512 (λ w. cell ws u w) ≡ neighbourhoodSize g u
+  unfolding neighbourIn neighbourhoodSize
+  neighbour-size u t h = row-in (g .neighbour) u t h
 
   pub similar-size : {ws : List ℕ} (u : ℕ) → Table ws (similarIn g) → u < g .n → sum 512 (λ w. cell ws u w) ≡ count (g .n) (similar g u)
   unfolding similarIn
   similar-size u t h = row-in (similar g) u t h
 
-  near-is : (u v : ℕ) → u < g .n → v < g .n → nearIn g u v ≡ g .neighbour u v
-  unfolding nearIn
-  near-is u v hu hv = both-yes u v (g .neighbour u v) hu hv
+  neighbour-is : (u v : ℕ) → u < g .n → v < g .n → neighbourIn g u v ≡ g .neighbour u v
+  unfolding neighbourIn
+  neighbour-is u v hu hv = both-yes u v (g .neighbour u v) hu hv
 
-  near-past : (u v : ℕ) → g .n ≤ v → T (not (nearIn g u v))
-  unfolding nearIn
-  near-past u v h = both-no u v (g .neighbour u v) h
+  neighbour-past : (u v : ℕ) → g .n ≤ v → T (not (neighbourIn g u v))
+  unfolding neighbourIn
+  neighbour-past u v h = both-no u v (g .neighbour u v) h
 
-  pub near-common : {ws : List ℕ} (u v : ℕ) → Table ws (nearIn g) → u < g .n → v < g .n
+  pub neighbour-common : {ws : List ℕ} (u v : ℕ) → Table ws (neighbourIn g) → u < g .n → v < g .n
       → sum 512 (λ w. min (cell ws u w) (cell ws v w)) ≡ commonNeighbours g u v
   unfolding commonNeighbours
-  near-common {ws} u v t hu hv =
-      sum-cong 512 (λ w. min (cell ws u w) (cell ws v w)) (λ w. bit (nearIn g u w && nearIn g v w))
-      (λ w l. ap₂ min (t .bits u w (omega arith) l) (t .bits v w (omega arith) l) ∙ min-bit (nearIn g u w) (nearIn g v w))
-      ∙ sym (count-sum 512 (λ w. nearIn g u w && nearIn g v w))
-      ∙ count-in (g .n) (λ w. nearIn g u w && nearIn g v w) small
-      (λ w l. not-T (nearIn g u w && nearIn g v w) (λ x. T-not (nearIn g u w) (near-past u w l) (and-left (nearIn g u w) (nearIn g v w) x)))
-      ∙ count-cong (g .n) (λ w. nearIn g u w && nearIn g v w) (λ w. g .neighbour u w && g .neighbour v w)
-      (λ w l. ap₂ _&&_ (near-is u w hu l) (near-is v w hv l))
+  neighbour-common {ws} u v t hu hv =
+      sum-cong 512 (λ w. min (cell ws u w) (cell ws v w)) (λ w. bit (neighbourIn g u w && neighbourIn g v w))
+      (λ w l. ap₂ min (t .bits u w (omega arith) l) (t .bits v w (omega arith) l) ∙ min-bit (neighbourIn g u w) (neighbourIn g v w))
+      ∙ sym (count-sum 512 (λ w. neighbourIn g u w && neighbourIn g v w))
+      ∙ count-in (g .n) (λ w. neighbourIn g u w && neighbourIn g v w) small
+      (λ w l. not-T (neighbourIn g u w && neighbourIn g v w) (λ x. T-not (neighbourIn g u w) (neighbour-past u w l) (and-left (neighbourIn g u w) (neighbourIn g v w) x)))
+      ∙ count-cong (g .n) (λ w. neighbourIn g u w && neighbourIn g v w) (λ w. g .neighbour u w && g .neighbour v w)
+      (λ w l. ap₂ _&&_ (neighbour-is u w hu l) (neighbour-is v w hv l))
 
   -- the test of two handsets by the table and its sizes
-  pub enough-is : {ws sizes : List ℕ} (u v p q : ℕ) → Table ws (nearIn g) → Counted ws sizes → u < g .n → v < g .n → p ≡ g .p → q ≡ g .q
+  pub enough-is : {ws sizes : List ℕ} (u v p q : ℕ) → Table ws (neighbourIn g) → Counted ws sizes → u < g .n → v < g .n → p ≡ g .p → q ≡ g .q
       → enough ws sizes p q u v ≡ meets g u v
   unfolding meetsEpsilon
   enough-is {ws} {sizes} u v p q t c hu hv ep eq =
-      rw (c .rows u (omega arith) ∙ near-size u t hu, c .rows v (omega arith) ∙ near-size v t hv, ep, eq, near-common u v t hu hv) refl
+      rw (c .rows u (omega arith) ∙ neighbour-size u t hu, c .rows v (omega arith) ∙ neighbour-size v t hv, ep, eq, neighbour-common u v t hu hv) refl
 
   -- the cores, by the sizes of the similarity table
-  pub cores-set : {ws alike sizes : List ℕ} (n m : ℕ) → n ≡ g .n → m ≡ g .mu → Table alike (similarIn g) → Counted alike sizes
+  pub cores-set : {ws similar-rows sizes : List ℕ} (n m : ℕ) → n ≡ g .n → m ≡ g .mu → Table similar-rows (similarIn g) → Counted similar-rows sizes
       → SetOf ws (λ u. ltb u n && leb m (getD sizes u 0)) → SetOf ws (coreIn g)
   unfolding coreIn isCore
-  cores-set {ws} {alike} {sizes} n m en em t counted c = record {
+  cores-set {ws} {similar-rows} {sizes} n m en em t counted c = record {
     size = c .size;
     bits = λ u h. c .bits u h ∙ ap₂ (λ (x y : ℕ). bit (ltb u x && leb y (getD sizes u 0))) en em ∙ ap bit (
         ⊎-elim
@@ -363,46 +363,46 @@ module _ (s : List ℕ) (h : Header) (ok : Accepted s) (e : h ≡ headerOf s) wh
   handsets-there = omega (arith, handsetPart-length s h read, read .n-is)
 
   -- the test of an edge by the parts
-  near-is-within : (k : ℕ) → isNear (handsetPart s h) (edgePart s h) (h .limit) k ≡ within s (endA (edgeRecords s) k) (endB (edgeRecords s) k)
-  near-is-within k =
-      ap₂ (λ (hs es : List ℕ). isNear hs es (h .limit) k) (handsetPart-is s h e) (edgePart-is s h e)
-      ∙ ap (λ (x : ℕ). isNear (handsetRecords s) (edgeRecords s) x k) (read .limit-is) ∙ sym (within-records s (endA (edgeRecords s) k) (endB (edgeRecords s) k))
+  short-is-within : (k : ℕ) → isShort (handsetPart s h) (edgePart s h) (h .limit) k ≡ within s (endA (edgeRecords s) k) (endB (edgeRecords s) k)
+  short-is-within k =
+      ap₂ (λ (hs es : List ℕ). isShort hs es (h .limit) k) (handsetPart-is s h e) (edgePart-is s h e)
+      ∙ ap (λ (x : ℕ). isShort (handsetRecords s) (edgeRecords s) x k) (read .limit-is) ∙ sym (within-records s (endA (edgeRecords s) k) (endB (edgeRecords s) k))
 
   passed-is : (k : ℕ) (b c : Bool) → b ≡ c → (ltb k (h .m) && b) ≡ (ltb k (edgeCount s) && c)
   passed-is k b c p = ap₂ (λ (m : ℕ) (x : Bool). ltb k m && x) (read .m-is) p
 
-  pub near-kept : {near ws after sizes : List ℕ} → Table ws (related s)
-      → EdgeSet near (λ k. ltb k (h .m) && isNear (handsetPart s h) (edgePart s h) (h .limit) k)
-      → Dropped (edgePart s h) (λ k. ltb k (h .m) && not (isNear (handsetPart s h) (edgePart s h) (h .limit) k)) ws after
-      → Counted after sizes → NearKept s near after sizes
-  near-kept {near} {ws} {after} t set d c = record {
-    near-set = record { size = set .size; bits = λ k l. set .bits k l ∙ ap bit (passed-is k _ _ (near-is-within k)) };
+  pub neighbours-kept : {short ws after sizes : List ℕ} → Table ws (related s)
+      → EdgeSet short (λ k. ltb k (h .m) && isShort (handsetPart s h) (edgePart s h) (h .limit) k)
+      → Dropped (edgePart s h) (λ k. ltb k (h .m) && not (isShort (handsetPart s h) (edgePart s h) (h .limit) k)) ws after
+      → Counted after sizes → NeighboursKept s short after sizes
+  neighbours-kept {short} {ws} {after} t set d c = record {
+    short-set = record { size = set .size; bits = λ k l. set .bits k l ∙ ap bit (passed-is k _ _ (short-is-within k)) };
     table =
-        near-table s ok t
-        (dropped-cong (λ k. ltb k (h .m) && not (isNear (handsetPart s h) (edgePart s h) (h .limit) k)) (tooLong s ok)
-        (λ k x. subst (λ (b : Bool). T b) (passed-is k _ _ (ap not (near-is-within k))) x)
-        (λ k x. subst (λ (b : Bool). T b) (sym (passed-is k _ _ (ap not (near-is-within k)))) x)
-        (subst (λ (part : List ℕ). Dropped part (λ k. ltb k (h .m) && not (isNear (handsetPart s h) (edgePart s h) (h .limit) k)) ws after) (edgePart-is s h e) d));
+        neighbour-table s ok t
+        (dropped-cong (λ k. ltb k (h .m) && not (isShort (handsetPart s h) (edgePart s h) (h .limit) k)) (tooLong s ok)
+        (λ k x. subst (λ (b : Bool). T b) (passed-is k _ _ (ap not (short-is-within k))) x)
+        (λ k x. subst (λ (b : Bool). T b) (sym (passed-is k _ _ (ap not (short-is-within k)))) x)
+        (subst (λ (part : List ℕ). Dropped part (λ k. ltb k (h .m) && not (isShort (handsetPart s h) (edgePart s h) (h .limit) k)) ws after) (edgePart-is s h e) d));
     counted = c;
   }
 
-  module _ {near ws sizes : List ℕ} (kept : NearKept s near ws sizes) where
+  module _ {short ws sizes : List ℕ} (kept : NeighboursKept s short ws sizes) where
     -- the sizes are those of the neighbourhoods
-    pub near-sizes : (u : ℕ) → u < network s .n → getD sizes u 0 ≡ neighbourhoodSize (network s) u
-    near-sizes u l = kept .counted .rows u (omega (arith, l, small)) ∙ near-size (network s) small u (kept .table) l
+    pub neighbour-sizes : (u : ℕ) → u < network s .n → getD sizes u 0 ≡ neighbourhoodSize (network s) u
+    neighbour-sizes u l = kept .counted .rows u (omega (arith, l, small)) ∙ neighbour-size (network s) small u (kept .table) l
 
     -- an edge of the set is below m, and its ends are within gamma
-    near-in : (k : ℕ) → bitAt near k ≡ 1 → (k < edgeCount s) × T (within s (endA (edgeRecords s) k) (endB (edgeRecords s) k))
-    near-in k x =
-        let y = set-passes (kept .near-set) k x .1 in
+    short-in : (k : ℕ) → bitAt short k ≡ 1 → (k < edgeCount s) × T (within s (endA (edgeRecords s) k) (endB (edgeRecords s) k))
+    short-in k x =
+        let y = set-passes (kept .short-set) k x .1 in
         (ltb→lt k (edgeCount s) (and-left (ltb k (edgeCount s)) (within s (endA (edgeRecords s) k) (endB (edgeRecords s) k)) y), and-right (ltb k (edgeCount s)) (within s (endA (edgeRecords s) k) (endB (edgeRecords s) k)) y)
 
-    pub near-ready : (k : ℕ) → bitAt near k ≡ 1 → (k < h .m) × HasEnds (edgePart s h) 512 k
-    near-ready k x =
-        let l : k < h .m = omega (arith, near-in k x .0, read .m-is) in
+    pub short-ready : (k : ℕ) → bitAt short k ≡ 1 → (k < h .m) × HasEnds (edgePart s h) 512 k
+    short-ready k x =
+        let l : k < h .m = omega (arith, short-in k x .0, read .m-is) in
         (l, edges-ready 512 k small l)
 
-    module _ {unlike : List ℕ} (made : EdgeSet unlike (λ k. eqb (bitAt near k) 1 && not (enough ws sizes (h .p) (h .q) (endA (edgePart s h) k) (endB (edgePart s h) k)))) where
+    module _ {dissimilar : List ℕ} (made : EdgeSet dissimilar (λ k. eqb (bitAt short k) 1 && not (enough ws sizes (h .p) (h .q) (endA (edgePart s h) k) (endB (edgePart s h) k)))) where
       test-is : (k : ℕ) → k < edgeCount s → enough ws sizes (h .p) (h .q) (endA (edgePart s h) k) (endB (edgePart s h) k) ≡ meets (network s) (endA (edgeRecords s) k) (endB (edgeRecords s) k)
       test-is k l =
           let b = ends-below s ok k l in
@@ -410,32 +410,32 @@ module _ (s : List ℕ) (h : Header) (ok : Accepted s) (e : h ≡ headerOf s) wh
           ∙ enough-is (network s) small (endA (edgeRecords s) k) (endB (edgeRecords s) k) (h .p) (h .q) (kept .table) (kept .counted) (b .0) (b .1) (read .p-is) (read .q-is)
 
       -- an edge of the new set is one of the old, and its ends do not have enough in common
-      unlike-in : (k : ℕ) → bitAt unlike k ≡ 1 → (bitAt near k ≡ 1) × T (not (enough ws sizes (h .p) (h .q) (endA (edgePart s h) k) (endB (edgePart s h) k)))
-      unlike-in k x =
+      dissimilar-in : (k : ℕ) → bitAt dissimilar k ≡ 1 → (bitAt short k ≡ 1) × T (not (enough ws sizes (h .p) (h .q) (endA (edgePart s h) k) (endB (edgePart s h) k)))
+      dissimilar-in k x =
           let y = set-passes made k x .1 in
           let t : Bool = not (enough ws sizes (h .p) (h .q) (endA (edgePart s h) k) (endB (edgePart s h) k)) in
-          (eqb→eq (bitAt near k) 1 (and-left (eqb (bitAt near k) 1) t y), and-right (eqb (bitAt near k) 1) t y)
+          (eqb→eq (bitAt short k) 1 (and-left (eqb (bitAt short k) 1) t y), and-right (eqb (bitAt short k) 1) t y)
 
-      pub unlike-ready : (k : ℕ) → bitAt unlike k ≡ 1 → (k < h .m) × HasEnds (edgePart s h) 512 k
-      unlike-ready k x = near-ready k (unlike-in k x .0)
+      pub dissimilar-ready : (k : ℕ) → bitAt dissimilar k ≡ 1 → (k < h .m) × HasEnds (edgePart s h) 512 k
+      dissimilar-ready k x = short-ready k (dissimilar-in k x .0)
 
-      pub surveyed : {after sizes′ cores : List ℕ} {least : ℕ} → Dropped (edgePart s h) (λ k. eqb (bitAt unlike k) 1) ws after → Counted after sizes′ → least ≡ coreSize (h .mu)
+      pub surveyed : {after sizes′ cores : List ℕ} {least : ℕ} → Dropped (edgePart s h) (λ k. eqb (bitAt dissimilar k) 1) ws after → Counted after sizes′ → least ≡ coreSize (h .mu)
           → SetOf cores (λ u. ltb u (h .n) && leb least (getD sizes′ u 0)) → Surveyed (network s) after cores
       surveyed {after} {sizes′} {cores} {least} d counted mu-read set =
           let t : Table after (similarIn (network s)) =
-          similar-table s ok (λ k. eqb (bitAt unlike k) 1)
+          similar-table s ok (λ k. eqb (bitAt dissimilar k) 1)
           (λ k x.
-          let y = unlike-in k (eqb→eq (bitAt unlike k) 1 x) in
-          let l = near-in k (y .0) .0 in
+          let y = dissimilar-in k (eqb→eq (bitAt dissimilar k) 1 x) in
+          let l = short-in k (y .0) .0 in
           (l, subst (λ (b : Bool). T (not b)) (test-is k l) (y .1)))
           (λ k l w n.
           let small-edge : k < 4096 = omega (arith, l, read .m-is, read .fits .m-limit) in
           passes-set made k small-edge
-          (and-make (eqb (bitAt near k) 1) (not (enough ws sizes (h .p) (h .q) (endA (edgePart s h) k) (endB (edgePart s h) k)))
-          (passes-set (kept .near-set) k small-edge (and-make (ltb k (edgeCount s)) (within s (endA (edgeRecords s) k) (endB (edgeRecords s) k)) (lt→ltb k (edgeCount s) l) w))
+          (and-make (eqb (bitAt short k) 1) (not (enough ws sizes (h .p) (h .q) (endA (edgePart s h) k) (endB (edgePart s h) k)))
+          (passes-set (kept .short-set) k small-edge (and-make (ltb k (edgeCount s)) (within s (endA (edgeRecords s) k) (endB (edgeRecords s) k)) (lt→ltb k (edgeCount s) l) w))
           (subst (λ (b : Bool). T (not b)) (sym (test-is k l)) n)))
           (kept .table)
-          (subst (λ (part : List ℕ). Dropped part (λ k. eqb (bitAt unlike k) 1) ws after) (edgePart-is s h e) d) in
+          (subst (λ (part : List ℕ). Dropped part (λ k. eqb (bitAt dissimilar k) 1) ws after) (edgePart-is s h e) d) in
           record {
             sound = accepted-sound s ok;
             most = small;

@@ -3,11 +3,11 @@
 --     HasEnds edges n k        edge k stands in the part, and its ends are below n
 --     inWord word base k       edge k is in a word that holds edges from base on, one bit an edge
 --     EdgeSet ws f             64 words hold the edges that pass f
---     isNear ..                the ends of edge k are no farther apart than the root of the limit
+--     isShort ..                the ends of edge k are no farther apart than the root of the limit
 --     Dropped edges f a b      the table b is the table a without the edges that pass f
 --     enough ..                the test for similarity by a table and its sizes
---     nearIn                   the neighbour relation among the handsets of a network
---     NearKept s ..            what dropping the edges that are too long leaves of an image's tables
+--     neighbourIn                   the neighbour relation among the handsets of a network
+--     NeighboursKept s ..            what dropping the edges that are too long leaves of an image's tables
 use Prim.Native.Nat.{ℕ, _+_, _*_, _-_, _≤_, _<_, min}
 use mathlib.Core.Path.{_≡_}
 use mathlib.Core.Bool.{Bool, _&&_}
@@ -34,8 +34,8 @@ pub record EdgeSet (ws : List ℕ) (f : ℕ → Bool) : Type 0 where
   pub size : length ws ≡ 64
   pub bits : (k : ℕ) → k < 4096 → bitAt ws k ≡ bit (f k)
 
-abbrev pub isNear : List ℕ → List ℕ → ℕ → ℕ → Bool
-isNear handsets edges limit k = leb (distanceBetween (handsetRecord handsets (endA edges k)) (handsetRecord handsets (endB edges k))) limit
+abbrev pub isShort : List ℕ → List ℕ → ℕ → ℕ → Bool
+isShort handsets edges limit k = leb (distanceBetween (handsetRecord handsets (endA edges k)) (handsetRecord handsets (endB edges k))) limit
 
 -- no cell is set anew, those of an edge that passes f are cleared, and those of no such edge are as before
 pub record Dropped (edges : List ℕ) (f : ℕ → Bool) (before after : List ℕ) : Type 0 where
@@ -50,11 +50,11 @@ enough ws sizes p q u v =
     leb (p * p * (getD sizes u 0 * getD sizes v 0))
     (sum 512 (λ w. min (cell ws u w) (cell ws v w)) * sum 512 (λ w. min (cell ws u w) (cell ws v w)) * (q * q))
 
-unfoldable pub nearIn : Network → ℕ → ℕ → Bool
-nearIn g u v = both g u v && g .neighbour u v
+unfoldable pub neighbourIn : Network → ℕ → ℕ → Bool
+neighbourIn g u v = both g u v && g .neighbour u v
 
 -- the neighbour table of an accepted image with its sizes, and the set of the edges that are not too long
-pub record NearKept (s near ws sizes : List ℕ) : Type 0 where
-  pub near-set : EdgeSet near (λ k. ltb k (edgeCount s) && within s (endA (edgeRecords s) k) (endB (edgeRecords s) k))
-  pub table : Table ws (nearIn (network s))
+pub record NeighboursKept (s short ws sizes : List ℕ) : Type 0 where
+  pub short-set : EdgeSet short (λ k. ltb k (edgeCount s) && within s (endA (edgeRecords s) k) (endB (edgeRecords s) k))
+  pub table : Table ws (neighbourIn (network s))
   pub counted : Counted ws sizes

@@ -17,7 +17,7 @@ ghost use Rattle.image.specs.Questions.{Accepted, headerOf};
 ghost use Rattle.image.specs.Rows.{Room, related};
 ghost use Rattle.community.specs.Site.{network};
 ghost use Rattle.search.specs.Communities.{Surveyed};
-ghost use Rattle.planner.specs.Held.{HasEnds, inWord, EdgeSet, isNear, Dropped, enough, NearKept};
+ghost use Rattle.planner.specs.Held.{HasEnds, inWord, EdgeSet, isShort, Dropped, enough, NeighboursKept};
 use fields::Ends;
 use image::Header;
 
@@ -45,7 +45,7 @@ fn ends_at(edges: &[u8], k: usize) -> Ends
 }
 
 // Whether the ends of an edge are no farther apart than the root of the limit.
-fn near(handsets: &[u8], e: Ends, limit: u64) -> bool
+fn is_short(handsets: &[u8], e: Ends, limit: u64) -> bool
     requires { ⌜ (e .a < 512) × (e .b < 512) × (handsetBytes * e .a + handsetBytes ≤ length (now handsets)) × (handsetBytes * e .b + handsetBytes ≤ length (now handsets)) ⌝ }
     ensures { λ r. ⌜ r ≡ leb (distanceBetween (handsetRecord (now (handsets .entry)) (e .a)) (handsetRecord (now (handsets .entry)) (e .b))) limit ⌝ }
 {
@@ -57,15 +57,19 @@ fn near(handsets: &[u8], e: Ends, limit: u64) -> bool
 }
 
 // The edges from `base` on that are near, as a word: of `count` edges, at most 64. It is made without a branch.
-fn near_word<'a>(handsets: &'a [u8], edges: &'a [u8], base: usize, count: usize, limit: u64) -> u64
+fn short_word<'a>(handsets: &'a [u8], edges: &'a [u8], base: usize, count: usize, limit: u64) -> u64
     requires { ⌜ (count ≤ 64) × (base ≤ 4096) × (length (now handsets) ≤ 4096) × ((k : ℕ) → k < count → HasEnds (now edges) (length (now handsets) / handsetBytes) (base + k)) ⌝ }
-    ensures { λ r. ⌜ WordOf r (λ k. ltb k count && isNear (now (handsets .entry)) (now (edges .entry)) limit (base + k)) ⌝ }
+    ensures { λ r. ⌜ WordOf r (λ k. ltb k count && isShort (now (handsets .entry)) (now (edges .entry)) limit (base + k)) ⌝ }
 {
     let mut word: u64 = 0;
     let mut k: usize = 0;
     while k < count {
         let e = ends_at(edges, base + k);
-        let one = if near(handsets, e, limit) { 1u64 } else { 0u64 };
+        let one = if is_short(handsets, e, limit) {
+            1u64
+        } else {
+            0u64
+        };
         word = word | (one << k);
         k += 1;
     }
@@ -89,27 +93,27 @@ fn drop_edges(edges: &[u8], word: u64, base: usize, table: &mut [u64], sizes: &m
 }
 
 // Drops those of the first m edges that are too long. The empty set `near` gets the others.
-fn drop_far<'a>(
+fn drop_long<'a>(
     handsets: &'a [u8],
     edges: &'a [u8],
     m: usize,
     limit: u64,
-    near: &mut [u64],
+    short: &mut [u64],
     table: &mut [u64],
     sizes: &mut [u32],
 )
-    requires { ⌜ (m ≤ 4096) × (length (now handsets) ≤ 4096) × (now near ≡ replicate 64 0) × (Room (now table) (now sizes)) × (Counted (now table) (now sizes)) × ((k : ℕ) → k < m → HasEnds (now edges) (length (now handsets) / handsetBytes) k) ⌝ }
-    ensures kept { λ _. ⌜ EdgeSet (now (near .exit)) (λ k. ltb k m && isNear (now (handsets .entry)) (now (edges .entry)) limit k) ⌝ }
-    ensures dropped { λ _. ⌜ Dropped (now (edges .entry)) (λ k. ltb k m && not (isNear (now (handsets .entry)) (now (edges .entry)) limit k)) (now (table .entry)) (now (table .exit)) ⌝ }
+    requires { ⌜ (m ≤ 4096) × (length (now handsets) ≤ 4096) × (now short ≡ replicate 64 0) × (Room (now table) (now sizes)) × (Counted (now table) (now sizes)) × ((k : ℕ) → k < m → HasEnds (now edges) (length (now handsets) / handsetBytes) k) ⌝ }
+    ensures kept { λ _. ⌜ EdgeSet (now (short .exit)) (λ k. ltb k m && isShort (now (handsets .entry)) (now (edges .entry)) limit k) ⌝ }
+    ensures dropped { λ _. ⌜ Dropped (now (edges .entry)) (λ k. ltb k m && not (isShort (now (handsets .entry)) (now (edges .entry)) limit k)) (now (table .entry)) (now (table .exit)) ⌝ }
     ensures counted { λ _. ⌜ Counted (now (table .exit)) (now (sizes .exit)) ⌝ }
 {
     let mut j: usize = 0;
     while 64 * j < m {
         let count = if m - 64 * j < 64 { m - 64 * j } else { 64 };
-        let word = near_word(handsets, edges, 64 * j, count, limit);
+        let word = short_word(handsets, edges, 64 * j, count, limit);
         let all = 18446744073709551615u64 >> (64 - count);
         drop_edges(edges, word ^ all, 64 * j, table, sizes);
-        near[j] = word;
+        short[j] = word;
         j += 1;
     }
 }
@@ -146,7 +150,7 @@ fn have_enough<'a>(table: &'a [u64], sizes: &'a [u32], u: usize, v: usize, p: u1
 }
 
 // Of the edges base + k, for each set bit k of the word, those whose ends do not have enough in common, as a word.
-fn unlike_word<'a>(
+fn dissimilar_word<'a>(
     edges: &'a [u8],
     word: u64,
     base: usize,
@@ -159,7 +163,7 @@ fn unlike_word<'a>(
     ensures { λ r. ⌜ WordOf r (λ k. eqb (bitOf word k) 1 && not (enough (now (table .entry)) (now (sizes .entry)) p q (endA (now (edges .entry)) (base + k)) (endB (now (edges .entry)) (base + k)))) ⌝ }
 {
     let mut w = word;
-    let mut unlike: u64 = 0;
+    let mut dissimilar: u64 = 0;
     while w != 0 {
         let k = u64::trailing_zeros(w);
         let e = ends_at(edges, base + k as usize);
@@ -168,14 +172,14 @@ fn unlike_word<'a>(
         } else {
             1u64
         };
-        unlike = unlike | (one << k);
+        dissimilar = dissimilar | (one << k);
         w = w ^ (w & (1u64 << k));
     }
-    unlike
+    dissimilar
 }
 
 // Of the edges of a set, all below m, keeps those whose ends do not have enough in common.
-fn keep_unlike<'a>(
+fn keep_dissimilar<'a>(
     edges: &'a [u8],
     table: &'a [u64],
     sizes: &'a [u32],
@@ -189,7 +193,7 @@ fn keep_unlike<'a>(
 {
     let mut j: usize = 0;
     while 64 * j < m {
-        set[j] = unlike_word(edges, set[j], 64 * j, table, sizes, p, q);
+        set[j] = dissimilar_word(edges, set[j], 64 * j, table, sizes, p, q);
         j += 1;
     }
 }
@@ -222,27 +226,27 @@ fn mark_cores(sizes: &[u32], n: usize, mu: u32, cores: &mut [u64])
 
 // Drops the edges that are too long from the table of all edges of an accepted site, which leaves its neighbour relation. The empty set `near` gets the
 // other edges.
-pub(crate) fn keep_near(
+pub(crate) fn keep_neighbours(
     image: &[u8],
     h: Header,
-    near: &mut [u64],
+    short: &mut [u64],
     table: &mut [u64],
     sizes: &mut [u32],
 )
-    requires { ⌜ (Accepted (now image)) × (h ≡ headerOf (now image)) × (now near ≡ replicate 64 0) × (Room (now table) (now sizes)) × (Table (now table) (related (now image))) × (Counted (now table) (now sizes)) ⌝ }
-    ensures { λ _. ⌜ NearKept (now (image .entry)) (now (near .exit)) (now (table .exit)) (now (sizes .exit)) ⌝ }
+    requires { ⌜ (Accepted (now image)) × (h ≡ headerOf (now image)) × (now short ≡ replicate 64 0) × (Room (now table) (now sizes)) × (Table (now table) (related (now image))) × (Counted (now table) (now sizes)) ⌝ }
+    ensures { λ _. ⌜ NeighboursKept (now (image .entry)) (now (short .exit)) (now (table .exit)) (now (sizes .exit)) ⌝ }
 {
     let m = h.m as usize;
     let a = h.edges as usize;
     let b = a + fields::EDGE_BYTES * m;
     let from = h.handsets as usize;
     let to = from + fields::HANDSET_BYTES * (h.n as usize);
-    drop_far(
+    drop_long(
         &image[from..to],
         &image[a..b],
         m,
         h.limit,
-        near,
+        short,
         table,
         sizes,
     );
@@ -253,19 +257,19 @@ pub(crate) fn keep_near(
 pub(crate) fn keep_similar(
     image: &[u8],
     h: Header,
-    near: &mut [u64],
+    short: &mut [u64],
     table: &mut [u64],
     sizes: &mut [u32],
     cores: &mut [u64],
 )
-    requires { ⌜ (Accepted (now image)) × (h ≡ headerOf (now image)) × (Room (now table) (now sizes)) × (NearKept (now image) (now near) (now table) (now sizes)) × (now cores ≡ replicate 8 0) ⌝ }
+    requires { ⌜ (Accepted (now image)) × (h ≡ headerOf (now image)) × (Room (now table) (now sizes)) × (NeighboursKept (now image) (now short) (now table) (now sizes)) × (now cores ≡ replicate 8 0) ⌝ }
     ensures { λ _. ⌜ Surveyed (network (now (image .entry))) (now (table .exit)) (now (cores .exit)) ⌝ }
 {
     let m = h.m as usize;
     let a = h.edges as usize;
     let b = a + fields::EDGE_BYTES * m;
     let edges = &image[a..b];
-    keep_unlike(edges, table, sizes, m, h.p, h.q, near);
-    drop_set(edges, near, m, table, sizes);
+    keep_dissimilar(edges, table, sizes, m, h.p, h.q, short);
+    drop_set(edges, short, m, table, sizes);
     mark_cores(sizes, h.n as usize, fields::core_size(h.mu) as u32, cores);
 }

@@ -12,7 +12,7 @@ ghost use Rattle.image.specs.Questions.{Accepted, headerOf};
 ghost use Rattle.image.specs.Rows.{Room};
 ghost use Rattle.community.specs.Site.{network};
 ghost use Rattle.search.specs.Communities.{coreIn, Grouped};
-ghost use Rattle.planner.specs.Held.{NearKept};
+ghost use Rattle.planner.specs.Held.{NeighboursKept};
 ghost use Rattle.planner.specs.Plan.{PlanCall, CoreWords, knownAnswer, knownOf};
 use community::Standing;
 use image::Header;
@@ -36,15 +36,15 @@ pub enum Known {
 fn find_groups(
     image: &[u8],
     h: Header,
-    near: &mut [u64],
+    short: &mut [u64],
     table: &mut [u64],
     sizes: &mut [u32],
     cores: &mut [u64],
 ) -> usize
-    requires { ⌜ (Accepted (now image)) × (h ≡ headerOf (now image)) × (Room (now table) (now sizes)) × (NearKept (now image) (now near) (now table) (now sizes)) × (now cores ≡ replicate 8 0) ⌝ }
+    requires { ⌜ (Accepted (now image)) × (h ≡ headerOf (now image)) × (Room (now table) (now sizes)) × (NeighboursKept (now image) (now short) (now table) (now sizes)) × (now cores ≡ replicate 8 0) ⌝ }
     ensures { λ r. ⌜ (SetOf (now (cores .exit)) (coreIn (network (now (image .entry))))) × (Grouped (network (now (image .entry))) (now (table .exit)) r) ⌝ }
 {
-    graph::keep_similar(image, h, near, table, sizes, cores);
+    graph::keep_similar(image, h, short, table, sizes, cores);
     search::find_communities(table, cores)
 }
 
@@ -62,9 +62,9 @@ pub fn plan_and_cores(image: &[u8], starts: &mut [u32], members: &mut [u16]) -> 
             cores,
         };
     };
-    let mut near = [0u64; 64];
-    graph::keep_near(image, h, &mut near, &mut table, &mut sizes);
-    let count = find_groups(image, h, &mut near, &mut table, &mut sizes, &mut cores);
+    let mut short = [0u64; 64];
+    graph::keep_neighbours(image, h, &mut short, &mut table, &mut sizes);
+    let count = find_groups(image, h, &mut short, &mut table, &mut sizes, &mut cores);
     let answer = tables::write_plan(&table, count, starts, members);
     Outcome { answer, cores }
 }
@@ -94,10 +94,10 @@ pub fn role(image: &[u8], v: usize) -> Known
             place: 0,
         });
     }
-    let mut near = [0u64; 64];
-    graph::keep_near(image, h, &mut near, &mut table, &mut sizes);
+    let mut short = [0u64; 64];
+    graph::keep_neighbours(image, h, &mut short, &mut table, &mut sizes);
     let neighbours = sizes[v];
-    let count = find_groups(image, h, &mut near, &mut table, &mut sizes, &mut cores);
+    let count = find_groups(image, h, &mut short, &mut table, &mut sizes, &mut cores);
     let role = tables::role_in(&cores, &table, count, v);
     Known::Handset(Standing { neighbours, role })
 }

@@ -9,11 +9,11 @@ use Rattle.text.specs.Text.{decimal}
 use Rattle.text.specs.Text as X
 use Rattle.image.specs.declared.Refusal.{Refusal}
 use Rattle.reporting.specs.Report.{headLine, groupLine, listLine, refusedText, newline, handsetsWord, tiesWord, groupsWord, membershipsWord, coresWord, outliersWord, refusedWord}
-use Rattle.reporting.specs.Held.{tallyAt, tableLines, tableText}
+use Rattle.reporting.specs.Held.{groupTally, tableLines, tableText}
 use Rattle.reporting.specs.declared.Head.{Head}
 
 pub lines-more : (starts members ts : List ℕ) (k : ℕ)
-    → tableLines starts members ts (k + 1) ≡ tableLines starts members ts k ++ groupLine k (scoresFor (tallyAt ts k (membersOf starts members k))) (membersOf starts members k)
+    → tableLines starts members ts (k + 1) ≡ tableLines starts members ts k ++ groupLine k (scoresFor (groupTally ts k (membersOf starts members k))) (membersOf starts members k)
 unfolding tableLines
 lines-more starts members ts k = ap (tableLines starts members ts) (add-one k)
 
@@ -33,10 +33,10 @@ head-parts h =
 
 -- the text as its four writes leave it
 pub text-parts : (h : Head) (starts members ts cores outliers : List ℕ) → tableText h starts members ts cores outliers
-    ≡ ((headLine h ++ tableLines starts members ts (h .groups)) ++ listLine coresWord (X.membersOf cores)) ++ listLine outliersWord (X.membersOf outliers)
+    ≡ ((headLine h ++ tableLines starts members ts (h .groups)) ++ listLine coresWord (X.elementsOf cores)) ++ listLine outliersWord (X.elementsOf outliers)
 unfolding tableText
 text-parts h starts members ts cores outliers =
-    sym (four (headLine h) (tableLines starts members ts (h .groups)) (listLine coresWord (X.membersOf cores)) (listLine outliersWord (X.membersOf outliers)))
+    sym (four (headLine h) (tableLines starts members ts (h .groups)) (listLine coresWord (X.elementsOf cores)) (listLine outliersWord (X.elementsOf outliers)))
   where
     four : (a b c d : List ℕ) → ((a ++ b) ++ c) ++ d ≡ a ++ (b ++ (c ++ d))
     four a b c d = simp append-assoc

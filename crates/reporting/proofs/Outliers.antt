@@ -23,7 +23,7 @@ use Rattle.community.specs.Tables.{memberTable}
 use Rattle.community.proofs.Reachability.{from-below}
 use Rattle.community.proofs.Communities.{leader-of, leader-place, reachable-member}
 use Rattle.community.proofs.Roles.{mem-contains}
-use Rattle.text.specs.Text.{membersOf}
+use Rattle.text.specs.Text.{elementsOf}
 use Rattle.reporting.specs.Report.{isOutlier}
 
 or-assoc : (a b c : Bool) → ((a || b) || c) ≡ (a || (b || c))
@@ -88,8 +88,8 @@ select-more n (suc d) f h =
 
 -- a set of bits that holds the handsets below n that pass f
 pub held-members : (ws : List ℕ) (n : ℕ) (f : ℕ → Bool) → n ≤ 512
-    → ((v : ℕ) → v < 512 → bitAt ws v ≡ bit (ltb v n && f v)) → membersOf ws ≡ select n f
-unfolding membersOf
+    → ((v : ℕ) → v < 512 → bitAt ws v ≡ bit (ltb v n && f v)) → elementsOf ws ≡ select n f
+unfolding elementsOf
 held-members ws n f h e =
     let m : ℕ → Bool = λ v. ltb v n && f v in
     let d : (512 - n) + n ≡ 512 = omega arith in

@@ -36,12 +36,12 @@ use Rattle.community.specs.Network.{contains}
 use Rattle.community.specs.Scores.{justOne}
 use Rattle.lookup.specs.Lookup.{membersOf}
 use Rattle.scores.proofs.Entries.{bit-le}
-use Rattle.reporting.specs.Held.{inGroup, bitFor, tiedIn, leavesIn, Joined, Raised, Room, Edges, EdgeCounted, EdgesCounted, GroupsCounted}
+use Rattle.reporting.specs.Held.{inGroup, bitFor, joinedIn, leavesIn, GroupAdded, Raised, CountsFit, Edges, EdgeCounted, EdgesCounted, GroupsCounted}
 use Rattle.reporting.proofs.Marking.{bit-test, test-bit, and-false, or-false, contains-more}
 
 -- ---- the rows
 
-pub joined-none : (rows : List ℕ) (k : ℕ) → Joined rows [] k rows
+pub joined-none : (rows : List ℕ) (k : ℕ) → GroupAdded rows [] k rows
 unfolding contains
 joined-none rows k = record {
   size = refl;
@@ -73,7 +73,7 @@ marked rows x k v j size h p q = pick (ℕ-discrete v x) (ℕ-discrete j k)
     pick (no d) e = other (λ i. d (omega arith)) (ap (λ (b : Bool). eqb j k && b) (ne-eqb v x d) ∙ and-false (eqb j k))
 
 pub joined-more : (rows₀ rows l : List ℕ) (k i : ℕ) → length rows₀ ≡ 4096 → k < 512 → i < length l
-    → Joined rows₀ (take i l) k rows → Joined rows₀ (take (i + 1) l) k (withBit rows (getD l i 0 * 512 + k))
+    → GroupAdded rows₀ (take i l) k rows → GroupAdded rows₀ (take (i + 1) l) k (withBit rows (getD l i 0 * 512 + k))
 joined-more rows₀ rows l k i size h q held = record {
   size = length-withBit rows (getD l i 0 * 512 + k) ∙ held .size;
   bits = λ v j p r.
@@ -95,7 +95,7 @@ rows-none f = record {
 }
 
 pub rows-more : (f : ℕ → ℕ → Bool) (rows rows′ l : List ℕ) (k : ℕ) → ((v : ℕ) → contains v l ≡ f v k)
-    → Table rows (λ v j. ltb j k && f v j) → Joined rows l k rows′ → Table rows′ (λ v j. ltb j (k + 1) && f v j)
+    → Table rows (λ v j. ltb j k && f v j) → GroupAdded rows l k rows′ → Table rows′ (λ v j. ltb j (k + 1) && f v j)
 rows-more f rows rows′ l k same t g = record {
   bits = λ v j h q.
       g .bits v j h q
@@ -238,10 +238,10 @@ one-bit (suc zero) (suc (suc y)) h l = absurd (omega arith)
 one-bit (suc (suc x)) y h l = absurd (omega arith)
 
 pub edge-none : (rows : List ℕ) (u v : ℕ) (ts : List ℕ) → length ts ≡ 1024 → EdgeCounted rows u v 0 ts ts
-unfolding tiedIn leavesIn
+unfolding joinedIn leavesIn
 edge-none rows u v ts size = record {
   size = size;
-  tied = λ k h. omega (arith, ap (λ (b : Bool). bit (b && (inGroup rows u k && inGroup rows v k))) (le-ltb k (64 * 0) (omega arith)));
+  joined = λ k h. omega (arith, ap (λ (b : Bool). bit (b && (inGroup rows u k && inGroup rows v k))) (le-ltb k (64 * 0) (omega arith)));
   leaving = λ k h. omega (arith, ap (λ (b : Bool). bit (b && justOne (inGroup rows u k) (inGroup rows v k))) (le-ltb k (64 * 0) (omega arith)));
 }
 
@@ -256,8 +256,8 @@ module _ (rows : List ℕ) (u v j : ℕ) where
   in-word : (x r : ℕ) → r < 64 → bitOf (getD rows (x * 8 + j) 0) r ≡ cell rows x (64 * j + r)
   in-word x r h = sym (ap (cell rows x) (let e : 64 * j + r ≡ j * 64 + r = omega arith in e) ∙ cell-word rows x j r h)
 
-  tied-bit : (r : ℕ) → r < 64 → bitOf (bitAnd here there) r ≡ bit (inGroup rows u (64 * j + r) && inGroup rows v (64 * j + r))
-  tied-bit r h =
+  joined-bit : (r : ℕ) → r < 64 → bitOf (bitAnd here there) r ≡ bit (inGroup rows u (64 * j + r) && inGroup rows v (64 * j + r))
+  joined-bit r h =
       bitOf-and here there r ∙ ap₂ min (in-word u r h) (in-word v r h)
       ∙ both-bits (cell rows u (64 * j + r)) (cell rows v (64 * j + r)) (bitAt-lt rows (u * 512 + (64 * j + r))) (bitAt-lt rows (v * 512 + (64 * j + r)))
 
@@ -268,16 +268,16 @@ module _ (rows : List ℕ) (u v j : ℕ) where
 
   pub edge-more : (ts₀ ts ts₁ ts₂ : List ℕ) → j < 8 → EdgeCounted rows u v j ts₀ ts
       → Raised ts (64 * j) (bitAnd here there) ts₁ → Raised ts₁ (512 + 64 * j) (bitXor here there) ts₂ → EdgeCounted rows u v (j + 1) ts₀ ts₂
-  unfolding tiedIn leavesIn
+  unfolding joinedIn leavesIn
   edge-more ts₀ ts ts₁ ts₂ h c p q = record {
     size = q .size ∙ p .size ∙ c .size;
-    tied = λ k l. omega (
+    joined = λ k l. omega (
       arith,
       q .counts k,
       p .counts k,
-      c .tied k l,
+      c .joined k l,
       bitFor-before (512 + 64 * j) (bitXor here there) k (omega arith),
-      word-more (λ x. inGroup rows u x && inGroup rows v x) j (bitAnd here there) k tied-bit,
+      word-more (λ x. inGroup rows u x && inGroup rows v x) j (bitAnd here there) k joined-bit,
     );
     leaving = λ k l. omega (
       arith,
@@ -291,11 +291,11 @@ module _ (rows : List ℕ) (u v j : ℕ) where
   }
 
 -- what one edge leaves still has room
-pub edge-room : (rows : List ℕ) (u v words : ℕ) (ts₀ ts : List ℕ) → Room ts₀ → EdgeCounted rows u v words ts₀ ts → (i : ℕ) → i < 1024 → getD ts i 0 ≤ 4097
+pub edge-room : (rows : List ℕ) (u v words : ℕ) (ts₀ ts : List ℕ) → CountsFit ts₀ → EdgeCounted rows u v words ts₀ ts → (i : ℕ) → i < 1024 → getD ts i 0 ≤ 4097
 edge-room rows u v words ts₀ ts room c i h = pick (decLt i 512)
   where
     pick : Dec (i < 512) → getD ts i 0 ≤ 4097
-    pick (yes l) = omega (arith, c .tied i l, room .tied i l, bit-le (tiedIn rows words u v i))
+    pick (yes l) = omega (arith, c .joined i l, room .joined i l, bit-le (joinedIn rows words u v i))
     pick (no l) =
         let k : ℕ = i - 512 in
         let e : i ≡ 512 + k = omega arith in
@@ -315,7 +315,7 @@ ends-at part k h =
 pub edges-none : (rows part : List ℕ) (words : ℕ) → EdgesCounted rows part 0 words (replicate 1024 0)
 edges-none rows part words = record {
   size = length-replicate {A = ℕ} 1024 0;
-  tied = λ k h. getD-replicate 1024 k 0 0 (omega arith) ∙ sym (count-none (λ e. tiedIn rows words (endA part e) (endB part e) k));
+  joined = λ k h. getD-replicate 1024 k 0 0 (omega arith) ∙ sym (count-none (λ e. joinedIn rows words (endA part e) (endB part e) k));
   leaving = λ k h. getD-replicate 1024 (512 + k) 0 0 (omega arith) ∙ sym (count-none (λ e. leavesIn rows words (endA part e) (endB part e) k));
 }
 
@@ -329,14 +329,14 @@ edges-more rows part e words ts ts′ c p q held =
     let d : EdgeCounted rows (endA part e) (endB part e) words ts ts′ = subst₂ (λ (u v : ℕ). EdgeCounted rows u v words ts ts′) p q held in
     record {
       size = d .size;
-      tied = λ k h. omega (arith, d .tied k h, c .tied k h, count-next e (λ i. tiedIn rows words (endA part i) (endB part i) k));
+      joined = λ k h. omega (arith, d .joined k h, c .joined k h, count-next e (λ i. joinedIn rows words (endA part i) (endB part i) k));
       leaving = λ k h. omega (arith, d .leaving k h, c .leaving k h, count-next e (λ i. leavesIn rows words (endA part i) (endB part i) k));
     }
 
-pub edges-room : (rows part : List ℕ) (e words : ℕ) (ts : List ℕ) → e ≤ 4096 → EdgesCounted rows part e words ts → Room ts
+pub edges-room : (rows part : List ℕ) (e words : ℕ) (ts : List ℕ) → e ≤ 4096 → EdgesCounted rows part e words ts → CountsFit ts
 edges-room rows part e words ts h c = record {
   size = c .size;
-  tied = λ k l. omega (arith, c .tied k l, count-le e (λ i. tiedIn rows words (endA part i) (endB part i) k));
+  joined = λ k l. omega (arith, c .joined k l, count-le e (λ i. joinedIn rows words (endA part i) (endB part i) k));
   leaving = λ k l. omega (arith, c .leaving k l, count-le e (λ i. leavesIn rows words (endA part i) (endB part i) k));
 }
 
@@ -349,12 +349,12 @@ module _ (rows part starts members : List ℕ) (m words groups : ℕ) (few : gro
       ∙ ap (λ (b : Bool). b && contains v (membersOf starts members k)) (lt-ltb k groups l)
 
   pub groups-counted : (ts : List ℕ) → EdgesCounted rows part m words ts → GroupsCounted part m starts members groups ts
-  unfolding tiedIn leavesIn
+  unfolding joinedIn leavesIn
   groups-counted ts c = record {
     size = c .size;
-    tied = λ k h.
-        c .tied k (omega arith)
-        ∙ count-cong m (λ e. tiedIn rows words (endA part e) (endB part e) k) _
+    joined = λ k h.
+        c .joined k (omega arith)
+        ∙ count-cong m (λ e. joinedIn rows words (endA part e) (endB part e) k) _
         (λ e l. ap₂ _&&_ (lt-ltb k (64 * words) (omega arith)) (ap₂ _&&_ (in-group (endA part e) k (ends .low e l .0) h) (in-group (endB part e) k (ends .low e l .1) h)));
     leaving = λ k h.
         c .leaving k (omega arith)

@@ -24,7 +24,7 @@ use Rattle.image.specs.Questions.{headerOf}
 use Rattle.image.specs.declared.Header.{Header}
 use Rattle.image.proofs.Acceptance.{accepted-fits, length-is, ends-below}
 use Rattle.community.specs.Network.{Network, isCore, isLeader, leaders, members, reachable, communities, cores, contains, role}
-use Rattle.community.specs.Scores.{pairs, everyEdge, tiedPairs, leaving}
+use Rattle.community.specs.Scores.{pairs, everyEdge, joinedPairs, leaving}
 use Rattle.community.specs.Site.{network}
 use Rattle.community.specs.Tables.{startTable, memberTable}
 use Rattle.community.proofs.Communities.{leader, length-communities, community-at}
@@ -33,10 +33,10 @@ use Rattle.community.proofs.Tables.{length-startTable, table-community, starts-
 use Rattle.lookup.specs.Lookup.{membersOf}
 use Rattle.lookup.proofs.Agreement.{members-slice}
 use Rattle.scores.specs.Scored.{tallyOf}
-use Rattle.scores.proofs.Tallying.{tied-once}
+use Rattle.scores.proofs.Tallying.{joined-once}
 use Rattle.text.specs.Text as X
 use Rattle.reporting.specs.Report.{headLine, groupLines, listLine, isOutlier, outliers, reportWith, reportText, coresWord, outliersWord}
-use Rattle.reporting.specs.Held.{tallyAt, Edges, GroupsCounted, tableLines, tableText, Without, PlanHeld}
+use Rattle.reporting.specs.Held.{groupTally, Edges, GroupsCounted, tableLines, tableText, Without, PlanHeld}
 use Rattle.reporting.specs.declared.Head.{Head}
 use Rattle.reporting.proofs.Outliers.{outlier-test, held-members}
 use Rattle.reporting.proofs.Marking.{outside}
@@ -70,7 +70,7 @@ part-is gs x y k h =
 
 -- the lines from tables whose parts and tallies are those of the communities
 lines-are : (s : List ℕ) (gs : List (List ℕ)) (starts table ts : List ℕ) (k : ℕ)
-    → ((j : ℕ) → j < k → membersOf starts table j ≡ getD gs j []) → ((j : ℕ) → j < k → tallyAt ts j (getD gs j []) ≡ tallyOf s (getD gs j []))
+    → ((j : ℕ) → j < k → membersOf starts table j ≡ getD gs j []) → ((j : ℕ) → j < k → groupTally ts j (getD gs j []) ≡ tallyOf s (getD gs j []))
     → tableLines starts table ts k ≡ groupLines s gs k
 unfolding tableLines groupLines
 lines-are s gs starts table ts zero p q = refl
@@ -98,16 +98,16 @@ module _ {s : List ℕ} {h : Header} {head : Head} {starts table cores-set : Lis
 
   -- the counts of a group are its community's tally
   tally-held : (ts : List ℕ) → GroupsCounted (edgeRecords s) (edgeCount s) starts table (head .groups) ts
-      → (k : ℕ) → k < head .groups → tallyAt ts k (getD (communities (network s)) k []) ≡ tallyOf s (getD (communities (network s)) k [])
-  unfolding tallyAt tallyOf leaving headerOf
+      → (k : ℕ) → k < head .groups → groupTally ts k (getD (communities (network s)) k []) ≡ tallyOf s (getD (communities (network s)) k [])
+  unfolding groupTally tallyOf leaving headerOf
   tally-held ts c k l =
       let inside : k < length (communities (network s)) = omega (arith, groups-are) in
       let list : List ℕ = getD (communities (network s)) k [] in
       let p : pairs (take 512 list) ≡ pairs list = ap pairs (take-all 512 list (omega (arith, community-few (network s) k inside, accepted-fits s (held .accepted) .n-limit))) in
-      let t : getD ts k 0 ≡ tiedPairs s everyEdge list =
-      rw (part-at k l) at (c .tied k l) ∙ sym (tied-once s (held .accepted) everyEdge list (community-apart (network s) k inside)) in
+      let t : getD ts k 0 ≡ joinedPairs s everyEdge list =
+      rw (part-at k l) at (c .joined k l) ∙ sym (joined-once s (held .accepted) everyEdge list (community-apart (network s) k inside)) in
       let o : getD ts (512 + k) 0 ≡ leaving s everyEdge list = rw (part-at k l) at (c .leaving k l) in
-      λ i. record { pairs = p i; tied = t i; leaving = o i }
+      λ i. record { pairs = p i; joined = t i; leaving = o i }
 
   pub text-is : (ts outlier-set : List ℕ) → GroupsCounted (edgeRecords s) (edgeCount s) starts table (head .groups) ts
       → ((v : ℕ) → v < 512 → bitAt outlier-set v ≡ bit (ltb v (handsetCount s) && not (contains v (memberTable (communities (network s))))))
@@ -117,8 +117,8 @@ module _ {s : List ℕ} {h : Header} {head : Head} {starts table cores-set : Lis
       let n : ℕ = handsetCount s in
       let gs : List (List ℕ) = communities (network s) in
       let few : n ≤ 512 = omega (arith, accepted-fits s (held .accepted) .n-limit) in
-      let core-list : X.membersOf cores-set ≡ select n (isCore (network s)) = held-members cores-set n (isCore (network s)) few (held .cores-are .bits) in
-      let outlier-list : X.membersOf outlier-set ≡ select n (λ v. isOutlier (role (network s) v)) =
+      let core-list : X.elementsOf cores-set ≡ select n (isCore (network s)) = held-members cores-set n (isCore (network s)) few (held .cores-are .bits) in
+      let outlier-list : X.elementsOf outlier-set ≡ select n (λ v. isOutlier (role (network s) v)) =
       held-members outlier-set n (λ v. not (contains v (memberTable gs))) few o
       ∙ select-cong n (λ v. not (contains v (memberTable gs))) (λ v. isOutlier (role (network s) v)) (λ v l. sym (outlier-test (accepted-sound s (held .accepted)) v l)) in
       ap₂ (λ (a b : List ℕ). a ++ b)

@@ -1,11 +1,11 @@
 -- What the report's working tables hold, for the contracts inside the crate.
 --
 --     scoresPart k c       what stands before the colon in the line of group k
---     tallyAt ts k l       the tally of group k with the members l, from a table that holds its tied pairs at k and its leaving edges at 512 + k
---     inGroup, tiedIn, leavesIn    by the rows of the groups of each handset: whether it is in a group, whether an edge is tied in it, or leaves it
---     Joined rows l k ..   the rows with group k added to those of the handsets in l
+--     groupTally ts k l       the tally of group k with the members l, from a table that holds its tied pairs at k and its leaving edges at 512 + k
+--     inGroup, joinedIn, leavesIn    by the rows of the groups of each handset: whether it is in a group, whether an edge is tied in it, or leaves it
+--     GroupAdded rows l k ..   the rows with group k added to those of the handsets in l
 --     Raised ts base w ..  a table with 1 added at base + k for each set bit k of the word w
---     Room ts              a table of 1,024 numbers that none of 4,096 edges makes too large
+--     CountsFit ts              a table of 1,024 numbers that none of 4,096 edges makes too large
 --     Edges part m         m edge records stand in the part, and the ends of each have rows
 --     EdgeCounted ..       a table with one edge added, for the groups of the first words of the rows
 --     EdgesCounted ..      the counts over the first m edges, for those groups
@@ -47,9 +47,9 @@ unfoldable pub scoresPart : ℕ → Scores → List ℕ
 scoresPart k c = groupWord ++ (decimal k ++ (densityWord ++ (scoreText (c .density) ++ (conductanceWord ++ scoreText (c .conductance)))))
 
 -- a group has at most 512 members
-unfoldable pub tallyAt : List ℕ → ℕ → List ℕ → Tally
+unfoldable pub groupTally : List ℕ → ℕ → List ℕ → Tally
 unfolding pairs
-tallyAt ts k l = record { pairs = pairs (take 512 l); tied = getD ts k 0; leaving = getD ts (512 + k) 0 }
+groupTally ts k l = record { pairs = pairs (take 512 l); joined = getD ts k 0; leaving = getD ts (512 + k) 0 }
 
 -- ---- the counts of all groups in one pass over the edges
 
@@ -57,7 +57,7 @@ tallyAt ts k l = record { pairs = pairs (take 512 l); tied = getD ts k 0; leavin
 abbrev pub inGroup : List ℕ → ℕ → ℕ → Bool
 inGroup rows v k = eqb (cell rows v k) 1
 
-pub record Joined (rows l : List ℕ) (k : ℕ) (rows′ : List ℕ) : Type 0 where
+pub record GroupAdded (rows l : List ℕ) (k : ℕ) (rows′ : List ℕ) : Type 0 where
   pub size : length rows′ ≡ length rows
   pub bits : (v j : ℕ) → v < 512 → j < 512 → cell rows′ v j ≡ bit (inGroup rows v j || (eqb j k && contains v l))
 
@@ -69,9 +69,9 @@ pub record Raised (ts : List ℕ) (base w : ℕ) (ts′ : List ℕ) : Type 0 whe
   pub size : length ts′ ≡ length ts
   pub counts : (i : ℕ) → getD ts′ i 0 ≡ getD ts i 0 + bitFor base w i
 
-pub record Room (ts : List ℕ) : Type 0 where
+pub record CountsFit (ts : List ℕ) : Type 0 where
   pub size : length ts ≡ 1024
-  pub tied : (k : ℕ) → k < 512 → getD ts k 0 ≤ 4096
+  pub joined : (k : ℕ) → k < 512 → getD ts k 0 ≤ 4096
   pub leaving : (k : ℕ) → k < 512 → getD ts (512 + k) 0 ≤ 4096
 
 pub record Edges (part : List ℕ) (m : ℕ) : Type 0 where
@@ -80,25 +80,25 @@ pub record Edges (part : List ℕ) (m : ℕ) : Type 0 where
   pub low : (e : ℕ) → e < m → (endA part e < 512) × (endB part e < 512)
 
 -- the edge between u and v is tied in group k, or leaves it; k is one of the first words' groups
-unfoldable pub tiedIn : List ℕ → ℕ → ℕ → ℕ → ℕ → Bool
-tiedIn rows words u v k = ltb k (64 * words) && (inGroup rows u k && inGroup rows v k)
+unfoldable pub joinedIn : List ℕ → ℕ → ℕ → ℕ → ℕ → Bool
+joinedIn rows words u v k = ltb k (64 * words) && (inGroup rows u k && inGroup rows v k)
 
 unfoldable pub leavesIn : List ℕ → ℕ → ℕ → ℕ → ℕ → Bool
 leavesIn rows words u v k = ltb k (64 * words) && justOne (inGroup rows u k) (inGroup rows v k)
 
 pub record EdgeCounted (rows : List ℕ) (u v words : ℕ) (ts ts′ : List ℕ) : Type 0 where
   pub size : length ts′ ≡ 1024
-  pub tied : (k : ℕ) → k < 512 → getD ts′ k 0 ≡ getD ts k 0 + bit (tiedIn rows words u v k)
+  pub joined : (k : ℕ) → k < 512 → getD ts′ k 0 ≡ getD ts k 0 + bit (joinedIn rows words u v k)
   pub leaving : (k : ℕ) → k < 512 → getD ts′ (512 + k) 0 ≡ getD ts (512 + k) 0 + bit (leavesIn rows words u v k)
 
 pub record EdgesCounted (rows part : List ℕ) (m words : ℕ) (ts : List ℕ) : Type 0 where
   pub size : length ts ≡ 1024
-  pub tied : (k : ℕ) → k < 512 → getD ts k 0 ≡ count m (λ e. tiedIn rows words (endA part e) (endB part e) k)
+  pub joined : (k : ℕ) → k < 512 → getD ts k 0 ≡ count m (λ e. joinedIn rows words (endA part e) (endB part e) k)
   pub leaving : (k : ℕ) → k < 512 → getD ts (512 + k) 0 ≡ count m (λ e. leavesIn rows words (endA part e) (endB part e) k)
 
 pub record GroupsCounted (part : List ℕ) (m : ℕ) (starts members : List ℕ) (groups : ℕ) (ts : List ℕ) : Type 0 where
   pub size : length ts ≡ 1024
-  pub tied : (k : ℕ) → k < groups
+  pub joined : (k : ℕ) → k < groups
       → getD ts k 0 ≡ count m (λ e. contains (endA part e) (membersOf starts members k) && contains (endB part e) (membersOf starts members k))
   pub leaving : (k : ℕ) → k < groups
       → getD ts (512 + k) 0 ≡ count m (λ e. justOne (contains (endA part e) (membersOf starts members k)) (contains (endB part e) (membersOf starts members k)))
@@ -107,12 +107,12 @@ pub record GroupsCounted (part : List ℕ) (m : ℕ) (starts members : List ℕ)
 
 unfoldable pub tableLines : List ℕ → List ℕ → List ℕ → ℕ → List ℕ
 tableLines starts members ts zero = []
-tableLines starts members ts (suc k) = tableLines starts members ts k ++ groupLine k (scoresFor (tallyAt ts k (membersOf starts members k))) (membersOf starts members k)
+tableLines starts members ts (suc k) = tableLines starts members ts k ++ groupLine k (scoresFor (groupTally ts k (membersOf starts members k))) (membersOf starts members k)
 
 unfoldable pub tableText : Head → List ℕ → List ℕ → List ℕ → List ℕ → List ℕ → List ℕ
 tableText head starts members ts cores outliers =
     headLine head
-    ++ (tableLines starts members ts (head .groups) ++ (listLine coresWord (T.membersOf cores) ++ listLine outliersWord (T.membersOf outliers)))
+    ++ (tableLines starts members ts (head .groups) ++ (listLine coresWord (T.elementsOf cores) ++ listLine outliersWord (T.elementsOf outliers)))
 
 pub record Filled (t l : List ℕ) (r : Reported) (l′ : List ℕ) : Type 0 where
   pub answer : r ≡ writtenOf t (length l)

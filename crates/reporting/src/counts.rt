@@ -11,12 +11,12 @@ ghost use lib.ListN.{length, getD, replicate};
 ghost use Rattle.community.specs.Network.{contains};
 ghost use Rattle.sets.specs.Rows.{Table};
 ghost use Rattle.lookup.specs.Lookup.{membersOf};
-ghost use Rattle.reporting.specs.Held.{Joined, Raised, Room, Edges, EdgeCounted, EdgesCounted, GroupsCounted};
+ghost use Rattle.reporting.specs.Held.{GroupAdded, Raised, CountsFit, Edges, EdgeCounted, EdgesCounted, GroupsCounted};
 
 // Adds group k to the rows of the handsets in the list.
 fn mark_members(rows: &mut [u64], list: &[u16], k: usize)
     requires { ⌜ (length (now rows) ≡ 4096) × (k < 512) ⌝ }
-    ensures { λ _. ⌜ Joined (now (rows .entry)) (now (list .entry)) k (now (rows .exit)) ⌝ }
+    ensures { λ _. ⌜ GroupAdded (now (rows .entry)) (now (list .entry)) k (now (rows .exit)) ⌝ }
 {
     let mut i: usize = 0;
     while i < list.len() {
@@ -53,7 +53,7 @@ fn add_bits(word: u64, base: usize, counts: &mut [u32])
 
 // Counts the edge between u and v, for the groups of the first `words` words of the rows.
 fn count_edge(rows: &[u64], u: usize, v: usize, words: usize, counts: &mut [u32])
-    requires { ⌜ (length (now rows) ≡ 4096) × ((u < 512) × ((v < 512) × ((words ≤ 8) × Room (now counts)))) ⌝ }
+    requires { ⌜ (length (now rows) ≡ 4096) × ((u < 512) × ((v < 512) × ((words ≤ 8) × CountsFit (now counts)))) ⌝ }
     ensures { λ _. ⌜ EdgeCounted (now (rows .entry)) u v words (now (counts .entry)) (now (counts .exit)) ⌝ }
 {
     let mut j: usize = 0;

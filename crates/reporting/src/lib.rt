@@ -17,9 +17,9 @@ ghost use lib.ListN.{length, getD, replicate};
 ghost use Rattle.sets.specs.Rows.{SetOf};
 ghost use Rattle.image.specs.Questions.{Accepted, headerOf};
 ghost use Rattle.scores.specs.Scored.{scoresFor};
-ghost use Rattle.text.specs.Text.{Wrote, decimal, membersOf};
+ghost use Rattle.text.specs.Text.{Wrote, decimal, elementsOf};
 ghost use Rattle.reporting.specs.Report.{headLine, scoreText, groupLine, listLine, reportText, ReportCall, refusedText, programText};
-ghost use Rattle.reporting.specs.Held.{scoresPart, tallyAt, tableLines, tableText, Filled, Without, PlanHeld};
+ghost use Rattle.reporting.specs.Held.{scoresPart, groupTally, tableLines, tableText, Filled, Without, PlanHeld};
 
 // What a call for a report answers: the text's length, or the refusal.
 pub enum Reported {
@@ -94,11 +94,11 @@ fn put_group(text: &mut [u8], at: usize, k: usize, tally: Tally, members: &[u16]
 // The tally of group k, from the table of counts and the group's members; 0 for a place past the table's end.
 fn tally_at(counts: &[u32], k: usize, members: &[u16]) -> Tally
     requires { ⌜ k < 512 ⌝ }
-    ensures { λ r. ⌜ r ≡ tallyAt (now (counts .entry)) k (now (members .entry)) ⌝ }
+    ensures { λ r. ⌜ r ≡ groupTally (now (counts .entry)) k (now (members .entry)) ⌝ }
 {
     Tally {
         pairs: scores::pairs_of(members),
-        tied: at_or_zero(counts, k),
+        joined: at_or_zero(counts, k),
         leaving: at_or_zero(counts, 512 + k),
     }
 }
@@ -134,7 +134,7 @@ fn put_groups<'a>(
 
 // Writes a word, the members of a set of bits, and byte 10.
 fn put_set(text: &mut [u8], at: usize, word: &[u8], set: &[u64]) -> usize
-    ensures { λ r. ⌜ Wrote (now (text .entry)) at (listLine (now (word .entry)) (membersOf (now (set .entry)))) (now (text .exit)) r ⌝ }
+    ensures { λ r. ⌜ Wrote (now (text .entry)) at (listLine (now (word .entry)) (elementsOf (now (set .entry)))) (now (text .exit)) r ⌝ }
 {
     let p1 = text::put_all(text, at, word);
     let p2 = text::put_members(text, p1, set);

@@ -24,7 +24,7 @@ pub tally-same : (a b : Tallied) → tallyAnswer a ≡ tallyAnswer b → a ≡ b
 tally-same (T.Of t) (T.Of u) e = ap T.Of (ap make (ap (λ (a : Answer). a .values) e))
   where
     make : List ℕ → Tally
-    make l = record { pairs = getD l 0 0; tied = getD l 1 0; leaving = getD l 2 0 }
+    make l = record { pairs = getD l 0 0; joined = getD l 1 0; leaving = getD l 2 0 }
 tally-same (T.Of t) (T.Refused r) e = given-refused _ _ r e
 tally-same (T.Refused r) (T.Of t) e = given-refused _ _ r (sym e)
 tally-same (T.Refused r) (T.Refused q) e = ap T.Refused (refused-same r q e)

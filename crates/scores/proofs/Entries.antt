@@ -8,7 +8,7 @@
 --     entries-good        a list of at most 512 entries, all below n, passes question 13
 --     table-le            no place holds more than 512
 --     tiesOf, leaves      what one edge adds to t, and whether it adds to o, by a table; ties-le: at most 512 * 512
---     tied-more, tied-le, leaving-more, leaving-le     one more edge, and how much the first edges make
+--     joined-more, joined-le, leaving-more, leaving-le     one more edge, and how much the first edges make
 --     ends-at             the record of edge k holds its two ends
 --     table-tally         the counts by a table of multiplicities are the tally over the part
 use Prim.Native.Nat.{ℕ, zero, suc, _+_, _*_, _-_, _≤_, _<_}
@@ -34,7 +34,7 @@ use Rattle.image.specs.Image.{endA, endB}
 use Rattle.community.specs.Network.{contains}
 use Rattle.community.specs.Scores.{pairs, justOne}
 use Rattle.scores.specs.Scored.{badEntry, askEntries}
-use Rattle.scores.specs.Held.{multiplicity, tallyAt, Listed, Blank, Multiplicities, tiedBy, leavingBy}
+use Rattle.scores.specs.Held.{multiplicity, tallyAt, GoodEntries, Blank, Multiplicities, joinedSum, leavingSum}
 use Rattle.scores.specs.declared.Tally.{Tally}
 use Rattle.scores.specs.declared.Tallied.the-variants as T
 use Rattle.scores.proofs.Pairing.{multiplicity-le, multiplicity-contains}
@@ -56,7 +56,7 @@ module _ (n : ℕ) (l : List ℕ) (few : n ≤ 512) (t : T (not (any (length l) 
   is-low i h (yes k) = k
   is-low i h (no k) = absurd (not-bad i h (inl (omega arith)))
 
-  pub listed : Listed l
+  pub listed : GoodEntries l
   listed = record { short = is-short (decLt 512 (length l)); low = λ i h. is-low i h (decLt (getD l i 0) 512) }
 
 zero-at : (n v : ℕ) → Dec (v < n) → getD (zeros n) v 0 ≡ 0
@@ -86,7 +86,7 @@ pub counted-all : (l table : List ℕ) (i : ℕ) → i ≡ length l → ((v : �
 unfolding multiplicity
 counted-all l table i d e = record { held = λ v. e v ∙ ap (λ (k : ℕ). countedTo l k v) d }
 
-pub table-le : (l table : List ℕ) → Listed l → Multiplicities table l → (v : ℕ) → getD table v 0 ≤ 512
+pub table-le : (l table : List ℕ) → GoodEntries l → Multiplicities table l → (v : ℕ) → getD table v 0 ≤ 512
 table-le l table a m v = omega (arith, m .held v, multiplicity-le l v, a .short)
 
 -- ---- question 13, by the place where the scan of the entries stopped
@@ -132,24 +132,24 @@ module _ (table part : List ℕ) (test : ℕ → Bool) where
   abbrev pub leaves : ℕ → Bool
   leaves k = test k && justOne (leb 1 (getD table (endA part k) 0)) (leb 1 (getD table (endB part k) 0))
 
-  pub tied-none : tiedBy table part test 0 ≡ 0
-  unfolding tiedBy sum
-  tied-none = refl
+  pub joined-none : joinedSum table part test 0 ≡ 0
+  unfolding joinedSum sum
+  joined-none = refl
 
-  pub leaving-none : leavingBy table part test 0 ≡ 0
-  unfolding leavingBy count
+  pub leaving-none : leavingSum table part test 0 ≡ 0
+  unfolding leavingSum count
   leaving-none = refl
 
-  pub tied-more : (k : ℕ) → tiedBy table part test (k + 1) ≡ tiedBy table part test k + tiesOf k
-  unfolding tiedBy sum
-  tied-more k = rw (add-one k) (omega arith)
+  pub joined-more : (k : ℕ) → joinedSum table part test (k + 1) ≡ joinedSum table part test k + tiesOf k
+  unfolding joinedSum sum
+  joined-more k = rw (add-one k) (omega arith)
 
-  pub leaving-more : (k : ℕ) → leavingBy table part test (k + 1) ≡ leavingBy table part test k + bit (leaves k)
-  unfolding leavingBy count
+  pub leaving-more : (k : ℕ) → leavingSum table part test (k + 1) ≡ leavingSum table part test k + bit (leaves k)
+  unfolding leavingSum count
   leaving-more k = rw (add-one k) (omega arith)
 
-  pub leaving-le : (k : ℕ) → leavingBy table part test k ≤ k
-  unfolding leavingBy
+  pub leaving-le : (k : ℕ) → leavingSum table part test k ≤ k
+  unfolding leavingSum
   leaving-le k = count-le k _
 
   module _ (h : (v : ℕ) → getD table v 0 ≤ 512) where
@@ -160,10 +160,10 @@ module _ (table part : List ℕ) (test : ℕ → Bool) where
         pick true = mul-le-mul {n₂ = 512} {m₂ = 512} (h (endA part k)) (h (endB part k))
         pick false = omega arith
 
-    pub tied-le : (k : ℕ) → tiedBy table part test k ≤ 262144 * k
-    unfolding tiedBy sum
-    tied-le zero = omega arith
-    tied-le (suc k) = omega (arith, tied-le k, ties-le k)
+    pub joined-le : (k : ℕ) → joinedSum table part test k ≤ 262144 * k
+    unfolding joinedSum sum
+    joined-le zero = omega arith
+    joined-le (suc k) = omega (arith, joined-le k, ties-le k)
 
 pub ends-at : (part : List ℕ) (k : ℕ) → 4 * k + 4 ≤ length part
     → endsOf (take ((4 * k + 4) - 4 * k) (drop (4 * k) part)) ≡ record { a = endA part k; b = endB part k }
@@ -175,10 +175,10 @@ ends-at part k h =
     (number-part 2 part (4 * k) 4 2 (omega arith) h))
 
 pub table-tally : (part : List ℕ) (m : ℕ) (test : ℕ → Bool) (l table : List ℕ) → Multiplicities table l
-    → record { pairs = pairs l; tied = tiedBy table part test m; leaving = leavingBy table part test m } ≡ tallyAt part m test l
-unfolding tallyAt tiedBy leavingBy
+    → record { pairs = pairs l; joined = joinedSum table part test m; leaving = leavingSum table part test m } ≡ tallyAt part m test l
+unfolding tallyAt joinedSum leavingSum
 table-tally part m test l table h =
     let named : (v : ℕ) → leb 1 (getD table v 0) ≡ contains v l = λ v. ap (leb 1) (h .held v) ∙ multiplicity-contains l v in
-    ap₂ (λ (x y : ℕ). record { pairs = pairs l; tied = x; leaving = y })
+    ap₂ (λ (x y : ℕ). record { pairs = pairs l; joined = x; leaving = y })
     (sum-cong m _ _ (λ k d. ap₂ (λ (x y : ℕ). cond (test k) (x * y) 0) (h .held (endA part k)) (h .held (endB part k))))
     (count-cong m _ _ (λ k d. ap₂ (λ (x y : Bool). test k && justOne x y) (named (endA part k)) (named (endB part k))))

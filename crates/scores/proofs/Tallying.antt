@@ -3,9 +3,9 @@
 -- places as a stands in the list times b does.
 --
 --     joined-adjacent    joined by an edge of any number is adjacent
---     joined-once        no two edges of an accepted image join the same two handsets
---     tied-is            the tied pairs, edge by edge: how often one end stands in the list times how often the other does
---     tied-once          the tied pairs of a list without repeats are the edges with both ends in it
+--     edge-once        no two edges of an accepted image join the same two handsets
+--     joined-is            the tied pairs, edge by edge: how often one end stands in the list times how often the other does
+--     joined-once          the tied pairs of a list without repeats are the edges with both ends in it
 --     tally-is           the tally over the edge records is the tally of the image
 --     good-tallied, good-scored     the answers for at most 512 handsets of an accepted image: the tally, and its scores
 --     site-fits          the bounds of an opened image: its edge records stand in it, at most 4,096, for at most 512 handsets
@@ -29,7 +29,7 @@ use Rattle.image.specs.declared.Opened.{Opened}
 use Rattle.image.specs.declared.Opened.the-variants as O
 use Rattle.image.proofs.Acceptance.{accepted, accepted-fits, length-is, opened}
 use Rattle.community.specs.Network.{contains}
-use Rattle.community.specs.Scores.{countPairs, pairs, everyEdge, joinedBy, tiedPairs, leaving}
+use Rattle.community.specs.Scores.{countPairs, pairs, everyEdge, joinedBy, joinedPairs, leaving}
 use Rattle.community.proofs.Edges.{joins-make, joins-take, pair-sym, pair-trans}
 use Rattle.scores.specs.Scored.{tallyBy, tallyOf, askEntries, talliedFor, talliedOf, scoresFor, scoredFor, scoredOf}
 use Rattle.scores.specs.Held.{multiplicity, tallyAt}
@@ -48,9 +48,9 @@ same-ends part u v i j x y =
     joins-make part _ _ i (pair-trans _ _ u v _ _ (joins-take part u v i x) (pair-sym _ _ u v (joins-take part u v j y)))
 
 module _ (s : List ℕ) (a : Accepted s) where
-  pub joined-once : (u v i j : ℕ) → i < j → j < edgeCount s → T (joins (edgeRecords s) u v i) → T (joins (edgeRecords s) u v j) → ⊥
+  pub edge-once : (u v i j : ℕ) → i < j → j < edgeCount s → T (joins (edgeRecords s) u v i) → T (joins (edgeRecords s) u v j) → ⊥
   unfolding repeatsEarlier
-  joined-once u v i j h k x y =
+  edge-once u v i j h k x y =
       let part : List ℕ = edgeRecords s in
       T-not (repeatsEarlier part j) (a .q10 j k)
       (any-make j (joins part (endA part j) (endB part j)) i h (same-ends part u v i j x y))
@@ -91,13 +91,13 @@ module _ (s : List ℕ) (a : Accepted s) where
         count-sum j (λ i. joinedBy s test (getD l i 0) (getD l j 0))
         ∙ sum-cong j (λ i. bit (joinedBy s test (getD l i 0) (getD l j 0))) (λ i. count (edgeCount s) (joinsAt l i j))
         (λ i h. count-once (edgeCount s) (joinsAt l i j)
-        (λ k n d b x y. joined-once (getD l i 0) (getD l j 0) k n d b
+        (λ k n d b x y. edge-once (getD l i 0) (getD l j 0) k n d b
         (and-right (test k) (joins part (getD l i 0) (getD l j 0) k) x) (and-right (test n) (joins part (getD l i 0) (getD l j 0) n) y)))
         ∙ count-swap j (edgeCount s) (λ i k. joinsAt l i j k)
 
-    pub tied-is : (l : List ℕ) → tiedPairs s test l ≡ sum (edgeCount s) (λ k. cond (test k) (multiplicity l (endA (edgeRecords s) k) * multiplicity l (endB (edgeRecords s) k)) 0)
-    unfolding tiedPairs countPairs
-    tied-is l =
+    pub joined-is : (l : List ℕ) → joinedPairs s test l ≡ sum (edgeCount s) (λ k. cond (test k) (multiplicity l (endA (edgeRecords s) k) * multiplicity l (endB (edgeRecords s) k)) 0)
+    unfolding joinedPairs countPairs
+    joined-is l =
         let n : ℕ = length l in
         let m : ℕ = edgeCount s in
         let f : ℕ → ℕ → ℕ = λ j k. count j (λ i. joinsAt l i j k) in
@@ -106,12 +106,12 @@ module _ (s : List ℕ) (a : Accepted s) where
         ∙ sum-cong m (λ k. sum n (λ j. f j k)) (λ k. cond (test k) (multiplicity l (endA (edgeRecords s) k) * multiplicity l (endB (edgeRecords s) k)) 0)
         (λ k h. passed-pairs (test k) l k h)
 
-    pub tied-once : (l : List ℕ) → ((i j : ℕ) → i < j → j < length l → getD l i 0 ≡ getD l j 0 → ⊥)
-        → tiedPairs s test l ≡ count (edgeCount s) (λ k. test k && (contains (endA (edgeRecords s) k) l && contains (endB (edgeRecords s) k) l))
-    tied-once l once =
+    pub joined-once : (l : List ℕ) → ((i j : ℕ) → i < j → j < length l → getD l i 0 ≡ getD l j 0 → ⊥)
+        → joinedPairs s test l ≡ count (edgeCount s) (λ k. test k && (contains (endA (edgeRecords s) k) l && contains (endB (edgeRecords s) k) l))
+    joined-once l once =
         let f : ℕ → ℕ = λ k. cond (test k) (multiplicity l (endA (edgeRecords s) k) * multiplicity l (endB (edgeRecords s) k)) 0 in
         let g : ℕ → Bool = λ k. test k && (contains (endA (edgeRecords s) k) l && contains (endB (edgeRecords s) k) l) in
-        tied-is l
+        joined-is l
         ∙ sum-cong (edgeCount s) f (λ k. bit (g k))
         (λ k h. ap₂ (λ (x y : ℕ). cond (test k) (x * y) 0) (multiplicity-once l once (endA (edgeRecords s) k)) (multiplicity-once l once (endB (edgeRecords s) k))
         ∙ both (test k) (contains (endA (edgeRecords s) k) l) (contains (endB (edgeRecords s) k) l))
@@ -126,7 +126,7 @@ module _ (s : List ℕ) (a : Accepted s) where
 
     pub tally-is : (l : List ℕ) → tallyAt (edgeRecords s) (edgeCount s) test l ≡ tallyBy s test l
     unfolding tallyAt leaving
-    tally-is l = ap (λ (x : ℕ). record { pairs = pairs l; tied = x; leaving = leaving s test l }) (sym (tied-is l))
+    tally-is l = ap (λ (x : ℕ). record { pairs = pairs l; joined = x; leaving = leaving s test l }) (sym (joined-is l))
 
 -- a list of at most 512 handsets
 module _ (s : List ℕ) (a : Accepted s) (l : List ℕ) (few : length l ≤ 512) (below : (i : ℕ) → i < length l → getD l i 0 < handsetCount s) where

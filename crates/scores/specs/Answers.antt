@@ -17,7 +17,7 @@ use Rattle.scores.specs.declared.Scored.{Scored}
 use Rattle.scores.specs.declared.Scored.the-variants as S
 
 abbrev pub tallyAnswer : Tallied → Answer
-tallyAnswer (T.Of t) = given (t .pairs ∷ t .tied ∷ t .leaving ∷ [])
+tallyAnswer (T.Of t) = given (t .pairs ∷ t .joined ∷ t .leaving ∷ [])
 tallyAnswer (T.Refused r) = refused r
 
 abbrev pub scoreValues : Score → List ℕ

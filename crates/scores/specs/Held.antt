@@ -2,10 +2,10 @@
 --
 --     multiplicity l v           how often v stands in a list
 --     tallyAt part m test l      the tally over the first m edges of a part of the image, those that pass, edge by edge
---     Listed l                   the entries of a list that question 13 passes
+--     GoodEntries l                   the entries of a list that question 13 passes
 --     Blank table                512 places that hold 0
 --     Multiplicities table l     place v holds how often v stands in l, for every v
---     tiedBy, leavingBy          t and o over the first m edges of a part, those that pass, by such a table
+--     joinedSum, leavingSum          t and o over the first m edges of a part, those that pass, by such a table
 use Prim.Native.Nat.{ℕ, _*_, _≤_, _<_}
 use mathlib.Core.Path.{_≡_}
 use mathlib.Core.Bool.{Bool, _&&_, cond}
@@ -26,11 +26,11 @@ unfoldable pub tallyAt : List ℕ → ℕ → (ℕ → Bool) → List ℕ → Ta
 unfolding pairs sum count multiplicity endA endB contains
 tallyAt part m test l = record {
   pairs = pairs l;
-  tied = sum m (λ k. cond (test k) (multiplicity l (endA part k) * multiplicity l (endB part k)) 0);
+  joined = sum m (λ k. cond (test k) (multiplicity l (endA part k) * multiplicity l (endB part k)) 0);
   leaving = count m (λ k. test k && justOne (contains (endA part k) l) (contains (endB part k) l));
 }
 
-pub record Listed (l : List ℕ) : Type 0 where
+pub record GoodEntries (l : List ℕ) : Type 0 where
   pub short : length l ≤ 512
   pub low : (i : ℕ) → i < length l → getD l i 0 < 512
 
@@ -41,10 +41,10 @@ pub record Blank (table : List ℕ) : Type 0 where
 pub record Multiplicities (table l : List ℕ) : Type 0 where
   pub held : (v : ℕ) → getD table v 0 ≡ multiplicity l v
 
-unfoldable pub tiedBy : List ℕ → List ℕ → (ℕ → Bool) → ℕ → ℕ
+unfoldable pub joinedSum : List ℕ → List ℕ → (ℕ → Bool) → ℕ → ℕ
 unfolding sum endA endB
-tiedBy table part test m = sum m (λ k. cond (test k) (getD table (endA part k) 0 * getD table (endB part k) 0) 0)
+joinedSum table part test m = sum m (λ k. cond (test k) (getD table (endA part k) 0 * getD table (endB part k) 0) 0)
 
-unfoldable pub leavingBy : List ℕ → List ℕ → (ℕ → Bool) → ℕ → ℕ
+unfoldable pub leavingSum : List ℕ → List ℕ → (ℕ → Bool) → ℕ → ℕ
 unfolding count endA endB
-leavingBy table part test m = count m (λ k. test k && justOne (leb 1 (getD table (endA part k) 0)) (leb 1 (getD table (endB part k) 0)))
+leavingSum table part test m = count m (λ k. test k && justOne (leb 1 (getD table (endA part k) 0)) (leb 1 (getD table (endB part k) 0)))

@@ -17,7 +17,7 @@ use Rattle.sets.specs.Below.{any, find}
 use Rattle.image.specs.Questions.{openOf}
 use Rattle.image.specs.declared.Opened.{Opened}
 use Rattle.image.specs.declared.Opened.the-variants as O
-use Rattle.community.specs.Scores.{pairs, everyEdge, tiedPairs, leaving}
+use Rattle.community.specs.Scores.{pairs, everyEdge, joinedPairs, leaving}
 use Rattle.scores.specs.declared.Tally.{Tally}
 use Rattle.scores.specs.declared.Tallied.{Tallied}
 use Rattle.scores.specs.declared.Tallied.the-variants as T
@@ -28,7 +28,7 @@ use Rattle.scores.specs.declared.Scored.{Scored}
 use Rattle.scores.specs.declared.Scored.the-variants as S
 
 abbrev pub tallyBy : List ℕ → (ℕ → Bool) → List ℕ → Tally
-tallyBy s test l = record { pairs = pairs l; tied = tiedPairs s test l; leaving = leaving s test l }
+tallyBy s test l = record { pairs = pairs l; joined = joinedPairs s test l; leaving = leaving s test l }
 
 unfoldable pub tallyOf : List ℕ → List ℕ → Tally
 tallyOf s l = tallyBy s everyEdge l
@@ -40,8 +40,8 @@ score a b = cond (eqb b 0) Nothing (Ratio a b)
 unfoldable pub scoresFor : Tally → Scores
 unfolding score
 scoresFor t = record {
-  density = score (t .pairs - t .tied) (t .pairs);
-  conductance = score (t .leaving) (2 * t .tied + t .leaving);
+  density = score (t .pairs - t .joined) (t .pairs);
+  conductance = score (t .leaving) (2 * t .joined + t .leaving);
 }
 
 unfoldable pub badEntry : ℕ → List ℕ → ℕ → Bool

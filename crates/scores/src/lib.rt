@@ -12,7 +12,7 @@ ghost use Rattle.sets.specs.Below.{bit, find};
 ghost use Rattle.community.specs.Scores.{justOne, pairs, everyEdge};
 ghost use Rattle.scores.specs.Scored.{badEntry, score, scoresFor, talliedOf, scoredOf};
 ghost use Rattle.scores.specs.Answers.{tallyAnswer, scoreAnswer};
-ghost use Rattle.scores.specs.Held.{tallyAt, Listed, Blank, Multiplicities, tiedBy, leavingBy};
+ghost use Rattle.scores.specs.Held.{tallyAt, GoodEntries, Blank, Multiplicities, joinedSum, leavingSum};
 use image::Opened;
 use image::Refusal;
 
@@ -36,7 +36,7 @@ pub enum Scored {
 // s, t and o of a list: all pairs of places, those whose handsets are adjacent, and the edges with just one end in the list.
 pub struct Tally {
     pub pairs: u32,
-    pub tied: u32,
+    pub joined: u32,
     pub leaving: u32,
 }
 
@@ -48,7 +48,7 @@ pub enum Tallied {
 
 // t and o over the edges.
 struct EdgeCounts {
-    tied: u32,
+    joined: u32,
     leaving: u32,
 }
 
@@ -88,7 +88,7 @@ fn wide(x: u16) -> usize
 
 // Counts the entries of the list into a blank table: place v then holds how often v stands in the list.
 fn count_entries(list: &[u16], table: &mut [u16])
-    requires { ⌜ Listed (now list) × Blank (now table) ⌝ }
+    requires { ⌜ GoodEntries (now list) × Blank (now table) ⌝ }
     ensures { λ _. ⌜ Multiplicities (now (table .exit)) (now (list .entry)) ⌝ }
 {
     let mut i: usize = 0;
@@ -118,9 +118,9 @@ fn just_one(a: u32, b: u32) -> u32
 // t and o over the first m edges, by a table of multiplicities.
 fn count_edges(edges: &[u8], m: usize, table: &[u16]) -> EdgeCounts
     requires { ⌜ (4 * m ≤ length (now edges)) × (m ≤ 4096) × ((v : ℕ) → getD (now table) v 0 ≤ 512) ⌝ }
-    ensures { λ r. ⌜ r ≡ record { tied = tiedBy (now (table .entry)) (now (edges .entry)) everyEdge m; leaving = leavingBy (now (table .entry)) (now (edges .entry)) everyEdge m } ⌝ }
+    ensures { λ r. ⌜ r ≡ record { joined = joinedSum (now (table .entry)) (now (edges .entry)) everyEdge m; leaving = leavingSum (now (table .entry)) (now (edges .entry)) everyEdge m } ⌝ }
 {
-    let mut tied: u32 = 0;
+    let mut joined: u32 = 0;
     let mut leaving: u32 = 0;
     let mut k: usize = 0;
     while k < m {
@@ -129,11 +129,11 @@ fn count_edges(edges: &[u8], m: usize, table: &[u16]) -> EdgeCounts
         let ends = fields::read_ends(&edges[at..past]);
         let a = held(table, ends.a);
         let b = held(table, ends.b);
-        tied += a * b;
+        joined += a * b;
         leaving += just_one(a, b);
         k += 1;
     }
-    EdgeCounts { tied, leaving }
+    EdgeCounts { joined, leaving }
 }
 
 // s, the count of all pairs of places of a list. Entries past the first 512 are not looked at: question 13 refuses them.
@@ -146,7 +146,7 @@ pub fn pairs_of(list: &[u16]) -> u32
 
 // The tally of a list that question 13 passes, over m edges, in one turn over the list and one over the edges.
 fn tally_listed(edges: &[u8], m: usize, list: &[u16]) -> Tally
-    requires { ⌜ (4 * m ≤ length (now edges)) × (m ≤ 4096) × Listed (now list) ⌝ }
+    requires { ⌜ (4 * m ≤ length (now edges)) × (m ≤ 4096) × GoodEntries (now list) ⌝ }
     ensures { λ r. ⌜ r ≡ tallyAt (now (edges .entry)) m everyEdge (now (list .entry)) ⌝ }
 {
     let mut table = [0u16; 512];
@@ -154,7 +154,7 @@ fn tally_listed(edges: &[u8], m: usize, list: &[u16]) -> Tally
     let counts = count_edges(edges, m, &table);
     Tally {
         pairs: pairs_of(list),
-        tied: counts.tied,
+        joined: counts.joined,
         leaving: counts.leaving,
     }
 }
@@ -203,11 +203,11 @@ pub fn scores_of(t: Tally) -> Scores
     ensures { λ r. ⌜ r ≡ scoresFor t ⌝ }
 {
     let all = t.pairs as u64;
-    let tied = t.tied as u64;
+    let joined = t.joined as u64;
     let leaving = t.leaving as u64;
     Scores {
-        density: score_of(less(all, tied), all),
-        conductance: score_of(leaving, 2 * tied + leaving),
+        density: score_of(less(all, joined), all),
+        conductance: score_of(leaving, 2 * joined + leaving),
     }
 }
 

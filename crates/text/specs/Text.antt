@@ -3,7 +3,7 @@
 --     Wrote l at vs l′ r    the buffer l with the bytes vs stored from index at on, as far as it reaches, is l′; r is the position after vs
 --     decimal n             the decimal digits of n, with no leading zero; for a number of 64 bits
 --     numbers l             each number of l after a space
---     membersOf ws          the members below 512 of a set of bits, ascending
+--     elementsOf ws          the members below 512 of a set of bits, ascending
 --     Skips ws v r          r comes after v, and no member of the set between them
 --
 -- The laws are in proofs/Writing.
@@ -35,8 +35,8 @@ unfoldable pub numbers : List ℕ → List ℕ
 numbers [] = []
 numbers (x ∷ l) = (32 ∷ decimal x) ++ numbers l
 
-unfoldable pub membersOf : List ℕ → List ℕ
-membersOf ws = select 512 (λ v. eqb (bitAt ws v) 1)
+unfoldable pub elementsOf : List ℕ → List ℕ
+elementsOf ws = select 512 (λ v. eqb (bitAt ws v) 1)
 
 pub record Skips (ws : List ℕ) (v r : ℕ) : Type 0 where
   pub later : v < r

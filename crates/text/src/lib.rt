@@ -7,7 +7,7 @@ ghost use mathlib.Core.Path.{_≡_};
 ghost use mathlib.Core.List.{[], _∷_};
 ghost use lib.Dec.{eqb};
 ghost use lib.ListN.{getD};
-ghost use Rattle.text.specs.Text.{Wrote, digitsOf, decimal, numbers, membersOf, Skips};
+ghost use Rattle.text.specs.Text.{Wrote, digitsOf, decimal, numbers, elementsOf, Skips};
 
 // Writes one byte.
 pub fn put(text: &mut [u8], at: usize, byte: u8) -> usize
@@ -118,7 +118,7 @@ fn after(set: &[u64], v: usize) -> usize
 
 // Writes each member below 512 of a set of bits after a space, ascending; a number past the last word is in no set. Empty words are skipped.
 pub fn put_members(text: &mut [u8], at: usize, set: &[u64]) -> usize
-    ensures { λ r. ⌜ Wrote (now (text .entry)) at (numbers (membersOf (now (set .entry)))) (now (text .exit)) r ⌝ }
+    ensures { λ r. ⌜ Wrote (now (text .entry)) at (numbers (elementsOf (now (set .entry)))) (now (text .exit)) r ⌝ }
 {
     let mut v: usize = 0;
     let mut next = capped(at);

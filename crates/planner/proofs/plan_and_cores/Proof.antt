@@ -17,8 +17,8 @@ opened c = c .before .before .before .before
 abbrev read : tie.After-opened → tie.After-open-rows
 read c = c .before .before
 
-abbrev near-kept : tie.After-cores → tie.After-keep-near
-near-kept c = c .before .before .before .before .before .before .before
+abbrev neighbours-kept : tie.After-cores → tie.After-keep-neighbours
+neighbours-kept c = c .before .before .before .before .before .before .before
 
 abbrev found : tie.After-cores2 → tie.After-find-groups
 found c = c .before .before .before .before
@@ -50,17 +50,17 @@ returns c =
     let e = reading-no (r .open-rows .ensures) (told .0 .0) (c .refusal-of .result) (told .1) (c .refusal-of .ensures) in
     (plan-refused (now (a .image)) (c .refusal-of .result) e (now (a .starts)) (now (a .members)), cores-refused (now (a .image)) (c .refusal-of .result) e)
 
-slice-aggregate-keep-near : tie.Need-slice-aggregate-keep-near
-slice-aggregate-keep-near c = search needs
+slice-aggregate-keep-neighbours : tie.Need-slice-aggregate-keep-neighbours
+slice-aggregate-keep-neighbours c = search needs
 
-slice-aggregate-keep-near-2 : tie.Need-slice-aggregate-keep-near-2
-slice-aggregate-keep-near-2 c = search needs
+slice-aggregate-keep-neighbours-2 : tie.Need-slice-aggregate-keep-neighbours-2
+slice-aggregate-keep-neighbours-2 c = search needs
 
-slice-aggregate-keep-near-3 : tie.Need-slice-aggregate-keep-near-3
-slice-aggregate-keep-near-3 c = search needs
+slice-aggregate-keep-neighbours-3 : tie.Need-slice-aggregate-keep-neighbours-3
+slice-aggregate-keep-neighbours-3 c = search needs
 
-keep-near-requires : tie.Need-keep-near-requires
-keep-near-requires c κs = let r = at-hand (opened c) in (r .accepted, r .header, refl, r .room, r .table, r .counted)
+keep-neighbours-requires : tie.Need-keep-neighbours-requires
+keep-neighbours-requires c κs = let r = at-hand (opened c) in (r .accepted, r .header, refl, r .room, r .table, r .counted)
 
 slice-aggregate-find-groups : tie.Need-slice-aggregate-find-groups
 slice-aggregate-find-groups c = search needs
@@ -76,8 +76,8 @@ slice-aggregate-find-groups-4 c = search needs
 
 find-groups-requires : tie.Need-find-groups-requires
 find-groups-requires c κs =
-    let k = near-kept c .keep-near in
-    let r = at-hand (opened (near-kept c .before)) in
+    let k = neighbours-kept c .keep-neighbours in
+    let r = at-hand (opened (neighbours-kept c .before)) in
     (r .accepted, r .header, (k .kept .1 .1 .1 .0 ∙ r .room .0, k .kept .1 .1 .1 .1 .0 ∙ r .room .1), k .ensures, refl)
 
 slice-aggregate-write-plan : tie.Need-slice-aggregate-write-plan
@@ -96,7 +96,7 @@ returns-2 : tie.Need-returns-2
 returns-2 c =
     let w = written c in
     let f = found (w .before .before .before .before) in
-    let k = near-kept (f .before) in
+    let k = neighbours-kept (f .before) in
     let o = opened (k .before) in
     let a = start (read o) .args in
     let ok = at-hand o .accepted in (
@@ -113,10 +113,10 @@ plan-and-cores-spec =
     enum-told
     refusal-of-requires
     returns
-    slice-aggregate-keep-near
-    slice-aggregate-keep-near-2
-    slice-aggregate-keep-near-3
-    keep-near-requires
+    slice-aggregate-keep-neighbours
+    slice-aggregate-keep-neighbours-2
+    slice-aggregate-keep-neighbours-3
+    keep-neighbours-requires
     slice-aggregate-find-groups
     slice-aggregate-find-groups-2
     slice-aggregate-find-groups-3

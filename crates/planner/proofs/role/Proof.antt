@@ -8,7 +8,7 @@ use denote.Ref.{now}
 use Rattle.image.specs.Image.{handsetCount}
 use Rattle.planner.specs.Plan.{knownAnswer}
 use Rattle.planner.proofs.Calls.{Ready, ready, ready-count, reading-no, known-refused, handsets-most, known-past, role-found, known-found}
-use Rattle.planner.proofs.GraphLaws.{near-sizes}
+use Rattle.planner.proofs.GraphLaws.{neighbour-sizes}
 use Rattle.planner.proofs.role.Statement.{statement}
 use Rattle.planner.proofs.role.Tie as tie
 
@@ -25,8 +25,8 @@ opened c = c .before .before .before
 abbrev accepted : tie.After-sizes2 → tie.Else1
 accepted c = c .before .before .before
 
-abbrev near-kept : tie.After-cores → tie.After-keep-near
-near-kept c = c .before .before .before .before .before .before .before
+abbrev neighbours-kept : tie.After-cores → tie.After-keep-neighbours
+neighbours-kept c = c .before .before .before .before .before .before .before
 
 abbrev found : tie.After-role-in → tie.After-find-groups
 found c = c .before .before .before .before .before .before .before
@@ -68,17 +68,17 @@ returns-2 c =
     let a = start (read o) .args in
     ap knownAnswer (known-past (now (a .image)) (at-hand o .accepted) (a .v) (omega (arith, c .if1 .taken, ready-count (at-hand o))))
 
-slice-aggregate-keep-near : tie.Need-slice-aggregate-keep-near
-slice-aggregate-keep-near c = search needs
+slice-aggregate-keep-neighbours : tie.Need-slice-aggregate-keep-neighbours
+slice-aggregate-keep-neighbours c = search needs
 
-slice-aggregate-keep-near-2 : tie.Need-slice-aggregate-keep-near-2
-slice-aggregate-keep-near-2 c = search needs
+slice-aggregate-keep-neighbours-2 : tie.Need-slice-aggregate-keep-neighbours-2
+slice-aggregate-keep-neighbours-2 c = search needs
 
-slice-aggregate-keep-near-3 : tie.Need-slice-aggregate-keep-near-3
-slice-aggregate-keep-near-3 c = search needs
+slice-aggregate-keep-neighbours-3 : tie.Need-slice-aggregate-keep-neighbours-3
+slice-aggregate-keep-neighbours-3 c = search needs
 
-keep-near-requires : tie.Need-keep-near-requires
-keep-near-requires c κs = let r = at-hand (opened (accepted c)) in (r .accepted, r .header, refl, r .room, r .table, r .counted)
+keep-neighbours-requires : tie.Need-keep-neighbours-requires
+keep-neighbours-requires c κs = let r = at-hand (opened (accepted c)) in (r .accepted, r .header, refl, r .room, r .table, r .counted)
 
 mul-neighbours : tie.Need-mul-neighbours
 mul-neighbours c = search needs
@@ -102,8 +102,8 @@ slice-aggregate-find-groups-4 c = search needs
 
 find-groups-requires : tie.Need-find-groups-requires
 find-groups-requires c κs =
-    let k = near-kept c .keep-near in
-    let r = at-hand (opened (accepted (near-kept c .before))) in
+    let k = neighbours-kept c .keep-neighbours in
+    let r = at-hand (opened (accepted (neighbours-kept c .before))) in
     (r .accepted, r .header, (k .kept .1 .1 .1 .0 ∙ r .room .0, k .kept .1 .1 .1 .1 .0 ∙ r .room .1), k .ensures, refl)
 
 slice-aggregate-role-in : tie.Need-slice-aggregate-role-in
@@ -118,13 +118,13 @@ role-in-requires c κs = tt
 returns-3 : tie.Need-returns-3
 returns-3 c =
     let f = found c in
-    let k = near-kept (f .before) in
+    let k = neighbours-kept (f .before) in
     let e = accepted (k .before) in
     let a = start (read (opened e)) .args in
     let image = now (a .image) in
     let r = at-hand (opened e) in
     ap knownAnswer (known-found image (r .accepted) (a .v) (below e) _
-    (near-sizes image _ (r .accepted) (r .header) (k .keep-near .ensures) (a .v) (below e))
+    (neighbour-sizes image _ (r .accepted) (r .header) (k .keep-neighbours .ensures) (a .v) (below e))
     (c .role-in .ensures ∙ role-found image (r .accepted) (f .find-groups .ensures .0) (f .find-groups .ensures .1) (a .v) (below e)))
 
 pub role-spec : {M : Type 1} → statement M
@@ -138,10 +138,10 @@ role-spec =
     returns
     cast-if1
     returns-2
-    slice-aggregate-keep-near
-    slice-aggregate-keep-near-2
-    slice-aggregate-keep-near-3
-    keep-near-requires
+    slice-aggregate-keep-neighbours
+    slice-aggregate-keep-neighbours-2
+    slice-aggregate-keep-neighbours-3
+    keep-neighbours-requires
     mul-neighbours
     array-read-neighbours
     slice-aggregate-find-groups

@@ -1,6 +1,6 @@
 -- `reporting::tally_at` meets its contract: the pairs of the list, and the two places of the table.
 use native.Mathlib.Omega.{arith}
-use Rattle.reporting.specs.Held.{tallyAt}
+use Rattle.reporting.specs.Held.{groupTally}
 use Rattle.reporting.proofs.tally_at.Statement.{statement}
 use Rattle.reporting.proofs.tally_at.Tie as tie
 
@@ -17,8 +17,8 @@ at-or-zero-requires-2 : tie.Need-at-or-zero-requires-2
 at-or-zero-requires-2 c κs = tt
 
 returns : tie.Need-returns
-unfolding tallyAt
-returns c = λ i. record { pairs = c .before .before .pairs-of .ensures i; tied = c .before .at-or-zero .ensures i; leaving = c .at-or-zero2 .ensures i }
+unfolding groupTally
+returns c = λ i. record { pairs = c .before .before .pairs-of .ensures i; joined = c .before .at-or-zero .ensures i; leaving = c .at-or-zero2 .ensures i }
 
 pub tally-at-spec : {M : Type 1} → statement M
 tally-at-spec =

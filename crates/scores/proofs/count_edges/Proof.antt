@@ -11,16 +11,16 @@ use Rattle.fields.specs.declared.Ends.{Ends}
 use Rattle.sets.specs.Below.{bit}
 use Rattle.image.specs.Image.{endA, endB}
 use Rattle.community.specs.Scores.{everyEdge, justOne}
-use Rattle.scores.specs.Held.{tiedBy, leavingBy}
-use Rattle.scores.proofs.Entries.{tied-none, leaving-none, tied-more, leaving-more, tied-le, leaving-le, ties-le, bit-le, ends-at}
+use Rattle.scores.specs.Held.{joinedSum, leavingSum}
+use Rattle.scores.proofs.Entries.{joined-none, leaving-none, joined-more, leaving-more, joined-le, leaving-le, ties-le, bit-le, ends-at}
 use Rattle.scores.proofs.count_edges.Statement.{statement}
 use Rattle.scores.proofs.count_edges.Tie as tie
 
 abbrev Inv-loop : tie.InvT-loop
-Inv-loop edges m table tied₀ leaving₀ k₀ tied leaving k = (k ≤ m) × (tied ≡ tiedBy table edges everyEdge k) × (leaving ≡ leavingBy table edges everyEdge k)
+Inv-loop edges m table joined₀ leaving₀ k₀ joined leaving k = (k ≤ m) × (joined ≡ joinedSum table edges everyEdge k) × (leaving ≡ leavingSum table edges everyEdge k)
 
 abbrev μ-loop : tie.MeasureT-loop
-μ-loop edges m table tied₀ leaving₀ k₀ tied leaving k = m - k
+μ-loop edges m table joined₀ leaving₀ k₀ joined leaving k = m - k
 
 -- ---- the places that the answers speak of: the start, the turn of edge k, its ends read
 abbrev start : tie.At-loop Inv-loop μ-loop → tie.Start Inv-loop μ-loop
@@ -66,7 +66,7 @@ small c =
 
 -- ---- the answers
 loop-holds : tie.Need-loop-holds Inv-loop μ-loop
-loop-holds c = (omega arith, sym (tied-none _ _ everyEdge), sym (leaving-none _ _ everyEdge))
+loop-holds c = (omega arith, sym (joined-none _ _ everyEdge), sym (leaving-none _ _ everyEdge))
 
 mul-at : tie.Need-mul-at Inv-loop μ-loop
 mul-at c = omega (arith, start (c .before) .pre .1)
@@ -92,13 +92,13 @@ held-requires c κs = tt
 held-requires-2 : tie.Need-held-requires-2 Inv-loop μ-loop
 held-requires-2 c κs = tt
 
-mul-tied : tie.Need-mul-tied Inv-loop μ-loop
-mul-tied c = omega (arith, small c)
+mul-joined : tie.Need-mul-joined Inv-loop μ-loop
+mul-joined c = omega (arith, small c)
 
-add-tied : tie.Need-add-tied Inv-loop μ-loop
-add-tied c =
+add-joined : tie.Need-add-joined Inv-loop μ-loop
+add-joined c =
     let l = turn c in
-    omega (arith, small c, l .loop .inv .1, tied-le (table-of l) (edges-of l) everyEdge (start l .pre .2) (l .loop .k), start l .pre .1)
+    omega (arith, small c, l .loop .inv .1, joined-le (table-of l) (edges-of l) everyEdge (start l .pre .2) (l .loop .k), start l .pre .1)
 
 just-one-requires : tie.Need-just-one-requires Inv-loop μ-loop
 just-one-requires c κs = tt
@@ -126,7 +126,7 @@ loop-again c =
     let d = c .before in
     let l = turn d in (
       omega arith,
-      ap₂ _+_ (l .loop .inv .1) (ap₂ _*_ (a-is d) (b-is d)) ∙ sym (tied-more (table-of l) (edges-of l) everyEdge (l .loop .k)),
+      ap₂ _+_ (l .loop .inv .1) (ap₂ _*_ (a-is d) (b-is d)) ∙ sym (joined-more (table-of l) (edges-of l) everyEdge (l .loop .k)),
       ap₂ _+_ (l .loop .inv .2) (c .just-one .ensures ∙ ap₂ (λ (x y : ℕ). bit (justOne (leb 1 x) (leb 1 y))) (a-is d) (b-is d))
           ∙ sym (leaving-more (table-of l) (edges-of l) everyEdge (l .loop .k)),
     )
@@ -136,8 +136,8 @@ returns c =
     let l = c .before in
     let m : ℕ = start l .args .m in
     let e : l .loop .k ≡ m = omega arith in
-    let t : l .loop .tied ≡ tiedBy (table-of l) (edges-of l) everyEdge m = l .loop .inv .1 ∙ ap (tiedBy (table-of l) (edges-of l) everyEdge) e in
-    let o : l .loop .leaving ≡ leavingBy (table-of l) (edges-of l) everyEdge m = l .loop .inv .2 ∙ ap (leavingBy (table-of l) (edges-of l) everyEdge) e in
+    let t : l .loop .joined ≡ joinedSum (table-of l) (edges-of l) everyEdge m = l .loop .inv .1 ∙ ap (joinedSum (table-of l) (edges-of l) everyEdge) e in
+    let o : l .loop .leaving ≡ leavingSum (table-of l) (edges-of l) everyEdge m = l .loop .inv .2 ∙ ap (leavingSum (table-of l) (edges-of l) everyEdge) e in
     cc
 
 pub count-edges-spec : {M : Type 1} → statement M
@@ -155,8 +155,8 @@ count-edges-spec =
     read-ends-requires
     held-requires
     held-requires-2
-    mul-tied
-    add-tied
+    mul-joined
+    add-joined
     just-one-requires
     add-leaving
     add-k

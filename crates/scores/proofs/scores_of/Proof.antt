@@ -10,8 +10,8 @@ use Rattle.scores.proofs.scores_of.Tie as tie
 cast-all : tie.Need-cast-all
 cast-all c = search needs
 
-cast-tied : tie.Need-cast-tied
-cast-tied c = search needs
+cast-joined : tie.Need-cast-joined
+cast-joined c = search needs
 
 cast-leaving : tie.Need-cast-leaving
 cast-leaving c = search needs
@@ -44,7 +44,7 @@ scores-of-spec =
     tie.close
     (tie.spec
     cast-all
-    cast-tied
+    cast-joined
     cast-leaving
     less-requires
     score-of-requires

@@ -47,7 +47,7 @@ returns : tie.Need-returns
 returns c =
     let e = entries (c .before .before) in
     let s = start (e .before) in
-    ap₂ (λ (p : ℕ) (k : EdgeCounts). record { pairs = p; tied = k .tied; leaving = k .leaving })
+    ap₂ (λ (p : ℕ) (k : EdgeCounts). record { pairs = p; joined = k .joined; leaving = k .leaving })
     (c .pairs-of .ensures ∙ ap pairs (take-all 512 (list-of e) (s .pre .2 .short)))
     (c .before .count-edges .ensures)
     ∙ table-tally (now (s .args .edges)) (s .args .m) everyEdge (list-of e) (table-of e) (e .count-entries .ensures)

@@ -13,7 +13,7 @@ use borrow.Author.Needs.{needs}
 use Rattle.sets.specs.Below.{select}
 use Rattle.sets.specs.Bits.{bitAt}
 use Rattle.sets.proofs.Selecting.{select-same}
-use Rattle.text.specs.Text.{Wrote, numbers, membersOf}
+use Rattle.text.specs.Text.{Wrote, numbers, elementsOf}
 use Rattle.text.proofs.Writing.{chain, nothing, members-yes, members-no}
 use Rattle.text.proofs.put_members.Statement.{statement}
 use Rattle.text.proofs.put_members.Tie as tie
@@ -69,7 +69,7 @@ same-length : tie.Need-same-length Inv-loop μ-loop
 same-length c = ap length (c .before .loop .inv .1 .list) ∙ simp length-sets
 
 returns : tie.Need-returns Inv-loop μ-loop
-unfolding membersOf
+unfolding elementsOf
 returns c = let e : c .before .loop .v ≡ 512 = omega arith in rw e at (c .before .loop .inv .1)
 
 pub put-members-spec : {M : Type 1} → statement M

@@ -1,7 +1,7 @@
 -- `planner::graph::keep_similar` meets its contract. The edges dropped are just those of the neighbour table whose ends are not similar; without them the table
 -- is that of the similarity relation, and its sizes tell the cores.
 use native.Mathlib.Omega.{arith}
-use Rattle.planner.proofs.GraphLaws.{Read, header-is, checked-of, near-ready, unlike-ready, surveyed}
+use Rattle.planner.proofs.GraphLaws.{Read, header-is, checked-of, short-ready, dissimilar-ready, surveyed}
 use Rattle.planner.proofs.graph.keep_similar.Statement.{statement}
 use Rattle.planner.proofs.graph.keep_similar.Tie as tie
 
@@ -9,10 +9,10 @@ use Rattle.planner.proofs.graph.keep_similar.Tie as tie
 abbrev entry : tie.After-struct-known → tie.Start
 entry c = c .before .before .before .before .before .before
 
-abbrev start : tie.After-keep-unlike-arg3 → tie.Start
+abbrev start : tie.After-keep-dissimilar-arg3 → tie.Start
 start c = entry (c .before .before .before .before .before)
 
-abbrev made : tie.After-drop-set-arg3 → tie.After-keep-unlike
+abbrev made : tie.After-drop-set-arg3 → tie.After-keep-dissimilar
 made c = c .before .before .before .before .before
 
 abbrev dropped : tie.After-struct-known3 → tie.After-drop-set
@@ -48,17 +48,17 @@ part-edges-start c = omega arith
 part-edges-end : tie.Need-part-edges-end
 part-edges-end c = let r = facts (entry (c .before)) in omega (arith, r .length-of, r .fits .edges-to)
 
-keep-unlike-requires : tie.Need-keep-unlike-requires
-keep-unlike-requires c κs =
+keep-dissimilar-requires : tie.Need-keep-dissimilar-requires
+keep-dissimilar-requires c κs =
     let s = start c in
     let r = facts s in (
       r .fits .m-limit,
-      s .pre .3 .near-set .size,
+      s .pre .3 .short-set .size,
       s .pre .2,
       s .pre .3 .counted,
       omega (arith, r .fits .p-q, r .fits .q-limit),
       r .fits .q-limit,
-      near-ready (s .args .image .now) (s .args .h) (s .pre .0) (s .pre .1) (s .pre .3),
+      short-ready (s .args .image .now) (s .args .h) (s .pre .0) (s .pre .1) (s .pre .3),
     )
 
 drop-set-requires : tie.Need-drop-set-requires
@@ -66,10 +66,10 @@ drop-set-requires c κs =
     let m = made c in
     let s = start (m .before) in (
       facts s .fits .m-limit,
-      m .keep-unlike .ensures .size,
+      m .keep-dissimilar .ensures .size,
       s .pre .2,
       s .pre .3 .counted,
-      unlike-ready (s .args .image .now) (s .args .h) (s .pre .0) (s .pre .1) (s .pre .3) (m .keep-unlike .ensures),
+      dissimilar-ready (s .args .image .now) (s .args .h) (s .pre .0) (s .pre .1) (s .pre .3) (m .keep-dissimilar .ensures),
     )
 
 cast-mark-cores : tie.Need-cast-mark-cores
@@ -88,7 +88,7 @@ mark-cores-requires c κs =
     (omega (arith, s .pre .2 .1, d .drop-set .kept .1 .1 .1 .1 .0, facts s .fits .n-limit), facts s .fits .n-limit, s .pre .4)
 
 same-length : tie.Need-same-length
-same-length c = made (dropped (sized (marked c .before)) .before) .keep-unlike .kept .1 .1 .1 .1 .1 .1 .0
+same-length c = made (dropped (sized (marked c .before)) .before) .keep-dissimilar .kept .1 .1 .1 .1 .1 .1 .0
 
 same-length-2 : tie.Need-same-length-2
 same-length-2 c = dropped (sized (marked c .before)) .drop-set .kept .1 .1 .1 .0
@@ -105,7 +105,7 @@ returns c =
     let d = dropped (sized (k .before)) in
     let m = made (d .before) in
     let s = start (m .before) in
-    surveyed (s .args .image .now) (s .args .h) (s .pre .0) (s .pre .1) (s .pre .3) (m .keep-unlike .ensures) (d .drop-set .ensures .0) (d .drop-set .ensures .1)
+    surveyed (s .args .image .now) (s .args .h) (s .pre .0) (s .pre .1) (s .pre .3) (m .keep-dissimilar .ensures) (d .drop-set .ensures .0) (d .drop-set .ensures .1)
     (k .before .before .core-size .ensures) (k .mark-cores .ensures)
 
 pub keep-similar-spec : {M : Type 1} → statement M
@@ -119,7 +119,7 @@ keep-similar-spec =
     sub-edges
     part-edges-start
     part-edges-end
-    keep-unlike-requires
+    keep-dissimilar-requires
     drop-set-requires
     cast-mark-cores
     core-size-requires

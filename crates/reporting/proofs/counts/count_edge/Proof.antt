@@ -20,8 +20,8 @@ abbrev μ-loop : tie.MeasureT-loop
 abbrev turn : tie.After-add-bits-arg Inv-loop μ-loop → tie.At-loop Inv-loop μ-loop
 turn c = c .before .before .before .before
 
-abbrev tied : tie.After-add-bits-arg2 Inv-loop μ-loop → tie.After-add-bits Inv-loop μ-loop
-tied c = c .before .before .before
+abbrev joined : tie.After-add-bits-arg2 Inv-loop μ-loop → tie.After-add-bits Inv-loop μ-loop
+joined c = c .before .before .before
 
 abbrev left : tie.After-slice-known3 Inv-loop μ-loop → tie.After-add-bits2 Inv-loop μ-loop
 left c = c .before .before
@@ -79,8 +79,8 @@ add-add-bits c = omega arith
 
 add-bits-requires-2 : tie.Need-add-bits-requires-2 Inv-loop μ-loop
 add-bits-requires-2 c κs =
-    let at-loop = turn (tied c .before) in
-    let raised = tied c .add-bits .ensures in
+    let at-loop = turn (joined c .before) in
+    let raised = joined c .add-bits .ensures in
     let j : ℕ = at-loop .loop .j in (
       omega (arith, raised .size, at-loop .loop .inv .1 .size),
       (λ k h. omega (arith, raised-le raised (512 + 64 * j + k), low at-loop (512 + 64 * j + k) (omega arith))),
@@ -94,7 +94,7 @@ loop-less c = omega arith
 
 loop-again : tie.Need-loop-again Inv-loop μ-loop
 loop-again c =
-    let t = tied (left c .before) in
+    let t = joined (left c .before) in
     let at-loop = turn (t .before) in
     let a = at-loop .before .before .before .args in (
       omega arith,

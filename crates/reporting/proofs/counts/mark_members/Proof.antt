@@ -5,13 +5,13 @@ use Prim.Native.Nat.{_-_, _≤_}
 use denote.Ref.{now}
 use lib.ListN.{length, getD, take}
 use lib.Seq.{take-all}
-use Rattle.reporting.specs.Held.{Joined}
+use Rattle.reporting.specs.Held.{GroupAdded}
 use Rattle.reporting.proofs.Tallying.{joined-none, joined-more}
 use Rattle.reporting.proofs.counts.mark_members.Statement.{statement}
 use Rattle.reporting.proofs.counts.mark_members.Tie as tie
 
 abbrev Inv-loop : tie.InvT-loop
-Inv-loop rows₀ list k i₀ rows i = (i ≤ length list) × Joined rows₀ (take i list) k rows
+Inv-loop rows₀ list k i₀ rows i = (i ≤ length list) × GroupAdded rows₀ (take i list) k rows
 
 abbrev μ-loop : tie.MeasureT-loop
 μ-loop rows₀ list k i₀ rows i = length list - i

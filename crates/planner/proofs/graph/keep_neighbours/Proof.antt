@@ -1,9 +1,9 @@
--- `planner::graph::keep_near` meets its contract. The parts handed on are the records of the image, so the edges dropped are just those whose ends are not
+-- `planner::graph::keep_neighbours` meets its contract. The parts handed on are the records of the image, so the edges dropped are just those whose ends are not
 -- within gamma; without them the table of all edges is that of the neighbour relation.
 use native.Mathlib.Omega.{arith}
-use Rattle.planner.proofs.GraphLaws.{Read, header-is, checked-of, handsetPart-length, edges-ready, handsets-there, near-kept}
-use Rattle.planner.proofs.graph.keep_near.Statement.{statement}
-use Rattle.planner.proofs.graph.keep_near.Tie as tie
+use Rattle.planner.proofs.GraphLaws.{Read, header-is, checked-of, handsetPart-length, edges-ready, handsets-there, neighbours-kept}
+use Rattle.planner.proofs.graph.keep_neighbours.Statement.{statement}
+use Rattle.planner.proofs.graph.keep_neighbours.Tie as tie
 
 -- ---- the places that the answers speak of: the header's numbers are read; the edges are dropped; the table is back
 abbrev entry : tie.After-struct-known → tie.Start
@@ -12,10 +12,10 @@ entry c = c .before .before .before .before .before
 abbrev start : tie.After-struct-known4 → tie.Start
 start c = entry (c .before .before .before)
 
-abbrev read : tie.After-drop-far-arg5 → tie.After-struct-known4
+abbrev read : tie.After-drop-long-arg5 → tie.After-struct-known4
 read c = c .before .before .before .before .before
 
-abbrev done : tie.After-slice-known6 → tie.After-drop-far
+abbrev done : tie.After-slice-known6 → tie.After-drop-long
 done c = c .before .before .before .before .before .before
 
 facts : (c : tie.Start) → Read (c .args .image .now) (c .args .h)
@@ -45,26 +45,26 @@ mul-to c = omega arith
 add-to : tie.Need-add-to
 add-to c = omega arith
 
-sub-drop-far : tie.Need-sub-drop-far
-sub-drop-far c = omega arith
+sub-drop-long : tie.Need-sub-drop-long
+sub-drop-long c = omega arith
 
-part-drop-far-start : tie.Need-part-drop-far-start
-part-drop-far-start c = omega arith
+part-drop-long-start : tie.Need-part-drop-long-start
+part-drop-long-start c = omega arith
 
-part-drop-far-end : tie.Need-part-drop-far-end
-part-drop-far-end c = let r = facts (start c) in omega (arith, r .length-of, r .fits .handsets-to)
+part-drop-long-end : tie.Need-part-drop-long-end
+part-drop-long-end c = let r = facts (start c) in omega (arith, r .length-of, r .fits .handsets-to)
 
-sub-drop-far-2 : tie.Need-sub-drop-far-2
-sub-drop-far-2 c = omega arith
+sub-drop-long-2 : tie.Need-sub-drop-long-2
+sub-drop-long-2 c = omega arith
 
-part-drop-far-start-2 : tie.Need-part-drop-far-start-2
-part-drop-far-start-2 c = omega arith
+part-drop-long-start-2 : tie.Need-part-drop-long-start-2
+part-drop-long-start-2 c = omega arith
 
-part-drop-far-end-2 : tie.Need-part-drop-far-end-2
-part-drop-far-end-2 c = let r = facts (start (c .before)) in omega (arith, r .length-of, r .fits .edges-to)
+part-drop-long-end-2 : tie.Need-part-drop-long-end-2
+part-drop-long-end-2 c = let r = facts (start (c .before)) in omega (arith, r .length-of, r .fits .edges-to)
 
-drop-far-requires : tie.Need-drop-far-requires
-drop-far-requires c κs =
+drop-long-requires : tie.Need-drop-long-requires
+drop-long-requires c κs =
     let s = start (read c) in
     let a = s .args in
     let r = facts s in (
@@ -77,23 +77,23 @@ drop-far-requires c κs =
     )
 
 same-length : tie.Need-same-length
-same-length c = done c .drop-far .kept .1 .1 .1 .1 .0
+same-length c = done c .drop-long .kept .1 .1 .1 .1 .0
 
 same-length-2 : tie.Need-same-length-2
-same-length-2 c = done c .drop-far .kept .1 .1 .1 .1 .1 .0
+same-length-2 c = done c .drop-long .kept .1 .1 .1 .1 .1 .0
 
 same-length-3 : tie.Need-same-length-3
-same-length-3 c = done c .drop-far .kept .1 .1 .1 .1 .1 .1 .0
+same-length-3 c = done c .drop-long .kept .1 .1 .1 .1 .1 .1 .0
 
 returns : tie.Need-returns
 returns c =
     let d = done c in
     let s = start (read (d .before)) in
-    let e = d .drop-far .ensures in
-    near-kept (s .args .image .now) (s .args .h) (s .pre .0) (s .pre .1) (s .pre .4) (e .0) (e .1 .0) (e .1 .1)
+    let e = d .drop-long .ensures in
+    neighbours-kept (s .args .image .now) (s .args .h) (s .pre .0) (s .pre .1) (s .pre .4) (e .0) (e .1 .0) (e .1 .1)
 
-pub keep-near-spec : {M : Type 1} → statement M
-keep-near-spec =
+pub keep-neighbours-spec : {M : Type 1} → statement M
+keep-neighbours-spec =
     tie.close
     (tie.spec
     cast-m
@@ -104,13 +104,13 @@ keep-near-spec =
     cast-to
     mul-to
     add-to
-    sub-drop-far
-    part-drop-far-start
-    part-drop-far-end
-    sub-drop-far-2
-    part-drop-far-start-2
-    part-drop-far-end-2
-    drop-far-requires
+    sub-drop-long
+    part-drop-long-start
+    part-drop-long-end
+    sub-drop-long-2
+    part-drop-long-start-2
+    part-drop-long-end-2
+    drop-long-requires
     same-length
     same-length-2
     same-length-3

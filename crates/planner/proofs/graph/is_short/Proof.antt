@@ -1,4 +1,4 @@
--- `planner::graph::near` meets its contract: the parts handed on are the records of the two ends.
+-- `planner::graph::is_short` meets its contract: the parts handed on are the records of the two ends.
 use Prim.Native.Nat.{ℕ}
 use native.Mathlib.Omega.{arith}
 use mathlib.Core.Path.{ap₂, _∙_}
@@ -6,8 +6,8 @@ use mathlib.Core.List.{List}
 use lib.Dec.{leb}
 use Rattle.image.specs.Image.{distanceBetween}
 use Rattle.image.proofs.Records.{handset-part}
-use Rattle.planner.proofs.graph.near.Statement.{statement}
-use Rattle.planner.proofs.graph.near.Tie as tie
+use Rattle.planner.proofs.graph.is_short.Statement.{statement}
+use Rattle.planner.proofs.graph.is_short.Tie as tie
 
 mul-a : tie.Need-mul-a
 mul-a c = omega arith
@@ -48,8 +48,8 @@ returns c =
     c .within .ensures
     ∙ ap₂ (λ (x y : List ℕ). leb (distanceBetween x y) (a .limit)) (handset-part (a .handsets .now) (a .e .a)) (handset-part (a .handsets .now) (a .e .b))
 
-pub near-spec : {M : Type 1} → statement M
-near-spec =
+pub is-short-spec : {M : Type 1} → statement M
+is-short-spec =
     tie.close
     (tie.spec
     mul-a

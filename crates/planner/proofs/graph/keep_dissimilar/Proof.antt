@@ -1,4 +1,4 @@
--- `planner::graph::keep_unlike` meets its contract. The first j words have those of their edges that do not have enough, and the others are as before. The
+-- `planner::graph::keep_dissimilar` meets its contract. The first j words have those of their edges that do not have enough, and the others are as before. The
 -- measure is how many words are left.
 use Prim.Native.Nat.{ℕ, _*_, _+_, _-_, _≤_, _<_, _^_}
 use native.Mathlib.Omega.{arith}
@@ -13,8 +13,8 @@ use Rattle.image.specs.Image.{endA, endB}
 use Rattle.planner.specs.Held.{EdgeSet, enough}
 use Rattle.planner.proofs.Words.{word-at, partly, partly-start, partly-on, partly-end}
 use Rattle.planner.proofs.Edges.{word-passes}
-use Rattle.planner.proofs.graph.keep_unlike.Statement.{statement}
-use Rattle.planner.proofs.graph.keep_unlike.Tie as tie
+use Rattle.planner.proofs.graph.keep_dissimilar.Statement.{statement}
+use Rattle.planner.proofs.graph.keep_dissimilar.Tie as tie
 
 abbrev Inv-loop : tie.InvT-loop
 Inv-loop edges table sizes m p q set₀ j₀ set j = (j ≤ 64) × EdgeSet set (partly set₀ (λ k. not (enough table sizes p q (endA edges k) (endB edges k))) j)
@@ -43,14 +43,14 @@ mul-loop c = omega (arith, c .loop .inv .0)
 low : (c : tie.In-loop Inv-loop μ-loop) → c .before .loop .j < 64
 low c = omega (arith, c .loop-test .taken, start (c .before) .pre .0)
 
-mul-unlike-word : tie.Need-mul-unlike-word Inv-loop μ-loop
-mul-unlike-word c = omega (arith, low c)
+mul-dissimilar-word : tie.Need-mul-dissimilar-word Inv-loop μ-loop
+mul-dissimilar-word c = omega (arith, low c)
 
-slice-read-unlike-word : tie.Need-slice-read-unlike-word Inv-loop μ-loop
-slice-read-unlike-word c = omega (arith, low (c .before), loop c .loop .inv .1 .size)
+slice-read-dissimilar-word : tie.Need-slice-read-dissimilar-word Inv-loop μ-loop
+slice-read-dissimilar-word c = omega (arith, low (c .before), loop c .loop .inv .1 .size)
 
-mul-unlike-word-2 : tie.Need-mul-unlike-word-2 Inv-loop μ-loop
-mul-unlike-word-2 c = omega (arith, low (c .before))
+mul-dissimilar-word-2 : tie.Need-mul-dissimilar-word-2 Inv-loop μ-loop
+mul-dissimilar-word-2 c = omega (arith, low (c .before))
 
 -- the word that is read has edges of the set
 word : (c : tie.After-slice-known2 Inv-loop μ-loop)
@@ -63,8 +63,8 @@ word c =
           (λ i h. let p : j * 64 + i ≡ 64 * j + i = omega arith in ap (bitAt (l .set)) p ∙ l .inv .1 .bits (64 * j + i) (omega (arith, low (c .before)))),
     )
 
-unlike-word-requires : tie.Need-unlike-word-requires Inv-loop μ-loop
-unlike-word-requires c κs =
+dissimilar-word-requires : tie.Need-dissimilar-word-requires Inv-loop μ-loop
+dissimilar-word-requires c κs =
     let s = start (loop c) in
     let l = loop c .loop in
     let set = s .args .set .now in (
@@ -94,7 +94,7 @@ loop-again : tie.Need-loop-again Inv-loop μ-loop
 loop-again c =
     let m = loop (c .before) in
     let l = m .loop in
-    (omega (arith, low (c .before .before)), partly-on (start m .args .set .now) (test m) (l .j) (c .unlike-word .result) (low (c .before .before)) (l .inv .1) (c .unlike-word .ensures))
+    (omega (arith, low (c .before .before)), partly-on (start m .args .set .now) (test m) (l .j) (c .dissimilar-word .result) (low (c .before .before)) (l .inv .1) (c .dissimilar-word .ensures))
 
 same-length : tie.Need-same-length Inv-loop μ-loop
 same-length c = c .before .loop .inv .1 .size ∙ sym (start (c .before) .pre .1)
@@ -104,18 +104,18 @@ returns c =
     let s = start (c .before) in
     partly-end (s .args .set .now) (test (c .before)) (s .args .m) (c .before .loop .j) (omega (arith, c .loop-test .left)) (λ k e. s .pre .6 k e .0) (c .before .loop .inv .1)
 
-pub keep-unlike-spec : {M : Type 1} → statement M
-keep-unlike-spec =
+pub keep-dissimilar-spec : {M : Type 1} → statement M
+keep-dissimilar-spec =
     tie.close
     (tie.spec
     Inv-loop
     μ-loop
     loop-holds
     mul-loop
-    mul-unlike-word
-    slice-read-unlike-word
-    mul-unlike-word-2
-    unlike-word-requires
+    mul-dissimilar-word
+    slice-read-dissimilar-word
+    mul-dissimilar-word-2
+    dissimilar-word-requires
     mul-set
     slice-write-set
     add-j

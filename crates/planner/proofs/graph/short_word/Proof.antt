@@ -1,4 +1,4 @@
--- `planner::graph::near_word` meets its contract. After k edges the word has those of them that are near: a turn puts the bit of one more. The measure is how
+-- `planner::graph::short_word` meets its contract. After k edges the word has those of them that are near: a turn puts the bit of one more. The measure is how
 -- many are left.
 use Prim.Native.Nat.{ℕ, _+_, _-_, _/_, _≤_}
 use native.Mathlib.Omega.{arith}
@@ -11,13 +11,13 @@ use Rattle.sets.specs.Below.{bit}
 use Rattle.sets.specs.Rows.{WordOf}
 use Rattle.fields.specs.Fields.{handsetBytes}
 use Rattle.image.specs.Image.{handsetRecord, distanceBetween}
-use Rattle.planner.specs.Held.{HasEnds, isNear}
+use Rattle.planner.specs.Held.{HasEnds, isShort}
 use Rattle.planner.proofs.Words.{passed-none, passed-new, passed-self, passed-other, word-none, word-put}
-use Rattle.planner.proofs.graph.near_word.Statement.{statement}
-use Rattle.planner.proofs.graph.near_word.Tie as tie
+use Rattle.planner.proofs.graph.short_word.Statement.{statement}
+use Rattle.planner.proofs.graph.short_word.Tie as tie
 
 abbrev Inv-loop : tie.InvT-loop
-Inv-loop handsets edges base count limit word₀ k₀ word k = (k ≤ count) × WordOf word (λ i. ltb i k && isNear handsets edges limit (base + i))
+Inv-loop handsets edges base count limit word₀ k₀ word k = (k ≤ count) × WordOf word (λ i. ltb i k && isShort handsets edges limit (base + i))
 
 abbrev μ-loop : tie.MeasureT-loop
 μ-loop handsets edges base count limit word₀ k₀ word k = count - k
@@ -32,12 +32,12 @@ loop c = c .before .before .before .before
 
 -- the test of an edge
 abbrev test : tie.At-loop Inv-loop μ-loop → ℕ → Bool
-test c i = let a = start c .args in isNear (a .handsets .now) (a .edges .now) (a .limit) (a .base + i)
+test c i = let a = start c .args in isShort (a .handsets .now) (a .edges .now) (a .limit) (a .base + i)
 
 loop-holds : tie.Need-loop-holds Inv-loop μ-loop
 loop-holds c =
     let a = c .before .before .args in
-    let f : ℕ → Bool = λ i. isNear (a .handsets .now) (a .edges .now) (a .limit) (a .base + i) in
+    let f : ℕ → Bool = λ i. isShort (a .handsets .now) (a .edges .now) (a .limit) (a .base + i) in
     (omega arith, word-none (λ i. ltb i 0 && f i) (λ i. passed-none i (f i)))
 
 add-ends-at : tie.Need-add-ends-at Inv-loop μ-loop
@@ -50,8 +50,8 @@ edge c = start (c .before) .pre .3 (c .before .loop .k) (c .loop-test .taken)
 ends-at-requires : tie.Need-ends-at-requires Inv-loop μ-loop
 ends-at-requires c κs = (edge c .0, edge c .1)
 
-near-requires : tie.Need-near-requires Inv-loop μ-loop
-near-requires c κs =
+is-short-requires : tie.Need-is-short-requires Inv-loop μ-loop
+is-short-requires c κs =
     let e = edge (c .before) in
     let r = c .ends-at .ensures in
     let n = start (c .before .before) .pre .2 in
@@ -63,7 +63,7 @@ told c =
     let a = start (loop c) .args in
     let r = c .before .before .ends-at .ensures in
     let e =
-    c .before .near .ensures
+    c .before .is-short .ensures
     ∙ ap₂ (λ (u v : ℕ). leb (distanceBetween (handsetRecord (a .handsets .now) u) (handsetRecord (a .handsets .now) v)) (a .limit)) (r .0) (r .1) in
     ⊎-elim (λ w. w .1 ∙ ap bit (sym (w .0 .taken) ∙ e)) (λ w. w .1 ∙ ap bit (sym (w .0 .left) ∙ e)) (c .if1 .came)
 
@@ -93,8 +93,8 @@ returns c =
     let e : l .k ≡ start (c .before) .args .count = omega (arith, l .inv .0, c .loop-test .left) in
     rw (← e) (l .inv .1)
 
-pub near-word-spec : {M : Type 1} → statement M
-near-word-spec =
+pub short-word-spec : {M : Type 1} → statement M
+short-word-spec =
     tie.close
     (tie.spec
     Inv-loop
@@ -102,7 +102,7 @@ near-word-spec =
     loop-holds
     add-ends-at
     ends-at-requires
-    near-requires
+    is-short-requires
     shl-word
     add-k
     loop-less

@@ -1,4 +1,4 @@
--- `planner::graph::unlike_word` meets its contract. The word made has the bits that are no longer in w and whose edges do not have enough: a turn looks at the
+-- `planner::graph::dissimilar_word` meets its contract. The word made has the bits that are no longer in w and whose edges do not have enough: a turn looks at the
 -- edge of the lowest set bit and clears the bit. The measure is how many bits are left.
 use Prim.Native.Nat.{ℕ, _+_, _<_}
 use native.Mathlib.Omega.{arith}
@@ -14,14 +14,14 @@ use Rattle.image.specs.Image.{endA, endB}
 use Rattle.planner.specs.Held.{HasEnds, enough}
 use Rattle.planner.proofs.Words.{Filtering, filtering-start, filtering-on, filtering-end}
 use Rattle.planner.proofs.Edges.{word-in-at}
-use Rattle.planner.proofs.graph.unlike_word.Statement.{statement}
-use Rattle.planner.proofs.graph.unlike_word.Tie as tie
+use Rattle.planner.proofs.graph.dissimilar_word.Statement.{statement}
+use Rattle.planner.proofs.graph.dissimilar_word.Tie as tie
 
 abbrev Inv-loop : tie.InvT-loop
-Inv-loop edges word base table sizes p q w₀ unlike₀ w unlike = Filtering word (λ k. not (enough table sizes p q (endA edges (base + k)) (endB edges (base + k)))) w unlike
+Inv-loop edges word base table sizes p q w₀ dissimilar₀ w dissimilar = Filtering word (λ k. not (enough table sizes p q (endA edges (base + k)) (endB edges (base + k)))) w dissimilar
 
 abbrev μ-loop : tie.MeasureT-loop
-μ-loop edges word base table sizes p q w₀ unlike₀ w unlike = sum 64 (bitOf w)
+μ-loop edges word base table sizes p q w₀ dissimilar₀ w dissimilar = sum 64 (bitOf w)
 
 -- ---- the places that the answers speak of
 abbrev start : tie.At-loop Inv-loop μ-loop → tie.Start Inv-loop μ-loop
@@ -80,11 +80,11 @@ told c =
     (λ w. w .1 ∙ ap (λ (b : Bool). bit (not b)) (sym (w .0 .left) ∙ e))
     (c .if1 .came)
 
-cast-unlike : tie.Need-cast-unlike Inv-loop μ-loop
-cast-unlike c = omega (arith, first (turn c) .0)
+cast-dissimilar : tie.Need-cast-dissimilar Inv-loop μ-loop
+cast-dissimilar c = omega (arith, first (turn c) .0)
 
-shl-unlike : tie.Need-shl-unlike Inv-loop μ-loop
-shl-unlike c = omega (arith, first (turn (c .before)) .0)
+shl-dissimilar : tie.Need-shl-dissimilar Inv-loop μ-loop
+shl-dissimilar c = omega (arith, first (turn (c .before)) .0)
 
 cast-w : tie.Need-cast-w Inv-loop μ-loop
 cast-w c = omega (arith, first (turn (c .before)) .0)
@@ -105,8 +105,8 @@ loop-again c =
 returns : tie.Need-returns Inv-loop μ-loop
 returns c = filtering-end (start (c .before) .args .word) (test (c .before)) (omega (arith, c .loop-test .left)) (c .before .loop .inv)
 
-pub unlike-word-spec : {M : Type 1} → statement M
-unlike-word-spec =
+pub dissimilar-word-spec : {M : Type 1} → statement M
+dissimilar-word-spec =
     tie.close
     (tie.spec
     Inv-loop
@@ -116,8 +116,8 @@ unlike-word-spec =
     add-ends-at
     ends-at-requires
     have-enough-requires
-    cast-unlike
-    shl-unlike
+    cast-dissimilar
+    shl-dissimilar
     cast-w
     shl-w
     loop-less
