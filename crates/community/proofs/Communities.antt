@@ -1,7 +1,7 @@
 -- A set is one of the listed communities exactly when it is a community by its definition.
 use Prim.Native.Nat.{ℕ, _≤_, _<_}
 use native.Mathlib.Omega.{arith}
-use mathlib.Core.Path.{_≡_}
+use mathlib.Core.Path.{_≡_, sym, subst}
 use mathlib.Core.Logic.{⊎-elim, _↔_}
 use mathlib.Core.Bool.{Bool, not}
 use mathlib.Core.List.{[], List·Memᴰ}
@@ -12,7 +12,7 @@ use Rattle.sets.proofs.Tests.{and-make, and-left, and-right, any-make, any-take
 use Rattle.sets.proofs.Selecting.{mem-select, select-mem, mem-at, map-at, select-passes, select-below, select-ascends}
 use Rattle.community.specs.Network.{Network, isCore, Reachable, IsCommunity, reachable, isLeader, leaders, members, communities}
 use Rattle.community.proofs.Reachability.{Reachable-trans, from-below, to-below, reachable-sound, reachable-complete}
-use Rattle.community.specs.Network.{Sound}
+use Rattle.community.specs.Held.{Sound}
 use Rattle.community.proofs.Similarity.{reaches-core, core-self, Reachable-back}
 
 -- P has just the members of the k-th listed community
@@ -142,7 +142,14 @@ module _ {g : Network} (ok : Sound g) where
   pub exactly : (P : ℕ → Type 0) → IsCommunity g P ↔ ((k : ℕ) × ListedAt g P k)
   exactly P = (community-listed P, (λ l. listed-community P (l .0) (l .1)))
 
-  -- each core is in one listed community only
+  -- each core is in a listed community
+  pub core-listed : (c : ℕ) → c < g .n → T (isCore g c) → (k : ℕ) × (k < length (communities g)) × List·Memᴰ c (getD (communities g) k [])
+  core-listed c h t =
+      let l = leader-of ok c h t in
+      let p = leader-place g (l .0) (from-below (l .2)) (l .1) in
+      (p .0, p .1, reachable-member g (p .0) c (p .1) (subst (λ (u : ℕ). Reachable g u c) (sym (p .2)) (l .2)))
+
+  -- and in one only
   pub core-once : (c i j : ℕ) → T (isCore g c) → i < length (communities g) → j < length (communities g)
       → List·Memᴰ c (getD (communities g) i []) → List·Memᴰ c (getD (communities g) j []) → i ≡ j
   core-once c i j t h k a b =

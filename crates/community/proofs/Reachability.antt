@@ -5,13 +5,14 @@
 --     chain-meet              two chains that meet below the bound are one
 --     chain-least             what holds of steps and is transitive holds of chains
 --     reachable-sound         the test passes only where there is a chain of steps; reachable-complete: and wherever there is one
+--     reachable-test          both, as specs/Network states it
 use Prim.Native.Nat.{ℕ, zero, suc, _≤_, _<_}
 use native.Mathlib.Omega.{arith}
 use mathlib.Core.Logic.{_⊎_, inl, inr, ⊎-elim}
 use mathlib.Core.Bool.{Bool, _&&_}
 use lib.Dec.{T}
 use Rattle.sets.proofs.Tests.{and-make, and-left, and-right, or-left, or-right, or-cases, below}
-use Rattle.community.specs.Network.{Network, step, Reachable, one, more, chain, reachable}
+use Rattle.community.specs.Network.{Network, step, Reachable, one, more, chain, reachable, ReachableTest}
 
 pub Reachable-trans : {g : Network} {u v w : ℕ} → Reachable g u v → Reachable g v w → Reachable g u w
 Reachable-trans r (one a b t) = more r b t
@@ -102,3 +103,6 @@ pub reachable-complete : (g : Network) {u v : ℕ} → Reachable g u v → T (re
 unfolding reachable
 reachable-complete g (one {u} {v} a b t) = chain-step (step g) (g .n) u v t
 reachable-complete g (more {u} {v} {w} r b t) = chain-meet (step g) (g .n) v (to-below r) u w (reachable-complete g r) (chain-step (step g) (g .n) v w t)
+
+pub reachable-test : ReachableTest
+reachable-test = record { exactly = λ g u v a b. (reachable-sound g u v a b, reachable-complete g) }

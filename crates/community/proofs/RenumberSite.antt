@@ -30,7 +30,7 @@ use Rattle.community.specs.Network.{Network, IsCommunity, isLeader, reac
 use Rattle.community.specs.Tables.{memberTable}
 use Rattle.community.specs.Site.{network}
 use Rattle.community.specs.Renumbered.{Renumbered, SamePair, NumberedBack, SameRole}
-use Rattle.community.specs.Network.{Sound}
+use Rattle.community.specs.Held.{Sound}
 use Rattle.community.proofs.Site.{network-sound, accepted-sound}
 use Rattle.community.proofs.Edges.{joins-make, joins-take, pair-sym, pair-trans, pair-map, pair-back}
 use Rattle.community.proofs.Bound.{memberships}

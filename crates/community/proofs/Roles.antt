@@ -16,7 +16,7 @@ use Rattle.community.specs.Network.{Network, isCore, reachable, isLeader
 use Rattle.community.specs.declared.Role.the-variants.{Core}
 use Rattle.community.specs.Renumbered.{SameRole}
 use Rattle.community.specs.Renumbered.SameRole.{both-core, both-border, both-outlier}
-use Rattle.community.specs.Network.{Sound}
+use Rattle.community.specs.Held.{Sound}
 use Rattle.community.proofs.Communities.{core-once}
 use Rattle.community.proofs.Renumber.{withNeighbour, Moved, leadersReaching, core-moved, leadersReaching-moved}
 

@@ -8,7 +8,8 @@ use lib.Dec.{T, leb, le→leb, leb→le}
 use Rattle.sets.proofs.Tests.{and-make, and-left, and-right, and-comm, any-take}
 use Rattle.sets.proofs.Counting.{count-cong, count-some}
 use Rattle.sets.specs.Below.{count}
-use Rattle.community.specs.Network.{Network, Sound, neighbourhoodSize, commonNeighbours, meetsEpsilon, similar, isCore, step, Reachable, one, more}
+use Rattle.community.specs.Network.{Network, neighbourhoodSize, commonNeighbours, meetsEpsilon, similar, isCore, step, Reachable, one, more}
+use Rattle.community.specs.Held.{Sound}
 use Rattle.community.proofs.Reachability.{Reachable-trans, to-below}
 
 and-same : (a : Bool) → (a && a) ≡ a

@@ -13,7 +13,7 @@ use Rattle.image.specs.Questions.{Accepted, headerOf}
 use Rattle.image.proofs.Edges.{joins-comm}
 use Rattle.image.proofs.Acceptance.{accepted-fits}
 use Rattle.community.specs.Site.{network}
-use Rattle.community.specs.Network.{Sound}
+use Rattle.community.specs.Held.{Sound}
 
 gap-comm : (a b : ℕ) → gap a b ≡ gap b a
 gap-comm a b = omega arith

@@ -1,4 +1,5 @@
 pub mod Network
+pub mod Held
 pub mod Tables
 pub mod Scores
 pub mod Site

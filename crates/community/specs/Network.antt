@@ -1,19 +1,19 @@
 -- The density-based communities of a network (source document 003, 3.2 to 3.12; paper 01, "Near, alike, core" and "Reached, and the groups").
 --
---     Sound g                   what holds of the network of an accepted image
 --     neighbourhoodSize g u     the size of u's neighbourhood, u included (paper 01: of its near set)
 --     commonNeighbours g u v    how many are in both neighbourhoods
 --     similar g u v             neighbours with c² q² ≥ p² a b (paper 01: alike)
 --     isCore g u                at least mu handsets, u among them, are similar to u
 --     Reachable g u v           a chain of one or more steps from u to v, each from a core to a handset similar to it (paper 01: reached)
---     reachable g u v           the same as a test (proofs/Reachability: it passes exactly when there is a chain)
+--     reachable g u v           the same as a test
+--     ReachableTest             the theorem: the test passes exactly when there is a chain (proved in proofs/Reachability)
 --     IsCommunity g P           P is a community: it has a core, each two members are reachable from some one handset, and it is closed (paper 01: a group)
 --     communities g             the communities by their smallest core, the members of each ascending (proofs/Communities: listed exactly when IsCommunity)
 --     role g v                  core with its community's number, border with the count of its communities, or outlier
-use Prim.Native.Nat.{ℕ, zero, suc, _+_, _*_, _≤_, _<_}
-use mathlib.Core.Path.{_≡_}
+use Prim.Native.Nat.{ℕ, zero, suc, _+_, _*_, _<_}
 use mathlib.Core.Bool.{Bool, false, _&&_, _||_, not, cond}
 use mathlib.Core.List.{List, [], _∷_, map}
+use mathlib.Core.Logic.{_↔_}
 use lib.Dec.{leb, eqb, T}
 use Rattle.sets.specs.Below.{any, count, select, bit}
 use Rattle.community.specs.declared.Role.{Role}
@@ -26,13 +26,6 @@ pub record Network : Type 0 where
   pub p : ℕ
   pub q : ℕ
   pub mu : ℕ
-
--- what an accepted image makes sure of: whoever has a neighbour is its own neighbour, the relation is symmetric, epsilon is at most 1, mu is not 0
-pub record Sound (g : Network) : Type 0 where
-  pub neighbour-self : (u v : ℕ) → T (g .neighbour u v) → T (g .neighbour u u)
-  pub neighbour-sym : (u v : ℕ) → g .neighbour u v ≡ g .neighbour v u
-  pub at-most-one : g .p ≤ g .q
-  pub mu-some : 1 ≤ g .mu
 
 unfoldable pub neighbourhoodSize : Network → ℕ → ℕ
 unfolding count
@@ -76,6 +69,9 @@ chain st (suc k) u v = chain st k u v || (chain st k u k && chain st k k v)
 unfoldable pub reachable : Network → ℕ → ℕ → Bool
 unfolding chain step
 reachable g u v = chain (step g) (g .n) u v
+
+pub record ReachableTest : Type 0 where
+  pub exactly : (g : Network) (u v : ℕ) → u < g .n → v < g .n → T (reachable g u v) ↔ Reachable g u v
 
 -- the smallest core of its community: a core that no smaller handset reaches
 unfoldable pub isLeader : Network → ℕ → Bool

@@ -25,9 +25,11 @@ use Rattle.community.proofs.Bound.{memberships-bound}
 use Rattle.community.proofs.RenumberSite.{accepted-too, same-handsets, image-communities, image-memberships, image-roles, image-neighbours, community-numbered-back, community-numbered-on}
 use Rattle.tables.specs.Plan.{made, planned, planAnswer, byRoom, over, refusal}
 use Rattle.tables.proofs.Answers.{plan-same}
-use Rattle.planner.specs.Plan.{PlanCall, communitiesOf, planOf, startsAfter, membersAfter, planFor, tableFor, knownOf, knownFor, standing}
+use Rattle.planner.specs.Plan.{PlanCall, communitiesOf, planOf, startsAfter, membersAfter, planFor, tableFor, knownOf, knownFor, knownAnswer, standing}
+use Rattle.planner.proofs.Answers.{known-same}
 use Rattle.tables.specs.declared.Planned.{Planned}
 use Rattle.tables.specs.declared.Planned.the-variants as P
+use Rattle.planner.specs.declared.Known.{Known}
 use Rattle.planner.specs.declared.Known.the-variants.{Handset, Refused}
 use Rattle.demands.specs.Demand3 as D
 use Rattle.demands.specs.Demand3.{group, ListedAs, Plan, SameStanding, Again, LongEnough, Demand3}
@@ -102,6 +104,13 @@ module _ (s : List ℕ) (ok : Accepted s) (x y : List ℕ) where
   core-one v j k c hj hk a b =
       C.core-once (accepted-sound s ok) v j k c hj hk (subst (List·Memᴰ v) (at j hj) a) (subst (List·Memᴰ v) (at k hk) b)
 
+  core-some : (v : ℕ) → v < handsetCount s → T (isCore (network s) v)
+      → (k : ℕ) × (k < length (communitiesOf s)) × List·Memᴰ v (group (startTable (communitiesOf s) ++ x) (memberTable (communitiesOf s) ++ y) k)
+  unfolding communitiesOf
+  core-some v h c =
+      let l = C.core-listed (accepted-sound s ok) v h c in
+      (l .0, l .1, subst (List·Memᴰ v) (sym (at (l .0) (l .1))) (l .2))
+
   pub the-plan : Plan s (startTable (communitiesOf s) ++ x) (memberTable (communitiesOf s) ++ y) (length (communitiesOf s)) (length (memberTable (communitiesOf s)))
   unfolding communitiesOf
   the-plan = record {
@@ -113,6 +122,7 @@ module _ (s : List ℕ) (ok : Accepted s) (x y : List ℕ) where
         let d = C.exactly (accepted-sound s ok) P .1 (j, to-list P j a) in
         let c = d .has-core in
         core-one (c .0) j k (c .2) (a .place) (b .place) (a .same (c .0) .0 (c .1)) (b .same (c .0) .0 (c .1));
+    core-listed = core-some;
     core-once = core-one;
     bound = memberships-bound s ok;
   }
@@ -156,15 +166,16 @@ module _ (s t : List ℕ) (r : Renumbered s t) (ok : Accepted s) where
   ok-t : Accepted t
   ok-t = accepted-too s t r ok
 
-  standings : (v : ℕ) → v < handsetCount s → SameStanding (knownOf s v) (knownOf t (r .map .to v))
+  standings : (v : ℕ) → v < handsetCount s → (a b : Known) → knownAnswer a ≡ knownAnswer (knownOf s v) → knownAnswer b ≡ knownAnswer (knownOf t (r .map .to v))
+      → SameStanding a b
   unfolding standing
-  standings v h =
+  standings v h a b d e =
       let w : ℕ = r .map .to v in
       record {
         x = standing s v;
         y = standing t w;
-        first = known s v ok h;
-        second = known t w ok-t (subst (λ (n : ℕ). w < n) (sym (same-handsets s t r ok)) (r .map .to-below v h));
+        first = known-same _ _ d ∙ known s v ok h;
+        second = known-same _ _ e ∙ known t w ok-t (subst (λ (n : ℕ). w < n) (sym (same-handsets s t r ok)) (r .map .to-below v h));
         same-neighbours = sym (image-neighbours s t r ok v h);
         same-role = image-roles s t r ok v h;
       }

@@ -13,6 +13,7 @@ use Rattle.tables.specs.Plan.{made, over}
 use Rattle.planner.specs.Plan.{PlanCall, communitiesOf}
 use Rattle.lookup.specs.Lookup.{placed, membersOf, lookedOf}
 use Rattle.lookup.specs.declared.Looked.the-variants.{Found}
+use Rattle.lookup.proofs.Answers.{looked-same}
 use Rattle.lookup.proofs.Agreement.{placed-yes, looked-yes, members-slice}
 use Rattle.demands.specs.Lookup.{LookupOfPlan}
 use Rattle.demands.proofs.Demand3.{room-of, starts-made, members-made}
@@ -49,4 +50,4 @@ module _ (s ss ms ss′ ms′ : List ℕ) (g c k : ℕ) (ok : Accepted s) (call 
       ∙ ap (λ (l : List ℕ). Found (length l)) (part (communitiesOf s) _ _ k in-plan)
 
 pub lookup-of-plan : LookupOfPlan
-lookup-of-plan = record { members = group-found; found = none-refused }
+lookup-of-plan = record { members = group-found; found = λ s ss ms ss′ ms′ g c k ok call h a e. looked-same _ _ e ∙ none-refused s ss ms ss′ ms′ g c k ok call h }

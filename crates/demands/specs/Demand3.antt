@@ -1,5 +1,5 @@
 -- Demand 3 of the user, of the calls `plan` and `role`, through their contracts: `PlanCall` is what `plan` ensures of its answer and of both lent
--- tables, `knownOf` what `role` answers. The definitions of a community and of a renumbered image are those of crates/community. Proved in
+-- tables, and `role` ensures that its answer has the number, place and values of `knownOf`. The definitions of a community and of a renumbered image are those of crates/community. Proved in
 -- proofs/Demand3 as `demand3`.
 --
 -- "The plan of every accepted image, lent tables long enough for it, lists each community exactly once. A set of handsets is listed exactly when it
@@ -22,7 +22,7 @@ use Rattle.community.specs.Tables.{memberTable}
 use Rattle.community.specs.Site.{network}
 use Rattle.community.specs.Renumbered.{Renumbered, NumberedBack, SameRole}
 use Rattle.community.specs.declared.Standing.{Standing}
-use Rattle.planner.specs.Plan.{PlanCall, communitiesOf, knownOf}
+use Rattle.planner.specs.Plan.{PlanCall, communitiesOf, knownOf, knownAnswer}
 use Rattle.tables.specs.declared.Planned.{Planned}
 use Rattle.tables.specs.Plan.{made}
 use Rattle.planner.specs.declared.Known.{Known}
@@ -44,6 +44,8 @@ Listed ss ms g P = (k : ℕ) × ListedAs ss ms g P k
 pub record Plan (s ss ms : List ℕ) (g c : ℕ) : Type 1 where
   pub exactly : (P : ℕ → Type 0) → Listed ss ms g P ↔ IsCommunity (network s) P
   pub once : (P : ℕ → Type 0) (j k : ℕ) → ListedAs ss ms g P j → ListedAs ss ms g P k → j ≡ k
+  -- each core is in a group, and in one only
+  pub core-listed : (v : ℕ) → v < handsetCount s → T (isCore (network s) v) → (k : ℕ) × (k < g) × List·Memᴰ v (group ss ms k)
   pub core-once : (v j k : ℕ) → T (isCore (network s) v) → j < g → k < g → List·Memᴰ v (group ss ms j) → List·Memᴰ v (group ss ms k) → j ≡ k
   pub bound : c ≤ handsetCount s + 2 * edgeCount s
 
@@ -64,7 +66,8 @@ pub record Again (s t : List ℕ) (r : Renumbered s t) (ss₀ ms₀ ss ms : List
   pub same-sets : (ts us : List ℕ) (b : Planned) (ts′ us′ : List ℕ) → length ss₀ ≤ length ts → length ms₀ ≤ length us
       → PlanCall t ts us b ts′ us′
       → (P : ℕ → Type 0) → Listed ss ms g P ↔ ((k : ℕ) × (k < g) × ((v : ℕ) → P v ↔ NumberedBack (r .map) (λ w. List·Memᴰ w (group ts′ us′ k)) v))
-  pub same-roles : (v : ℕ) → v < handsetCount s → SameStanding (knownOf s v) (knownOf t (r .map .to v))
+  pub same-roles : (v : ℕ) → v < handsetCount s → (a b : Known) → knownAnswer a ≡ knownAnswer (knownOf s v) → knownAnswer b ≡ knownAnswer (knownOf t (r .map .to v))
+      → SameStanding a b
 
 -- tables ss and ms that are long enough for the image's plan
 abbrev pub LongEnough : List ℕ → List ℕ → List ℕ → Type 0

@@ -8,10 +8,12 @@ use Rattle.image.specs.Questions.{Accepted}
 use Rattle.planner.specs.Plan.{PlanCall, communitiesOf}
 use Rattle.tables.specs.Plan.{made}
 use Rattle.lookup.specs.Lookup.{membersOf, lookedOf}
+use Rattle.lookup.specs.Answers.{lookAnswer}
+use Rattle.lookup.specs.declared.Looked.{Looked}
 use Rattle.lookup.specs.declared.Looked.the-variants.{Found}
 
 pub record LookupOfPlan : Type 0 where
   pub members : (s ss ms ss′ ms′ : List ℕ) (g c k : ℕ) → Accepted s → PlanCall s ss ms (made g c) ss′ ms′ → k < g
       → membersOf ss′ ms′ k ≡ getD (communitiesOf s) k []
   pub found : (s ss ms ss′ ms′ : List ℕ) (g c k : ℕ) → Accepted s → PlanCall s ss ms (made g c) ss′ ms′ → k < g
-      → lookedOf ss′ ms′ k ≡ Found (length (getD (communitiesOf s) k []))
+      → (a : Looked) → lookAnswer a ≡ lookAnswer (lookedOf ss′ ms′ k) → a ≡ Found (length (getD (communitiesOf s) k []))

@@ -1,22 +1,26 @@
 -- What the fields of the image mean (paper 01, "The site image"), and how many bytes a record has.
 --
---     coordinateCount    how many coordinates a handset has, of four bytes each
+--     coordinateBytes    how many bytes a coordinate has
+--     coordinateCount    how many coordinates a handset has
 --     handsetBytes       how many bytes a handset's record has
 --     edgeBytes          how many bytes an edge's record has
 --     blankMu            what a blank mu, 0, means
 --     coreSize mu        how many handsets make a core: mu, or blankMu where it is blank
 --     shifted x          the coordinate that the four bytes of x hold, plus 2 ^ 31
 --     endsOf r           the two ends of an edge, from its record
-use Prim.Native.Nat.{ℕ, zero, suc, _+_, _%_}
+use Prim.Native.Nat.{ℕ, zero, suc, _+_, _*_, _%_}
 use mathlib.Core.List.{List}
 use Rattle.fields.specs.Bytes.{number}
 use Rattle.fields.specs.declared.Ends.{Ends}
+
+abbrev pub coordinateBytes : ℕ
+coordinateBytes = 4
 
 abbrev pub coordinateCount : ℕ
 coordinateCount = 2
 
 abbrev pub handsetBytes : ℕ
-handsetBytes = 8
+handsetBytes = coordinateBytes * coordinateCount
 
 abbrev pub edgeBytes : ℕ
 edgeBytes = 4

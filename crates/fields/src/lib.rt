@@ -7,12 +7,15 @@ ghost use Prim.Native.Nat.{_+_, _≤_, _<_};
 ghost use lib.Dec.{leb};
 ghost use lib.ListN.{length};
 ghost use Rattle.fields.specs.Bytes.{le, number};
-ghost use Rattle.fields.specs.Fields.{coreSize, shifted, endsOf};
+ghost use Rattle.fields.specs.Fields.{coordinateBytes, coreSize, shifted, endsOf};
 
-// How many coordinates a handset's record has, of four bytes each, and how many bytes that makes.
+// How many bytes a coordinate has.
+pub const COORDINATE_BYTES: usize = 4;
+
+// How many coordinates a handset's record has, and how many bytes that makes.
 pub const COORDINATES: usize = 2;
 
-pub const HANDSET_BYTES: usize = 8;
+pub const HANDSET_BYTES: usize = COORDINATE_BYTES * COORDINATES;
 
 // How many bytes an edge's record has.
 pub const EDGE_BYTES: usize = 4;
@@ -83,9 +86,9 @@ pub fn read8(s: &[u8], at: usize) -> u64
     }
 }
 
-// The coordinate in the four bytes at a place, plus 2 ^ 31, so that it is never negative.
+// The coordinate at a place, plus 2 ^ 31, so that it is never negative.
 pub fn coordinate(part: &[u8], at: usize) -> u64
-    ensures { λ r. ⌜ r ≡ shifted (number 4 (now (part .entry)) at) ⌝ }
+    ensures { λ r. ⌜ r ≡ shifted (number coordinateBytes (now (part .entry)) at) ⌝ }
 {
     (read4(part, at) as u64 + 2147483648) % 4294967296
 }

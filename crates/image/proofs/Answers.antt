@@ -4,7 +4,7 @@ use native.Mathlib.Omega.{arith}
 use mathlib.Core.Path.{_≡_, sym, ap, ap₂}
 use mathlib.Core.List.{List, [], _∷_}
 use lib.ListN.{getD}
-use Rattle.image.specs.Answers.{Answer, refused, given, openAnswer}
+use Rattle.image.specs.Answers.{Answer, refused, given, openAnswer, OneAnswer}
 use Rattle.image.specs.declared.Header.{Header}
 use Rattle.image.specs.declared.Refusal.{Refusal}
 use Rattle.image.specs.declared.Opened.{Opened}
@@ -46,3 +46,6 @@ open-same (Site h) (Site g) e =
 open-same (Site h) (Refused r) e = given-refused _ _ r e
 open-same (Refused r) (Site h) e = given-refused _ _ r (sym e)
 open-same (Refused r) (Refused q) e = ap Refused (refused-same r q e)
+
+pub one-answer : OneAnswer
+one-answer = record { opened = open-same }

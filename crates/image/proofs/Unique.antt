@@ -2,7 +2,7 @@
 -- table of 4096 words has the 64 bits of each among its cells.
 --
 --     table-one       tables of one relation are equal; sizes-one: and so are the sizes of one table
---     reading-one     two readings of one image are equal
+--     reading-one     two readings of one image are equal; one-reading: as specs/Rows states it
 use Prim.Native.Nat.{ℕ, _+_, _*_, _/_, _%_, _<_}
 use native.Mathlib.Omega.{arith}
 use native.Mathlib.Nat.{mod-lt, zero-lt-suc}
@@ -11,11 +11,11 @@ use mathlib.Core.Bool.{Bool}
 use mathlib.Core.List.{List}
 use lib.ListN.{length, getD}
 use lib.Seq.{ext-getD}
-use Rattle.sets.specs.Bits.{bitOf}
-use Rattle.sets.proofs.Words.{Words, word-one, word-cell}
+use Rattle.sets.specs.Bits.{bitOf, Words}
+use Rattle.sets.proofs.Words.{word-one, word-cell}
 use Rattle.image.specs.Questions.{openOf}
 use Rattle.sets.specs.Rows.{Table, Counted}
-use Rattle.image.specs.Rows.{Room, related, Reading}
+use Rattle.image.specs.Rows.{related, Reading, OneReading}
 use Rattle.image.specs.declared.Opened.{Opened}
 use Rattle.image.specs.declared.Opened.the-variants.{Site, Refused}
 use Rattle.image.proofs.Answers.{open-same}
@@ -50,3 +50,6 @@ reading-one s {a} {b} {rows} {sizes} {rows′} {sizes′} w w′ r r′ =
         let same : rows ≡ rows′ = table-one (related s) (r .room .0) (r′ .room .0) w w′ (r .held .table h e) (r′ .held .table h d) in
         (same, sizes-one (r .room .1) (r′ .room .1) (subst (λ (ws : List ℕ). Counted ws sizes) same (r .held .counted h e)) (r′ .held .counted h d))
     go (Refused x) e d = let c = r .cleared x e in let k = r′ .cleared x d in (c .0 ∙ sym (k .0), c .1 ∙ sym (k .1))
+
+pub one-reading : OneReading
+one-reading = record { same = λ s a b rows sizes rows′ sizes′ w w′ r r′. reading-one s w w′ r r′ }

@@ -4,9 +4,10 @@
 --     refused r       a refusal: its number and place, and no values
 --     given vs        nothing is refused, and these are the values
 --     openAnswer o    the reader's answer: the header's numbers in their order, or the refusal
---
--- proofs/Answers: two answers of the reader with the same number, place and values are the same.
+--     Injective f     two for which f gives the same are the same
+--     OneAnswer       the theorem: the number, place and values leave nothing of the reader's answer free (proved in proofs/Answers)
 use Prim.Native.Nat.{ℕ}
+use mathlib.Core.Path.{_≡_}
 use mathlib.Core.List.{List, [], _∷_}
 use Rattle.image.specs.declared.Refusal.{Refusal}
 use Rattle.image.specs.declared.Opened.{Opened}
@@ -26,3 +27,9 @@ given vs = record { number = 0; place = 0; values = vs }
 abbrev pub openAnswer : Opened → Answer
 openAnswer (Site h) = given (h .n ∷ h .m ∷ h .handsets ∷ h .edges ∷ h .len ∷ h .limit ∷ h .p ∷ h .q ∷ h .mu ∷ h .reserved ∷ [])
 openAnswer (Refused r) = refused r
+
+abbrev pub Injective : {A B : Type 0} → (A → B) → Type 0
+Injective {A} f = (a b : A) → f a ≡ f b → a ≡ b
+
+pub record OneAnswer : Type 0 where
+  pub opened : Injective openAnswer

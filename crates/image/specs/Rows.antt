@@ -5,14 +5,14 @@
 --     Cleared rows sizes     the tables are 0 everywhere
 --     Held f answer ..       after a yes the rows hold f, and the sizes are theirs
 --     Reading s answer ..    what the reader tells and leaves: after a yes the rows of `related` and their sizes, after a no two cleared tables
---
--- proofs/Unique: a reading leaves nothing free.
+--     OneReading             the theorem: two readings of one image, in tables of words of 64 bits, tell and leave the same (proved in proofs/Unique)
 use Prim.Native.Nat.{ℕ}
 use mathlib.Core.Path.{_≡_}
 use mathlib.Core.Bool.{Bool, _&&_, _||_}
 use mathlib.Core.List.{List}
 use lib.Dec.{ltb, eqb}
 use lib.ListN.{length, replicate}
+use Rattle.sets.specs.Bits.{Words}
 use Rattle.sets.specs.Rows.{Table, Counted}
 use Rattle.image.specs.Image.{handsetCount, adjacent}
 use Rattle.image.specs.Questions.{openOf}
@@ -44,3 +44,7 @@ pub record Reading (s : List ℕ) (answer : Opened) (rows sizes : List ℕ) : Ty
   pub room : Room rows sizes
   pub held : Held (related s) answer rows sizes
   pub cleared : (x : Refusal) → answer ≡ Refused x → Cleared rows sizes
+
+pub record OneReading : Type 0 where
+  pub same : (s : List ℕ) (a b : Opened) (rows sizes rows′ sizes′ : List ℕ) → Words rows → Words rows′ → Reading s a rows sizes → Reading s b rows′ sizes′
+      → (a ≡ b) × (rows ≡ rows′) × (sizes ≡ sizes′)

@@ -1,5 +1,5 @@
--- These definitions serve the proofs of this crate, and no caller: the reader's questions in the order of its code, what it looks
--- for in the records, and what it has of the edges that it has passed.
+-- These definitions only serve the proofs; a caller need not believe them.
+-- The reader's questions in the order of its code, what it looks for in the records, and what it has of the edges that it has passed.
 --
 --     openHeader s                   questions 1 to 6, of the header: the header, or the number of the first no
 --     badRecord question part n k    question 7, 8 or 9 gets a no for record k of the part: a handset's for 7, an edge's for 8 and 9

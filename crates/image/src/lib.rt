@@ -137,7 +137,7 @@ fn out_of_limits(handset: &[u8]) -> bool
     let mut bad = false;
     let mut i: usize = 0;
     while i < fields::COORDINATES {
-        bad = bad | !in_limits(fields::coordinate(handset, 4 * i));
+        bad = bad | !in_limits(fields::coordinate(handset, fields::COORDINATE_BYTES * i));
         i += 1;
     }
     bad
@@ -195,7 +195,8 @@ pub fn within(a: &[u8], b: &[u8], limit: u64) -> bool
     let mut room = limit;
     let mut i: usize = 0;
     while i < fields::COORDINATES {
-        let d = squared_gap(fields::coordinate(a, 4 * i), fields::coordinate(b, 4 * i));
+        let at = fields::COORDINATE_BYTES * i;
+        let d = squared_gap(fields::coordinate(a, at), fields::coordinate(b, at));
         let covered = d <= room;
         fits = fits & covered;
         room = std::num::wrapping_sub_u64(room, d);

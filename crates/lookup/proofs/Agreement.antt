@@ -11,7 +11,8 @@ use mathlib.Core.List.{List, [], _∷_}
 use lib.ListN.{length, take, drop, length-take, length-drop}
 use lib.Seq.{slice}
 use borrow.Author.Tests.{lt-ltb, le-ltb, le-leb, lt-leb}
-use Rattle.lookup.specs.Lookup.{startOf, placed, between, membersOf, refusal14, lookedOf, spanOf, Agree}
+use Rattle.lookup.specs.Lookup.{startOf, placed, between, membersOf, refusal14, lookedOf, Agree}
+use Rattle.lookup.specs.Held.{spanOf}
 use Rattle.lookup.specs.declared.Span.{Span}
 use Rattle.lookup.specs.declared.Looked.the-variants.{Found, Refused}
 

@@ -3,7 +3,7 @@ use mathlib.Core.Path.{_≡_, sym, ap}
 use lib.ListN.{getD}
 use Rattle.image.specs.Answers.{Answer}
 use Rattle.image.proofs.Answers.{given-refused, refused-same}
-use Rattle.lookup.specs.Answers.{lookAnswer}
+use Rattle.lookup.specs.Answers.{lookAnswer, OneAnswer}
 use Rattle.lookup.specs.declared.Looked.{Looked}
 use Rattle.lookup.specs.declared.Looked.the-variants.{Found, Refused}
 
@@ -12,3 +12,6 @@ looked-same (Found n) (Found m) e = ap (λ (a : Answer). Found (getD (a .values)
 looked-same (Found n) (Refused r) e = given-refused _ _ r e
 looked-same (Refused r) (Found n) e = given-refused _ _ r (sym e)
 looked-same (Refused r) (Refused q) e = ap Refused (refused-same r q e)
+
+pub one-answer : OneAnswer
+one-answer = record { looked = looked-same }

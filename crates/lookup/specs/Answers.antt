@@ -2,13 +2,15 @@
 -- and values for each of its cases"; image/specs/Answers).
 --
 --     lookAnswer a     the count of the group's members, or the refusal
---
--- proofs/Answers: two answers with the same number, place and values are the same.
+--     OneAnswer        the theorem: the number, place and values leave nothing of the answer free (proved in proofs/Answers)
 use mathlib.Core.List.{[], _∷_}
-use Rattle.image.specs.Answers.{Answer, refused, given}
+use Rattle.image.specs.Answers.{Answer, refused, given, Injective}
 use Rattle.lookup.specs.declared.Looked.{Looked}
 use Rattle.lookup.specs.declared.Looked.the-variants.{Found, Refused}
 
 abbrev pub lookAnswer : Looked → Answer
 lookAnswer (Found n) = given (n ∷ [])
 lookAnswer (Refused r) = refused r
+
+pub record OneAnswer : Type 0 where
+  pub looked : Injective lookAnswer

@@ -8,12 +8,11 @@
 -- The laws are in proofs/Agreement.
 use Prim.Native.Nat.{ℕ, _+_, _-_}
 use mathlib.Core.Path.{_≡_}
-use mathlib.Core.Bool.{Bool, true, false, _&&_, cond}
+use mathlib.Core.Bool.{Bool, _&&_, cond}
 use mathlib.Core.List.{List, []}
 use lib.Dec.{T, leb, ltb}
 use lib.ListN.{length, getD, take, drop}
 use Rattle.image.specs.declared.Refusal.{Refusal}
-use Rattle.lookup.specs.declared.Span.{Span}
 use Rattle.lookup.specs.declared.Looked.{Looked}
 use Rattle.lookup.specs.declared.Looked.the-variants.{Found, Refused}
 
@@ -38,14 +37,6 @@ refusal14 = record { number = 14; place = 0 }
 unfoldable pub lookedOf : List ℕ → List ℕ → ℕ → Looked
 unfolding placed membersOf
 lookedOf starts table k = cond (placed starts (length table) k) (Found (length (membersOf starts table k))) (Refused refusal14)
-
--- the question's answer, with the part's two places; both 0 where it is a no
-unfoldable pub spanOf : List ℕ → ℕ → ℕ → Span
-unfolding placed
-spanOf starts size k =
-    cond (placed starts size k)
-    (record { found = true; first = startOf starts k; past = startOf starts (k + 1) })
-    (record { found = false; first = 0; past = 0 })
 
 -- the lookup and its companion agree: a part is given where there is no refusal, with the count of its members; 14 is the only refusal, and the part is
 -- then empty

@@ -4,8 +4,9 @@
 // yes exactly where the companion finds the group; `looked-same` of proofs/Answers makes an equation of the companion's answer.
 ghost use mathlib.Core.Path.{_≡_};
 ghost use Prim.Native.Nat.{_≤_};
-ghost use Rattle.lookup.specs.Lookup.{spanOf, membersOf, lookedOf};
+ghost use Rattle.lookup.specs.Lookup.{membersOf, lookedOf};
 ghost use Rattle.lookup.specs.Answers.{lookAnswer};
+ghost use Rattle.lookup.specs.Held.{spanOf};
 use image::Refusal;
 
 // What the companion answers: how many members group k has, or the refusal.

@@ -8,7 +8,7 @@ use Rattle.image.proofs.Answers.{given-refused, refused-same}
 use Rattle.community.specs.declared.Role.{Role}
 use Rattle.community.specs.declared.Role.the-variants.{Core, Border, Outlier}
 use Rattle.community.specs.declared.Standing.{Standing}
-use Rattle.planner.specs.Plan.{roleValues, knownAnswer}
+use Rattle.planner.specs.Plan.{roleValues, knownAnswer, OneAnswer}
 use Rattle.planner.specs.declared.Known.{Known}
 use Rattle.planner.specs.declared.Known.the-variants as K
 
@@ -35,3 +35,6 @@ known-same (K.Handset x) (K.Handset y) e =
 known-same (K.Handset x) (K.Refused r) e = given-refused _ _ r e
 known-same (K.Refused r) (K.Handset x) e = given-refused _ _ r (sym e)
 known-same (K.Refused r) (K.Refused q) e = ap K.Refused (refused-same r q e)
+
+pub one-answer : OneAnswer
+one-answer = record { known = known-same }

@@ -1,3 +1,4 @@
+-- These definitions only serve the proofs; a caller need not believe them.
 -- What the planner's working tables hold, for the contracts inside the crate.
 --
 --     HasEnds edges n k        edge k stands in the part, and its ends are below n

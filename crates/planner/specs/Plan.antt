@@ -8,8 +8,7 @@
 --     CoreWords s ws        the set of cores that comes with a plan's answer
 --     knownOf s v           the role call's answer: the image's refusal, 13, or the near count and the role
 --     knownAnswer k         its number, place and values: the near count, the role's kind (0 core, 1 border, 2 outlier), and the core's group number or the border's count of groups, 0 for an outlier
---
--- proofs/Answers: two answers of the role call with the same number, place and values are the same.
+--     OneAnswer             the theorem: the number, place and values leave nothing of the role call's answer free (proved in proofs/Answers)
 use Prim.Native.Nat.{ℕ, _<_}
 use mathlib.Core.Path.{_≡_}
 use mathlib.Core.Bool.{Bool, false, _&&_, cond}
@@ -18,7 +17,7 @@ use lib.Dec.{ltb}
 use lib.ListN.{length}
 use Rattle.sets.specs.Below.{bit}
 use Rattle.sets.specs.Bits.{bitAt}
-use Rattle.image.specs.Answers.{Answer, refused, given}
+use Rattle.image.specs.Answers.{Answer, refused, given, Injective}
 use Rattle.image.specs.Questions.{openOf}
 use Rattle.image.specs.declared.Opened.{Opened}
 use Rattle.image.specs.declared.Opened.the-variants as O
@@ -89,3 +88,6 @@ roleValues Outlier = 2 ∷ 0 ∷ []
 abbrev pub knownAnswer : Known → Answer
 knownAnswer (K.Handset x) = given (x .neighbours ∷ roleValues (x .role))
 knownAnswer (K.Refused r) = refused r
+
+pub record OneAnswer : Type 0 where
+  pub known : Injective knownAnswer

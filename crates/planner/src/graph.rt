@@ -58,7 +58,7 @@ fn is_short(handsets: &[u8], e: Ends, limit: u64) -> bool
 
 // The edges from `base` on that are near, as a word: of `count` edges, at most 64. It is made without a branch.
 fn short_word<'a>(handsets: &'a [u8], edges: &'a [u8], base: usize, count: usize, limit: u64) -> u64
-    requires { ⌜ (count ≤ 64) × (base ≤ 4096) × (length (now handsets) ≤ 4096) × ((k : ℕ) → k < count → HasEnds (now edges) (length (now handsets) / handsetBytes) (base + k)) ⌝ }
+    requires { ⌜ (count ≤ 64) × (base ≤ 4096) × (length (now handsets) ≤ handsetBytes * 512) × ((k : ℕ) → k < count → HasEnds (now edges) (length (now handsets) / handsetBytes) (base + k)) ⌝ }
     ensures { λ r. ⌜ WordOf r (λ k. ltb k count && isShort (now (handsets .entry)) (now (edges .entry)) limit (base + k)) ⌝ }
 {
     let mut word: u64 = 0;
@@ -102,7 +102,7 @@ fn drop_long<'a>(
     table: &mut [u64],
     sizes: &mut [u32],
 )
-    requires { ⌜ (m ≤ 4096) × (length (now handsets) ≤ 4096) × (now short ≡ replicate 64 0) × (Room (now table) (now sizes)) × (Counted (now table) (now sizes)) × ((k : ℕ) → k < m → HasEnds (now edges) (length (now handsets) / handsetBytes) k) ⌝ }
+    requires { ⌜ (m ≤ 4096) × (length (now handsets) ≤ handsetBytes * 512) × (now short ≡ replicate 64 0) × (Room (now table) (now sizes)) × (Counted (now table) (now sizes)) × ((k : ℕ) → k < m → HasEnds (now edges) (length (now handsets) / handsetBytes) k) ⌝ }
     ensures kept { λ _. ⌜ EdgeSet (now (short .exit)) (λ k. ltb k m && isShort (now (handsets .entry)) (now (edges .entry)) limit k) ⌝ }
     ensures dropped { λ _. ⌜ Dropped (now (edges .entry)) (λ k. ltb k m && not (isShort (now (handsets .entry)) (now (edges .entry)) limit k)) (now (table .entry)) (now (table .exit)) ⌝ }
     ensures counted { λ _. ⌜ Counted (now (table .exit)) (now (sizes .exit)) ⌝ }

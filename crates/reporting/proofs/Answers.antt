@@ -21,7 +21,7 @@ use Rattle.image.specs.declared.Opened.{Opened}
 use Rattle.image.specs.declared.Opened.the-variants as O
 use Rattle.image.proofs.Answers.{given-refused, refused-same}
 use Rattle.text.specs.Text.{Wrote}
-use Rattle.reporting.specs.Report.{reportText, writtenOf, writtenIn, reportFor, reportOf, afterFor, textAfter, refusedText, refusal15, refusal16, printed, programText, reportAnswer, ReportCall}
+use Rattle.reporting.specs.Report.{reportText, writtenOf, writtenIn, reportFor, reportOf, afterFor, textAfter, refusedText, refusal15, refusal16, printed, programText, reportAnswer, ReportCall, OneAnswer}
 use Rattle.reporting.specs.Held.{Filled}
 use Rattle.reporting.specs.declared.Reported.{Reported}
 use Rattle.reporting.specs.declared.Reported.the-variants as R
@@ -31,6 +31,9 @@ report-same (R.Written k) (R.Written j) e = ap (λ (a : Answer). R.Written (getD
 report-same (R.Written k) (R.Refused r) e = given-refused _ _ r e
 report-same (R.Refused r) (R.Written k) e = given-refused _ _ r (sym e)
 report-same (R.Refused r) (R.Refused q) e = ap R.Refused (refused-same r q e)
+
+pub one-answer : OneAnswer
+one-answer = record { reported = report-same }
 
 pub site-answer : {s l l′ : List ℕ} {r : Reported} (h : Header) → openOf s ≡ O.Site h → Filled (reportText s) l r l′ → ReportCall s l r l′
 unfolding reportOf textAfter

@@ -19,24 +19,24 @@ lines-more starts members ts k = ap (tableLines starts members ts) (add-one k)
 
 -- line one as its five writes leave it
 pub head-parts : (h : Head) → headLine h
-    ≡ ((((handsetsWord ++ decimal (h .handsets)) ++ (tiesWord ++ decimal (h .ties))) ++ (groupsWord ++ decimal (h .groups))) ++ (membershipsWord ++ decimal (h .memberships))) ++ newline
+    ≡ ((((handsetsWord ++ decimal (h .handsets)) ++ (tiesWord ++ decimal (h .ties))) ++ (groupsWord ++ decimal (h .counts .groups))) ++ (membershipsWord ++ decimal (h .counts .memberships))) ++ newline
 unfolding headLine
 head-parts h =
-    sym (five (handsetsWord ++ decimal (h .handsets)) (tiesWord ++ decimal (h .ties)) (groupsWord ++ decimal (h .groups)) (membershipsWord ++ decimal (h .memberships)) newline
+    sym (five (handsetsWord ++ decimal (h .handsets)) (tiesWord ++ decimal (h .ties)) (groupsWord ++ decimal (h .counts .groups)) (membershipsWord ++ decimal (h .counts .memberships)) newline
     ∙ append-assoc handsetsWord (decimal (h .handsets)) _
     ∙ ap (λ (l : List ℕ). handsetsWord ++ (decimal (h .handsets) ++ l)) (append-assoc tiesWord (decimal (h .ties)) _
-    ∙ ap (λ (l : List ℕ). tiesWord ++ (decimal (h .ties) ++ l)) (append-assoc groupsWord (decimal (h .groups)) _
-    ∙ ap (λ (l : List ℕ). groupsWord ++ (decimal (h .groups) ++ l)) (append-assoc membershipsWord (decimal (h .memberships)) newline))))
+    ∙ ap (λ (l : List ℕ). tiesWord ++ (decimal (h .ties) ++ l)) (append-assoc groupsWord (decimal (h .counts .groups)) _
+    ∙ ap (λ (l : List ℕ). groupsWord ++ (decimal (h .counts .groups) ++ l)) (append-assoc membershipsWord (decimal (h .counts .memberships)) newline))))
   where
     five : (a b c d e : List ℕ) → (((a ++ b) ++ c) ++ d) ++ e ≡ a ++ (b ++ (c ++ (d ++ e)))
     five a b c d e = simp append-assoc
 
 -- the text as its four writes leave it
 pub text-parts : (h : Head) (starts members ts cores outliers : List ℕ) → tableText h starts members ts cores outliers
-    ≡ ((headLine h ++ tableLines starts members ts (h .groups)) ++ listLine coresWord (X.elementsOf cores)) ++ listLine outliersWord (X.elementsOf outliers)
+    ≡ ((headLine h ++ tableLines starts members ts (h .counts .groups)) ++ listLine coresWord (X.elementsOf cores)) ++ listLine outliersWord (X.elementsOf outliers)
 unfolding tableText
 text-parts h starts members ts cores outliers =
-    sym (four (headLine h) (tableLines starts members ts (h .groups)) (listLine coresWord (X.elementsOf cores)) (listLine outliersWord (X.elementsOf outliers)))
+    sym (four (headLine h) (tableLines starts members ts (h .counts .groups)) (listLine coresWord (X.elementsOf cores)) (listLine outliersWord (X.elementsOf outliers)))
   where
     four : (a b c d : List ℕ) → ((a ++ b) ++ c) ++ d ≡ a ++ (b ++ (c ++ d))
     four a b c d = simp append-assoc

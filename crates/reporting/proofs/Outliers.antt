@@ -18,7 +18,8 @@ use Rattle.sets.specs.Below.{select, bit}
 use Rattle.sets.specs.Bits.{bitAt}
 use Rattle.sets.proofs.Tests.{decide, T-true, T-false}
 use Rattle.sets.proofs.Selecting.{select-no, select-cong}
-use Rattle.community.specs.Network.{Network, Sound, isCore, communities, contains, membershipCount, role, borderOf}
+use Rattle.community.specs.Network.{Network, isCore, communities, contains, membershipCount, role, borderOf}
+use Rattle.community.specs.Held.{Sound}
 use Rattle.community.specs.Tables.{memberTable}
 use Rattle.community.proofs.Reachability.{from-below}
 use Rattle.community.proofs.Communities.{leader-of, leader-place, reachable-member}

@@ -71,7 +71,7 @@ module _ (s : List ℕ) (a : Accepted s) where
 
   pub plan-held : (h : Header) (counts : Counts) (answer : Planned) (starts table ws : List ℕ) → h ≡ headerOf s → answer ≡ P.Made counts
       → PlanCall s blankStarts blankMembers answer starts table → CoreWords s ws
-      → PlanHeld s h (record { handsets = h .n; ties = h .m; groups = counts .groups; memberships = counts .memberships }) starts table ws
+      → PlanHeld s h (record { handsets = h .n; ties = h .m; counts = counts }) starts table ws
   unfolding headerOf
   plan-held h counts answer starts table ws e d p c =
       let m : counts .groups ∷ (counts .memberships ∷ []) ≡ length (communities (network s)) ∷ (length (memberTable (communities (network s))) ∷ []) =
@@ -81,7 +81,7 @@ module _ (s : List ℕ) (a : Accepted s) where
       record {
         accepted = a;
         header = e;
-        head-is = λ i. record { handsets = e i .n; ties = e i .m; groups = g i; memberships = k i };
+        head-is = λ i. record { handsets = e i .n; ties = e i .m; counts = record { groups = g i; memberships = k i } };
         starts-are = p .starts ∙ starts-made;
         members-are = p .members ∙ members-made;
         cores-are = cores-held ws c;

@@ -29,7 +29,7 @@ use Rattle.sets.proofs.Bits.{bitOf-none, bitOf-lt, bitOf-and, bitOf-xor, bitOf-
 use Rattle.sets.proofs.Counting.{count-cong, count-le, count-none}
 use Rattle.sets.proofs.Tests.{three}
 use Rattle.fields.specs.Bytes.{number}
-use Rattle.fields.specs.Fields.{endsOf}
+use Rattle.fields.specs.Fields.{edgeBytes, endsOf}
 use Rattle.fields.proofs.Bytes.{number-part}
 use Rattle.image.specs.Image.{endA, endB}
 use Rattle.community.specs.Network.{contains}
@@ -304,13 +304,13 @@ edge-room rows u v words ts₀ ts room c i h = pick (decLt i 512)
 
 -- ---- all edges
 
-pub ends-at : (part : List ℕ) (k : ℕ) → 4 * k + 4 ≤ length part
-    → (let r : List ℕ = take ((4 * k + 4) - 4 * k) (drop (4 * k) part) in (endsOf r .a ≡ endA part k) × (endsOf r .b ≡ endB part k))
+pub ends-at : (part : List ℕ) (k : ℕ) → edgeBytes * k + edgeBytes ≤ length part
+    → (let r : List ℕ = take ((edgeBytes * k + edgeBytes) - edgeBytes * k) (drop (edgeBytes * k) part) in (endsOf r .a ≡ endA part k) × (endsOf r .b ≡ endB part k))
 unfolding endsOf endA endB
 ends-at part k h =
-    let part-of : (at : ℕ) → at + 2 ≤ 4 → number 2 (take ((4 * k + 4) - 4 * k) (drop (4 * k) part)) at ≡ number 2 part (4 * k + at) =
-    λ at l. number-part 2 part (4 * k) ((4 * k + 4) - 4 * k) at (omega arith) (omega arith) in
-    (part-of 0 (omega arith) ∙ ap (number 2 part) (add-zero (4 * k)), part-of 2 (omega arith))
+    let part-of : (at : ℕ) → at + 2 ≤ edgeBytes → number 2 (take ((edgeBytes * k + edgeBytes) - edgeBytes * k) (drop (edgeBytes * k) part)) at ≡ number 2 part (edgeBytes * k + at) =
+    λ at l. number-part 2 part (edgeBytes * k) ((edgeBytes * k + edgeBytes) - edgeBytes * k) at (omega arith) (omega arith) in
+    (part-of 0 (omega arith) ∙ ap (number 2 part) (add-zero (edgeBytes * k)), part-of 2 (omega arith))
 
 pub edges-none : (rows part : List ℕ) (words : ℕ) → EdgesCounted rows part 0 words (replicate 1024 0)
 edges-none rows part words = record {

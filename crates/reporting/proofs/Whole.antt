@@ -19,6 +19,7 @@ use Rattle.sets.specs.Bits.{bitAt}
 use Rattle.sets.specs.Rows.{SetOf}
 use Rattle.sets.proofs.Counting.{count-le}
 use Rattle.sets.proofs.Selecting.{length-select, select-ascends, select-cong}
+use Rattle.fields.specs.Fields.{edgeBytes}
 use Rattle.image.specs.Image.{handsetCount, edgeCount, edgeOffset, edgeRecords}
 use Rattle.image.specs.Questions.{headerOf}
 use Rattle.image.specs.declared.Header.{Header}
@@ -80,25 +81,25 @@ lines-are s gs starts table ts (suc k) p q =
     (rw (p k (omega arith), q k (omega arith)))
 
 module _ {s : List ℕ} {h : Header} {head : Head} {starts table cores-set : List ℕ} (held : PlanHeld s h head starts table cores-set) where
-  groups-are : head .groups ≡ length (communities (network s))
-  groups-are = ap (λ (x : Head). x .groups) (held .head-is)
+  groups-are : head .counts .groups ≡ length (communities (network s))
+  groups-are = ap (λ (x : Head). x .counts .groups) (held .head-is)
 
-  memberships-are : head .memberships ≡ length (memberTable (communities (network s)))
-  memberships-are = ap (λ (x : Head). x .memberships) (held .head-is)
+  memberships-are : head .counts .memberships ≡ length (memberTable (communities (network s)))
+  memberships-are = ap (λ (x : Head). x .counts .memberships) (held .head-is)
 
-  pub groups-few : head .groups ≤ 512
+  pub groups-few : head .counts .groups ≤ 512
   unfolding headerOf
   groups-few = omega (arith, groups-are, communities-few (network s), accepted-fits s (held .accepted) .n-limit)
 
-  part-at : (k : ℕ) → k < head .groups → membersOf starts table k ≡ getD (communities (network s)) k []
+  part-at : (k : ℕ) → k < head .counts .groups → membersOf starts table k ≡ getD (communities (network s)) k []
   part-at k l =
       let gs : List (List ℕ) = communities (network s) in
       rw (held .starts-are, held .members-are)
       (part-is gs (drop (length (startTable gs)) (replicate 513 0)) (drop (length (memberTable gs)) (replicate 8704 0)) k (omega (arith, groups-are)))
 
   -- the counts of a group are its community's tally
-  tally-held : (ts : List ℕ) → GroupsCounted (edgeRecords s) (edgeCount s) starts table (head .groups) ts
-      → (k : ℕ) → k < head .groups → groupTally ts k (getD (communities (network s)) k []) ≡ tallyOf s (getD (communities (network s)) k [])
+  tally-held : (ts : List ℕ) → GroupsCounted (edgeRecords s) (edgeCount s) starts table (head .counts .groups) ts
+      → (k : ℕ) → k < head .counts .groups → groupTally ts k (getD (communities (network s)) k []) ≡ tallyOf s (getD (communities (network s)) k [])
   unfolding groupTally tallyOf leaving headerOf
   tally-held ts c k l =
       let inside : k < length (communities (network s)) = omega (arith, groups-are) in
@@ -109,7 +110,7 @@ module _ {s : List ℕ} {h : Header} {head : Head} {starts table cores-set : Lis
       let o : getD ts (512 + k) 0 ≡ leaving s everyEdge list = rw (part-at k l) at (c .leaving k l) in
       λ i. record { pairs = p i; joined = t i; leaving = o i }
 
-  pub text-is : (ts outlier-set : List ℕ) → GroupsCounted (edgeRecords s) (edgeCount s) starts table (head .groups) ts
+  pub text-is : (ts outlier-set : List ℕ) → GroupsCounted (edgeRecords s) (edgeCount s) starts table (head .counts .groups) ts
       → ((v : ℕ) → v < 512 → bitAt outlier-set v ≡ bit (ltb v (handsetCount s) && not (contains v (memberTable (communities (network s))))))
       → tableText head starts table ts cores-set outlier-set ≡ reportText s
   unfolding tableText reportText reportWith cores outliers headerOf
@@ -124,10 +125,10 @@ module _ {s : List ℕ} {h : Header} {head : Head} {starts table cores-set : Lis
       ap₂ (λ (a b : List ℕ). a ++ b)
       (ap headLine (held .head-is))
       (ap₂ (λ (a b : List ℕ). a ++ b)
-      (lines-are s gs starts table ts (head .groups) part-at (tally-held ts e) ∙ ap (groupLines s gs) groups-are)
+      (lines-are s gs starts table ts (head .counts .groups) part-at (tally-held ts e) ∙ ap (groupLines s gs) groups-are)
       (ap₂ (λ (a b : List ℕ). listLine coresWord a ++ listLine outliersWord b) core-list outlier-list))
 
-  header-fits : (headerOf s .n ≤ 512) × (headerOf s .edges + 4 * headerOf s .m ≤ length s)
+  header-fits : (headerOf s .n ≤ 512) × (headerOf s .edges + edgeBytes * headerOf s .m ≤ length s)
   unfolding headerOf
   header-fits =
       let f = accepted-fits s (held .accepted) in
@@ -136,26 +137,26 @@ module _ {s : List ℕ} {h : Header} {head : Head} {starts table cores-set : Lis
   pub handsets-few : h .n ≤ 512
   handsets-few = rw (held .header) (header-fits .0)
 
-  pub edges-fit : h .edges + 4 * h .m ≤ length s
+  pub edges-fit : h .edges + edgeBytes * h .m ≤ length s
   edges-fit = rw (held .header) (header-fits .1)
 
-  pub members-fit : head .memberships ≤ length table
+  pub members-fit : head .counts .memberships ≤ length table
   members-fit =
       let gs : List (List ℕ) = communities (network s) in
       rw (held .members-are) (omega (arith, memberships-are, length-append (memberTable gs) (drop (length (memberTable gs)) (replicate 8704 0))))
 
   -- the part of the member table that is written
-  written-part : take (head .memberships - 0) (drop 0 table) ≡ memberTable (communities (network s))
+  written-part : take (head .counts .memberships - 0) (drop 0 table) ≡ memberTable (communities (network s))
   written-part =
       let gs : List (List ℕ) = communities (network s) in
-      ap (λ (k : ℕ). take k table) (let e : head .memberships - 0 ≡ head .memberships = omega arith in e)
-      ∙ ap (take (head .memberships)) (held .members-are)
-      ∙ take-at (memberTable gs) (drop (length (memberTable gs)) (replicate 8704 0)) (head .memberships) (sym memberships-are)
+      ap (λ (k : ℕ). take k table) (let e : head .counts .memberships - 0 ≡ head .counts .memberships = omega arith in e)
+      ∙ ap (take (head .counts .memberships)) (held .members-are)
+      ∙ take-at (memberTable gs) (drop (length (memberTable gs)) (replicate 8704 0)) (head .counts .memberships) (sym memberships-are)
 
   -- the part of the image that the edge records stand in
-  edges-part : take ((headerOf s .edges + 4 * headerOf s .m) - headerOf s .edges) (drop (headerOf s .edges) s) ≡ edgeRecords s
+  edges-part : take ((headerOf s .edges + edgeBytes * headerOf s .m) - headerOf s .edges) (drop (headerOf s .edges) s) ≡ edgeRecords s
   unfolding headerOf edgeRecords
-  edges-part = ap (λ (k : ℕ). take k (drop (edgeOffset s) s)) (let e : (edgeOffset s + 4 * edgeCount s) - edgeOffset s ≡ 4 * edgeCount s = omega arith in e)
+  edges-part = ap (λ (k : ℕ). take k (drop (edgeOffset s) s)) (let e : (edgeOffset s + edgeBytes * edgeCount s) - edgeOffset s ≡ edgeBytes * edgeCount s = omega arith in e)
 
   header-ends : Edges (edgeRecords s) (headerOf s .m)
   unfolding headerOf edgeRecords
@@ -168,26 +169,26 @@ module _ {s : List ℕ} {h : Header} {head : Head} {starts table cores-set : Lis
       }
 
   -- the same from the header's own numbers
-  text-of-header : (ts outlier-set : List ℕ) → GroupsCounted (edgeRecords s) (headerOf s .m) starts table (head .groups) ts
+  text-of-header : (ts outlier-set : List ℕ) → GroupsCounted (edgeRecords s) (headerOf s .m) starts table (head .counts .groups) ts
       → ((v : ℕ) → v < 512 → bitAt outlier-set v ≡ bit (ltb v (headerOf s .n) && not (contains v (memberTable (communities (network s))))))
       → tableText head starts table ts cores-set outlier-set ≡ reportText s
   unfolding headerOf
   text-of-header ts outlier-set e o = text-is ts outlier-set e o
 
-  pub ends-held : Edges (take ((h .edges + 4 * h .m) - h .edges) (drop (h .edges) s)) (h .m)
+  pub ends-held : Edges (take ((h .edges + edgeBytes * h .m) - h .edges) (drop (h .edges) s)) (h .m)
   ends-held = rw (held .header) (rw edges-part header-ends)
 
   pub text-held : (ts low outlier-set : List ℕ)
-      → GroupsCounted (take ((h .edges + 4 * h .m) - h .edges) (drop (h .edges) s)) (h .m) starts table (head .groups) ts
-      → SetOf low (λ v. ltb v (h .n)) → Without low (take (head .memberships - 0) (drop 0 table)) outlier-set
+      → GroupsCounted (take ((h .edges + edgeBytes * h .m) - h .edges) (drop (h .edges) s)) (h .m) starts table (head .counts .groups) ts
+      → SetOf low (λ v. ltb v (h .n)) → Without low (take (head .counts .memberships - 0) (drop 0 table)) outlier-set
       → tableText head starts table ts cores-set outlier-set ≡ reportText s
   text-held ts low outlier-set e p q =
       let m : List ℕ = memberTable (communities (network s)) in
-      let counted : GroupsCounted (take ((headerOf s .edges + 4 * headerOf s .m) - headerOf s .edges) (drop (headerOf s .edges) s)) (headerOf s .m) starts table (head .groups) ts =
-      subst (λ (x : Header). GroupsCounted (take ((x .edges + 4 * x .m) - x .edges) (drop (x .edges) s)) (x .m) starts table (head .groups) ts) (held .header) e in
+      let counted : GroupsCounted (take ((headerOf s .edges + edgeBytes * headerOf s .m) - headerOf s .edges) (drop (headerOf s .edges) s)) (headerOf s .m) starts table (head .counts .groups) ts =
+      subst (λ (x : Header). GroupsCounted (take ((x .edges + edgeBytes * x .m) - x .edges) (drop (x .edges) s)) (x .m) starts table (head .counts .groups) ts) (held .header) e in
       text-of-header ts outlier-set
-      (subst (λ (part : List ℕ). GroupsCounted part (headerOf s .m) starts table (head .groups) ts) edges-part counted)
+      (subst (λ (part : List ℕ). GroupsCounted part (headerOf s .m) starts table (head .counts .groups) ts) edges-part counted)
       (λ v l.
       outside (h .n) p q v l
-      ∙ ap (λ (x : Header). bit (ltb v (x .n) && not (contains v (take (head .memberships - 0) (drop 0 table))))) (held .header)
+      ∙ ap (λ (x : Header). bit (ltb v (x .n) && not (contains v (take (head .counts .memberships - 0) (drop 0 table))))) (held .header)
       ∙ ap (λ (part : List ℕ). bit (ltb v (headerOf s .n) && not (contains v part))) written-part)

@@ -1,3 +1,4 @@
+-- These definitions only serve the proofs; a caller need not believe them.
 -- What the report's working tables hold, for the contracts inside the crate.
 --
 --     scoresPart k c       what stands before the colon in the line of group k
@@ -24,6 +25,7 @@ use lib.ListN.{length, getD, take, replicate}
 use Rattle.sets.specs.Below.{bit, count}
 use Rattle.sets.specs.Bits.{bitOf, bitAt, cell}
 use Rattle.sets.specs.Rows.{SetOf}
+use Rattle.fields.specs.Fields.{edgeBytes}
 use Rattle.image.specs.Image.{handsetCount, endA, endB}
 use Rattle.image.specs.Questions.{Accepted, headerOf}
 use Rattle.image.specs.declared.Header.{Header}
@@ -76,7 +78,7 @@ pub record CountsFit (ts : List ℕ) : Type 0 where
 
 pub record Edges (part : List ℕ) (m : ℕ) : Type 0 where
   pub few : m ≤ 4096
-  pub whole : 4 * m ≤ length part
+  pub whole : edgeBytes * m ≤ length part
   pub low : (e : ℕ) → e < m → (endA part e < 512) × (endB part e < 512)
 
 -- the edge between u and v is tied in group k, or leaves it; k is one of the first words' groups
@@ -112,7 +114,7 @@ tableLines starts members ts (suc k) = tableLines starts members ts k ++ groupLi
 unfoldable pub tableText : Head → List ℕ → List ℕ → List ℕ → List ℕ → List ℕ → List ℕ
 tableText head starts members ts cores outliers =
     headLine head
-    ++ (tableLines starts members ts (head .groups) ++ (listLine coresWord (T.elementsOf cores) ++ listLine outliersWord (T.elementsOf outliers)))
+    ++ (tableLines starts members ts (head .counts .groups) ++ (listLine coresWord (T.elementsOf cores) ++ listLine outliersWord (T.elementsOf outliers)))
 
 pub record Filled (t l : List ℕ) (r : Reported) (l′ : List ℕ) : Type 0 where
   pub answer : r ≡ writtenOf t (length l)

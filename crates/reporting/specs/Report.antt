@@ -8,6 +8,7 @@
 --     textAfter s buffer               every byte of the buffer after the call
 --     reportAnswer r                   its number, place and values: the text's length
 --     ReportCall                       the outcome of a call: its answer and the buffer
+--     OneAnswer                        the theorem: the number, place and values leave nothing of the answer free (proved in proofs/Answers)
 --     refusedText                      what the program prints for a refusal
 --     programText s room               what the report program prints for an input, with a buffer of room bytes
 use Prim.Native.Nat.{ℕ, zero, suc}
@@ -19,7 +20,7 @@ use lib.ListN.{length, getD, drop}
 use Rattle.sets.specs.Below.{select}
 use Rattle.image.specs.Image.{handsetCount, edgeCount}
 use Rattle.image.specs.Questions.{openOf}
-use Rattle.image.specs.Answers.{Answer, refused, given}
+use Rattle.image.specs.Answers.{Answer, refused, given, Injective}
 use Rattle.image.specs.declared.Refusal.{Refusal}
 use Rattle.image.specs.declared.Opened.{Opened}
 use Rattle.image.specs.declared.Opened.the-variants as O
@@ -88,7 +89,7 @@ newline = 10 ∷ []
 unfoldable pub headLine : Head → List ℕ
 headLine h =
     handsetsWord ++ (decimal (h .handsets) ++ (tiesWord ++ (decimal (h .ties)
-    ++ (groupsWord ++ (decimal (h .groups) ++ (membershipsWord ++ (decimal (h .memberships) ++ newline)))))))
+    ++ (groupsWord ++ (decimal (h .counts .groups) ++ (membershipsWord ++ (decimal (h .counts .memberships) ++ newline)))))))
 
 -- two numbers with a slash between, not reduced; a hyphen for no score
 unfoldable pub scoreText : Score → List ℕ
@@ -121,7 +122,7 @@ outliers g = select (g .n) (λ v. isOutlier (role g v))
 
 -- n, m, and the counts of the communities gs
 abbrev pub headOf : List ℕ → List (List ℕ) → Head
-headOf s gs = record { handsets = handsetCount s; ties = edgeCount s; groups = length gs; memberships = length (memberTable gs) }
+headOf s gs = record { handsets = handsetCount s; ties = edgeCount s; counts = record { groups = length gs; memberships = length (memberTable gs) } }
 
 -- of an image with the communities gs
 unfoldable pub reportWith : List ℕ → List (List ℕ) → List ℕ
@@ -185,3 +186,6 @@ printed s (R.Refused r) = refusedText r
 -- 15 for an input that does not end within 65,536 bytes
 unfoldable pub programText : List ℕ → ℕ → List ℕ
 programText s room = cond (ltb 65536 (length s)) (refusedText refusal15) (printed s (reportOf s room))
+
+pub record OneAnswer : Type 0 where
+  pub reported : Injective reportAnswer

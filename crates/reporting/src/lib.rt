@@ -8,6 +8,7 @@ use image::Opened;
 use image::Refusal;
 use scores::Score;
 use scores::Tally;
+use tables::Counts;
 use tables::Planned;
 ghost use Prim.Native.Nat.{ℕ, _≤_, _<_};
 ghost use mathlib.Core.Path.{_≡_};
@@ -31,8 +32,7 @@ pub enum Reported {
 struct Head {
     handsets: u16,
     ties: u16,
-    groups: usize,
-    memberships: usize,
+    counts: Counts,
 }
 
 // Writes a word and a number.
@@ -49,8 +49,8 @@ fn put_head(text: &mut [u8], at: usize, head: Head) -> usize
 {
     let p1 = put_labelled(text, at, b"handsets ", head.handsets as u64);
     let p2 = put_labelled(text, p1, b" ties ", head.ties as u64);
-    let p3 = put_labelled(text, p2, b" groups ", head.groups as u64);
-    let p4 = put_labelled(text, p3, b" memberships ", head.memberships as u64);
+    let p3 = put_labelled(text, p2, b" groups ", head.counts.groups as u64);
+    let p4 = put_labelled(text, p3, b" memberships ", head.counts.memberships as u64);
     text::put(text, p4, 10)
 }
 
@@ -151,11 +151,11 @@ fn put_report<'a>(
     cores: &'a [u64],
     outliers: &'a [u64],
 ) -> usize
-    requires { ⌜ head .groups ≤ 512 ⌝ }
+    requires { ⌜ head .counts .groups ≤ 512 ⌝ }
     ensures { λ r. ⌜ Wrote (now (text .entry)) 0 (tableText head (now (starts .entry)) (now (members .entry)) (now (counts .entry)) (now (cores .entry)) (now (outliers .entry))) (now (text .exit)) r ⌝ }
 {
     let p1 = put_head(text, 0, head);
-    let p2 = put_groups(text, p1, starts, members, counts, head.groups);
+    let p2 = put_groups(text, p1, starts, members, counts, head.counts.groups);
     let p3 = put_set(text, p2, b"cores:", cores);
     put_set(text, p3, b"outliers:", outliers)
 }
@@ -170,7 +170,7 @@ fn write_report<'a>(
     cores: &'a [u64],
     outliers: &'a [u64],
 ) -> Reported
-    requires { ⌜ head .groups ≤ 512 ⌝ }
+    requires { ⌜ head .counts .groups ≤ 512 ⌝ }
     ensures { λ r. ⌜ Filled (tableText head (now (starts .entry)) (now (members .entry)) (now (counts .entry)) (now (cores .entry)) (now (outliers .entry))) (now (text .entry)) r (now (text .exit)) ⌝ }
 {
     let mut none = [0u8; 1];
@@ -224,8 +224,8 @@ fn report_plan<'a>(
     let a = h.edges as usize;
     let m = h.m as usize;
     let b = a + fields::EDGE_BYTES * m;
-    let groups = head.groups;
-    let memberships = head.memberships;
+    let groups = head.counts.groups;
+    let memberships = head.counts.memberships;
     let mut counts = [0u32; 1024];
     counts::count_groups(&image[a..b], m, starts, members, groups, &mut counts);
     let mut outliers = [0u64; 8];
@@ -249,8 +249,7 @@ fn report_site(text: &mut [u8], image: &[u8], h: Header) -> Reported
             let head = Head {
                 handsets: h.n,
                 ties: h.m,
-                groups: counts.groups,
-                memberships: counts.memberships,
+                counts,
             };
             report_plan(text, image, h, head, &starts, &members, &cores)
         }

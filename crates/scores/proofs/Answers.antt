@@ -10,7 +10,7 @@ use lib.ListN.{getD, drop}
 use Rattle.image.specs.Answers.{Answer, refused, given}
 use Rattle.image.specs.declared.Refusal.{Refusal}
 use Rattle.image.proofs.Answers.{given-refused, refused-same}
-use Rattle.scores.specs.Answers.{tallyAnswer, scoreValues, scoreAnswer}
+use Rattle.scores.specs.Answers.{tallyAnswer, scoreValues, scoreAnswer, OneAnswer}
 use Rattle.scores.specs.declared.Tally.{Tally}
 use Rattle.scores.specs.declared.Tallied.{Tallied}
 use Rattle.scores.specs.declared.Tallied.the-variants as T
@@ -55,3 +55,6 @@ scored-same (S.Of x) (S.Of y) e =
 scored-same (S.Of x) (S.Refused r) e = scores-refused (x .density) (x .conductance) r e
 scored-same (S.Refused r) (S.Of x) e = scores-refused (x .density) (x .conductance) r (sym e)
 scored-same (S.Refused r) (S.Refused q) e = ap S.Refused (refused-same r q e)
+
+pub one-answer : OneAnswer
+one-answer = record { tally = tally-same; scored = scored-same }

@@ -28,7 +28,7 @@ use Rattle.sets.proofs.Tests.{or-left, or-right, or-cases, decide, not-any, non
 use Rattle.sets.proofs.Bits.{zeros}
 use Rattle.sets.proofs.Counting.{count-cong, count-le, count-yes, count-no, sum-cong}
 use Rattle.fields.specs.Bytes.{number}
-use Rattle.fields.specs.Fields.{endsOf}
+use Rattle.fields.specs.Fields.{edgeBytes, endsOf}
 use Rattle.fields.proofs.Bytes.{number-part}
 use Rattle.image.specs.Image.{endA, endB}
 use Rattle.community.specs.Network.{contains}
@@ -165,14 +165,14 @@ module _ (table part : List ℕ) (test : ℕ → Bool) where
     joined-le zero = omega arith
     joined-le (suc k) = omega (arith, joined-le k, ties-le k)
 
-pub ends-at : (part : List ℕ) (k : ℕ) → 4 * k + 4 ≤ length part
-    → endsOf (take ((4 * k + 4) - 4 * k) (drop (4 * k) part)) ≡ record { a = endA part k; b = endB part k }
+pub ends-at : (part : List ℕ) (k : ℕ) → edgeBytes * k + edgeBytes ≤ length part
+    → endsOf (take ((edgeBytes * k + edgeBytes) - edgeBytes * k) (drop (edgeBytes * k) part)) ≡ record { a = endA part k; b = endB part k }
 unfolding endsOf endA endB
 ends-at part k h =
-    rw (add-sub-cancel-left (4 * k) 4)
+    rw (add-sub-cancel-left (edgeBytes * k) edgeBytes)
     (ap₂ (λ (x y : ℕ). record { a = x; b = y })
-    (number-part 2 part (4 * k) 4 0 (omega arith) h ∙ ap (number 2 part) (add-zero (4 * k)))
-    (number-part 2 part (4 * k) 4 2 (omega arith) h))
+    (number-part 2 part (edgeBytes * k) edgeBytes 0 (omega arith) h ∙ ap (number 2 part) (add-zero (edgeBytes * k)))
+    (number-part 2 part (edgeBytes * k) edgeBytes 2 (omega arith) h))
 
 pub table-tally : (part : List ℕ) (m : ℕ) (test : ℕ → Bool) (l table : List ℕ) → Multiplicities table l
     → record { pairs = pairs l; joined = joinedSum table part test m; leaving = leavingSum table part test m } ≡ tallyAt part m test l

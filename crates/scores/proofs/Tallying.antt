@@ -21,6 +21,7 @@ use lib.ListN.{length, getD, take, drop}
 use Rattle.sets.specs.Below.{count, sum, bit}
 use Rattle.sets.proofs.Tests.{and-right, any-make, eqb-of}
 use Rattle.sets.proofs.Counting.{count-sum, count-swap, count-false, sum-cong, sum-swap, sum-zero}
+use Rattle.fields.specs.Fields.{edgeBytes}
 use Rattle.image.specs.Image.{handsetCount, edgeCount, edgeOffset, edgeRecords, endA, endB, joins, adjacent}
 use Rattle.image.specs.Questions.{isLoop, repeatsEarlier, openOf, headerOf, Accepted}
 use Rattle.image.specs.declared.Header.{Header}
@@ -139,19 +140,19 @@ module _ (s : List ℕ) (a : Accepted s) (l : List ℕ) (few : length l ≤ 512)
   good-scored = ap scoredFor good-tallied
 
 module _ (s : List ℕ) (h : Header) (e : openOf s ≡ O.Site h) where
-  pub site-fits : (h .edges + 4 * h .m ≤ length s) × (h .m ≤ 4096) × (h .n ≤ 512)
+  pub site-fits : (h .edges + edgeBytes * h .m ≤ length s) × (h .m ≤ 4096) × (h .n ≤ 512)
   unfolding headerOf
   site-fits =
       let r = accepted s h e in
       let f = accepted-fits s (r .0) in
-      let to : edgeOffset s + 4 * edgeCount s ≤ length s = omega (arith, f .edges-to, length-is s (r .0)) in
-      subst (λ (g : Header). (g .edges + 4 * g .m ≤ length s) × (g .m ≤ 4096) × (g .n ≤ 512)) (sym (r .1)) (to, f .m-limit, f .n-limit)
+      let to : edgeOffset s + edgeBytes * edgeCount s ≤ length s = omega (arith, f .edges-to, length-is s (r .0)) in
+      subst (λ (g : Header). (g .edges + edgeBytes * g .m ≤ length s) × (g .m ≤ 4096) × (g .n ≤ 512)) (sym (r .1)) (to, f .m-limit, f .n-limit)
 
-  pub site-tallied : (l : List ℕ) → askEntries (h .n) l (tallyAt (take (4 * h .m) (drop (h .edges) s)) (h .m) everyEdge l) ≡ talliedOf s l
+  pub site-tallied : (l : List ℕ) → askEntries (h .n) l (tallyAt (take (edgeBytes * h .m) (drop (h .edges) s)) (h .m) everyEdge l) ≡ talliedOf s l
   unfolding headerOf edgeRecords talliedOf tallyOf
   site-tallied l =
       let r = accepted s h e in
-      ap (λ (g : Header). askEntries (g .n) l (tallyAt (take (4 * g .m) (drop (g .edges) s)) (g .m) everyEdge l)) (r .1)
+      ap (λ (g : Header). askEntries (g .n) l (tallyAt (take (edgeBytes * g .m) (drop (g .edges) s)) (g .m) everyEdge l)) (r .1)
       ∙ ap (askEntries (handsetCount s) l) (tally-is s (r .0) everyEdge l)
       ∙ sym (ap (λ (o : Opened). talliedFor s o l) (opened s (r .0)))
 

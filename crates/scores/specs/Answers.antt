@@ -4,11 +4,10 @@
 --     tallyAnswer t     s, t and o, or the refusal
 --     scoreValues x     a score: 1, its dividend and its divisor; 0 where there is none
 --     scoreAnswer x     the density, then the conductance, or the refusal
---
--- proofs/Answers: two answers with the same number, place and values are the same.
+--     OneAnswer         the theorem: the number, place and values leave nothing of an answer free (proved in proofs/Answers)
 use Prim.Native.Nat.{ℕ}
 use mathlib.Core.List.{List, [], _∷_, _++_}
-use Rattle.image.specs.Answers.{Answer, refused, given}
+use Rattle.image.specs.Answers.{Answer, refused, given, Injective}
 use Rattle.scores.specs.declared.Tallied.{Tallied}
 use Rattle.scores.specs.declared.Tallied.the-variants as T
 use Rattle.scores.specs.declared.Score.{Score}
@@ -27,3 +26,7 @@ scoreValues Nothing = 0 ∷ []
 abbrev pub scoreAnswer : Scored → Answer
 scoreAnswer (S.Of x) = given (scoreValues (x .density) ++ scoreValues (x .conductance))
 scoreAnswer (S.Refused r) = refused r
+
+pub record OneAnswer : Type 0 where
+  pub tally : Injective tallyAnswer
+  pub scored : Injective scoreAnswer

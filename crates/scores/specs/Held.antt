@@ -1,3 +1,4 @@
+-- These definitions only serve the proofs; a caller need not believe them.
 -- What the tally's functions work out one after another, for the contracts inside the crate.
 --
 --     multiplicity l v           how often v stands in a list

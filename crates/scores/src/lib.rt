@@ -9,6 +9,7 @@ ghost use Prim.Native.Nat.{ℕ, _*_, _-_, _≤_, min};
 ghost use lib.Dec.{leb};
 ghost use lib.ListN.{length, getD, take};
 ghost use Rattle.sets.specs.Below.{bit, find};
+ghost use Rattle.fields.specs.Fields.{edgeBytes};
 ghost use Rattle.community.specs.Scores.{justOne, pairs, everyEdge};
 ghost use Rattle.scores.specs.Scored.{badEntry, score, scoresFor, talliedOf, scoredOf};
 ghost use Rattle.scores.specs.Answers.{tallyAnswer, scoreAnswer};
@@ -117,15 +118,15 @@ fn just_one(a: u32, b: u32) -> u32
 
 // t and o over the first m edges, by a table of multiplicities.
 fn count_edges(edges: &[u8], m: usize, table: &[u16]) -> EdgeCounts
-    requires { ⌜ (4 * m ≤ length (now edges)) × (m ≤ 4096) × ((v : ℕ) → getD (now table) v 0 ≤ 512) ⌝ }
+    requires { ⌜ (edgeBytes * m ≤ length (now edges)) × (m ≤ 4096) × ((v : ℕ) → getD (now table) v 0 ≤ 512) ⌝ }
     ensures { λ r. ⌜ r ≡ record { joined = joinedSum (now (table .entry)) (now (edges .entry)) everyEdge m; leaving = leavingSum (now (table .entry)) (now (edges .entry)) everyEdge m } ⌝ }
 {
     let mut joined: u32 = 0;
     let mut leaving: u32 = 0;
     let mut k: usize = 0;
     while k < m {
-        let at = 4 * k;
-        let past = at + 4;
+        let at = fields::EDGE_BYTES * k;
+        let past = at + fields::EDGE_BYTES;
         let ends = fields::read_ends(&edges[at..past]);
         let a = held(table, ends.a);
         let b = held(table, ends.b);
@@ -146,7 +147,7 @@ pub fn pairs_of(list: &[u16]) -> u32
 
 // The tally of a list that question 13 passes, over m edges, in one turn over the list and one over the edges.
 fn tally_listed(edges: &[u8], m: usize, list: &[u16]) -> Tally
-    requires { ⌜ (4 * m ≤ length (now edges)) × (m ≤ 4096) × GoodEntries (now list) ⌝ }
+    requires { ⌜ (edgeBytes * m ≤ length (now edges)) × (m ≤ 4096) × GoodEntries (now list) ⌝ }
     ensures { λ r. ⌜ r ≡ tallyAt (now (edges .entry)) m everyEdge (now (list .entry)) ⌝ }
 {
     let mut table = [0u16; 512];
@@ -176,7 +177,7 @@ pub fn tally_list(image: &[u8], list: &[u16]) -> Tallied
     }
     let m = h.m as usize;
     let first = h.edges as usize;
-    let past = first + 4 * m;
+    let past = first + fields::EDGE_BYTES * m;
     Tallied::Of(tally_listed(&image[first..past], m, list))
 }
 

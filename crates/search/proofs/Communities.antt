@@ -20,7 +20,8 @@ use Rattle.sets.specs.Bits.{bitAt, cell}
 use Rattle.sets.proofs.Tests.{and-make, and-left, and-right, T-ext, decide, not-any, any-none, find-law}
 use Rattle.sets.proofs.Counting.{bit-true}
 use Rattle.sets.proofs.Selecting.{select-yes, select-same}
-use Rattle.community.specs.Network.{Network, Sound, similar, isCore, Reachable, one, more, reachable, isLeader, leaders}
+use Rattle.community.specs.Network.{Network, similar, isCore, Reachable, one, more, reachable, isLeader, leaders}
+use Rattle.community.specs.Held.{Sound}
 use Rattle.community.proofs.Reachability.{Reachable-trans, from-below, to-below, reachable-sound, reachable-complete}
 use Rattle.community.proofs.Similarity.{core-self, Reachable-back, step-make, step-core, step-similar}
 use Rattle.community.proofs.Communities.{leader-core, leader-least, leader-of}

@@ -2,7 +2,7 @@
 -- searches after which no core is left, a word of a row written has its 64 bits among the row's, and the others are as at entry.
 --
 --     searched-one     two searches of the same tables give the same
---     search-one       two outcomes of a call on the same tables are equal
+--     search-one       two outcomes of a call on the same tables are equal; one-search: as specs/Search states it
 use Prim.Native.Nat.{ℕ, _+_, _*_, _/_, _%_, _<_}
 use native.Mathlib.Omega.{arith}
 use native.Mathlib.Decide.{decLt, ℕ-discrete}
@@ -14,10 +14,10 @@ use lib.Dec.{T-not}
 use lib.ListN.{length, getD}
 use lib.Seq.{ext-getD}
 use Rattle.sets.specs.Below.{any}
-use Rattle.sets.specs.Bits.{bitOf}
+use Rattle.sets.specs.Bits.{bitOf, Words}
 use Rattle.sets.proofs.Tests.{three}
-use Rattle.sets.proofs.Words.{Words, word-one, word-cell}
-use Rattle.search.specs.Search.{leftAfter, Searched, Sized, SearchCall}
+use Rattle.sets.proofs.Words.{word-one, word-cell}
+use Rattle.search.specs.Search.{leftAfter, Searched, Sized, SearchCall, OneSearch}
 
 module _ (rows cores : List ℕ) where
   -- a search that is over does not go on
@@ -52,3 +52,6 @@ module _ (rows cores : List ℕ) where
       pick (yes p) (yes q) = searched-one w w′ (s .searched (p, q)) (t .searched (p, q))
       pick (yes p) (no d) = other (λ z. d (z .1))
       pick (no d) q = other (λ z. d (z .0))
+
+pub one-search : OneSearch
+one-search = record { same = λ rows cores after after′ r r′ w w′ s t. search-one rows cores w w′ s t }

@@ -1,4 +1,5 @@
--- What the search finds in the tables of a network; this serves the proofs of the crates that find communities.
+-- These definitions only serve the proofs; a caller need not believe them.
+-- What the search finds in the tables of a network, for the contracts of the crates that find communities.
 --
 --     both g u v                u and v are handsets of the network
 --     similarIn g u v           they are similar, among its handsets; coreIn g u: u is one of its cores; reachableIn g u v: v is reachable from u
@@ -13,7 +14,8 @@ use lib.ListN.{length, getD}
 use Rattle.sets.specs.Below.{bit}
 use Rattle.sets.specs.Bits.{cell}
 use Rattle.sets.specs.Rows.{SetOf, Table}
-use Rattle.community.specs.Network.{Network, Sound, similar, isCore, reachable, leaders}
+use Rattle.community.specs.Network.{Network, similar, isCore, reachable, leaders}
+use Rattle.community.specs.Held.{Sound}
 
 abbrev pub both : Network → ℕ → ℕ → Bool
 both g u v = ltb u (g .n) && ltb v (g .n)

@@ -1,4 +1,5 @@
--- What the functions inside the crate ensure of sets of eight words and of tables of such rows; this serves the proofs of the crate only.
+-- These definitions only serve the proofs; a caller need not believe them.
+-- What the functions inside the crate ensure of sets of eight words and of tables of such rows.
 --
 --     FirstCommon a b r              r is the first number in both sets, or 512 where there is none
 --     Joined table u s t             t is the set s with row u added

@@ -8,6 +8,7 @@
 --     Searched rows cores after r   after r searches no core is left; row k of the table after them is what search k found, and the words past row r are as before
 --     Sized rows cores              the tables have 512 rows of eight words, and eight words
 --     SearchCall ..                 the outcome of a call: tables of another size are left alone, and the count is 0
+--     OneSearch                     the theorem: two outcomes on the same tables, in words of 64 bits, are the same (proved in proofs/Unique)
 use Prim.Native.Nat.{ℕ, zero, suc, _*_, _≤_, _<_}
 use mathlib.Core.Path.{_≡_}
 use mathlib.Core.Bool.{Bool, _&&_, _||_, not}
@@ -15,7 +16,7 @@ use mathlib.Core.List.{List}
 use lib.Dec.{T, eqb}
 use lib.ListN.{length, getD}
 use Rattle.sets.specs.Below.{any, find, bit}
-use Rattle.sets.specs.Bits.{bitAt, cell}
+use Rattle.sets.specs.Bits.{bitAt, Words, cell}
 use Rattle.community.specs.Network.{chain}
 
 unfoldable pub steps : List ℕ → (ℕ → Bool) → ℕ → ℕ → Bool
@@ -47,3 +48,7 @@ Sized rows cores = (length rows ≡ 4096) × (length cores ≡ 8)
 pub record SearchCall (rows cores after : List ℕ) (r : ℕ) : Type 0 where
   pub searched : Sized rows cores → Searched rows cores after r
   pub left-alone : (Sized rows cores → ⊥) → (after ≡ rows) × (r ≡ 0)
+
+pub record OneSearch : Type 0 where
+  pub same : (rows cores after after′ : List ℕ) (r r′ : ℕ) → Words after → Words after′ → SearchCall rows cores after r → SearchCall rows cores after′ r′
+      → (after ≡ after′) × (r ≡ r′)

@@ -1,6 +1,5 @@
 -- Words of 64 bits are equal where their bits are: so is a table whose words fit, by its cells.
 --
---     Words ws       each word fits 64 bits
 --     word-one       words with the same bits are equal
 --     word-cell      the bits of word i of a table are 64 cells of row i / 8
 use Prim.Native.Nat.{ℕ, zero, suc, _+_, _*_, _/_, _%_, _^_, _<_}
@@ -13,9 +12,6 @@ use lib.Pow.{shr-lt}
 use Rattle.sets.specs.Bits.{bitOf, cell}
 use Rattle.sets.proofs.Bits.{cell-word}
 use Rattle.sets.proofs.Lowest.{bitOf-first, bitOf-half}
-
-abbrev pub Words : List ℕ → Type 0
-Words ws = (i : ℕ) → getD ws i 0 < 2 ^ 64
 
 half-lt : (n y : ℕ) → y < 2 ^ suc n → y / 2 < 2 ^ n
 half-lt n y b = shr-lt n 1 (subst (λ (z : ℕ). y < 2 ^ z) (sym (add-one n)) b)

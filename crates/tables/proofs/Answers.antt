@@ -8,7 +8,7 @@ use mathlib.Core.List.{List}
 use lib.ListN.{getD}
 use Rattle.image.specs.Answers.{Answer}
 use Rattle.image.proofs.Answers.{given-refused, refused-same}
-use Rattle.tables.specs.Plan.{planAnswer}
+use Rattle.tables.specs.Plan.{planAnswer, OneAnswer}
 use Rattle.tables.specs.declared.Counts.{Counts}
 use Rattle.tables.specs.declared.Planned.{Planned}
 use Rattle.tables.specs.declared.Planned.the-variants.{Made, Refused}
@@ -22,3 +22,6 @@ plan-same (Made c) (Made d) e =
 plan-same (Made c) (Refused r) e = given-refused _ _ r e
 plan-same (Refused r) (Made c) e = given-refused _ _ r (sym e)
 plan-same (Refused r) (Refused q) e = ap Refused (refused-same r q e)
+
+pub one-answer : OneAnswer
+one-answer = record { plan = plan-same }

@@ -1,4 +1,5 @@
--- Only for the contracts inside this crate: nothing that a caller has to believe.
+-- These definitions only serve the proofs; a caller need not believe them.
+-- What the writing of a row works out of one word, for the contracts inside the crate.
 --
 --     wordMembers base w    base + k for each set bit k of the word w, ascending
 use Prim.Native.Nat.{ℕ, _+_}

@@ -11,8 +11,7 @@
 --     over new l             a table that begins with new entries, and past them holds what it held
 --     PlanWritten gs ..      the outcome for the communities gs: the answer and both tables
 --     roleFor cores rows k v the role of v, from the set of cores and the communities as the first k rows
---
--- proofs/Answers: two answers with the same number, place and values are the same.
+--     OneAnswer              the theorem: the number, place and values leave nothing of the answer free (proved in proofs/Answers)
 use Prim.Native.Nat.{ℕ, zero, suc}
 use mathlib.Core.Path.{_≡_}
 use mathlib.Core.Bool.{cond}
@@ -22,7 +21,7 @@ use lib.ListN.{length, drop}
 use Rattle.sets.specs.Below.{select}
 use Rattle.sets.specs.Bits.{bitAt, cell}
 use Rattle.image.specs.declared.Refusal.{Refusal}
-use Rattle.image.specs.Answers.{Answer, refused, given}
+use Rattle.image.specs.Answers.{Answer, refused, given, Injective}
 use Rattle.community.specs.Network.{communityNumber, membershipCount, borderOf}
 use Rattle.community.specs.Tables.{startTable, memberTable}
 use Rattle.community.specs.declared.Role.{Role}
@@ -73,3 +72,6 @@ unfoldable pub roleFor : List ℕ → List ℕ → ℕ → ℕ → Role
 unfolding rowsOf
 roleFor cores rows k v =
     cond (eqb (bitAt cores v) 1) (Core (communityNumber v (rowsOf rows k))) (borderOf (membershipCount v (rowsOf rows k)))
+
+pub record OneAnswer : Type 0 where
+  pub plan : Injective planAnswer

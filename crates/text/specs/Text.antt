@@ -4,10 +4,9 @@
 --     decimal n             the decimal digits of n, with no leading zero; for a number of 64 bits
 --     numbers l             each number of l after a space
 --     elementsOf ws          the members below 512 of a set of bits, ascending
---     Skips ws v r          r comes after v, and no member of the set between them
 --
 -- The laws are in proofs/Writing.
-use Prim.Native.Nat.{ℕ, zero, suc, _+_, _/_, _%_, _≤_, _<_, min}
+use Prim.Native.Nat.{ℕ, zero, suc, _+_, _/_, _%_, min}
 use mathlib.Core.Path.{_≡_}
 use mathlib.Core.Bool.{cond}
 use mathlib.Core.List.{List, [], _∷_, _++_}
@@ -37,8 +36,3 @@ numbers (x ∷ l) = (32 ∷ decimal x) ++ numbers l
 
 unfoldable pub elementsOf : List ℕ → List ℕ
 elementsOf ws = select 512 (λ v. eqb (bitAt ws v) 1)
-
-pub record Skips (ws : List ℕ) (v r : ℕ) : Type 0 where
-  pub later : v < r
-  pub most : r ≤ 512
-  pub none : (u : ℕ) → v < u → u < r → bitAt ws u ≡ 0

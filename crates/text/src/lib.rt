@@ -7,7 +7,8 @@ ghost use mathlib.Core.Path.{_≡_};
 ghost use mathlib.Core.List.{[], _∷_};
 ghost use lib.Dec.{eqb};
 ghost use lib.ListN.{getD};
-ghost use Rattle.text.specs.Text.{Wrote, digitsOf, decimal, numbers, elementsOf, Skips};
+ghost use Rattle.text.specs.Text.{Wrote, digitsOf, decimal, numbers, elementsOf};
+ghost use Rattle.text.specs.Held.{Skips};
 
 // Writes one byte.
 pub fn put(text: &mut [u8], at: usize, byte: u8) -> usize

@@ -55,14 +55,11 @@ loop-holds : tie.Need-loop-holds Inv-loop μ-loop
 unfolding sum
 loop-holds c = (omega arith, left-none _)
 
-mul-coordinate : tie.Need-mul-coordinate Inv-loop μ-loop
-mul-coordinate c = omega arith
+mul-at : tie.Need-mul-at Inv-loop μ-loop
+mul-at c = omega arith
 
 coordinate-requires : tie.Need-coordinate-requires Inv-loop μ-loop
 coordinate-requires c κs = tt
-
-mul-coordinate-2 : tie.Need-mul-coordinate-2 Inv-loop μ-loop
-mul-coordinate-2 c = omega arith
 
 coordinate-requires-2 : tie.Need-coordinate-requires-2 Inv-loop μ-loop
 coordinate-requires-2 c κs = tt
@@ -108,9 +105,8 @@ within-spec =
     Inv-loop
     μ-loop
     loop-holds
-    mul-coordinate
+    mul-at
     coordinate-requires
-    mul-coordinate-2
     coordinate-requires-2
     squared-gap-requires
     wrapping-sub-u64-requires

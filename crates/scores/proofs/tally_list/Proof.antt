@@ -8,6 +8,7 @@ use mathlib.Core.List.{List}
 use lib.ListN.{length, take, drop, length-take, length-drop}
 use denote.Ref.{now}
 use Rattle.sets.specs.Below.{find}
+use Rattle.fields.specs.Fields.{edgeBytes}
 use Rattle.image.proofs.Answers.{open-same}
 use Rattle.image.specs.Questions.{openOf, refusalOf}
 use Rattle.image.specs.declared.Header.{Header}
@@ -48,7 +49,7 @@ abbrev header : tie.After-known-told → Header
 header c = c .before .opened .given .0 .0
 
 abbrev tally : tie.After-known-told → Tally
-tally c = let h = header c in tallyAt (take (4 * h .m) (drop (h .edges) (image-of (read c)))) (h .m) everyEdge (list-of (read c))
+tally c = let h = header c in tallyAt (take (edgeBytes * h .m) (drop (h .edges) (image-of (read c)))) (h .m) everyEdge (list-of (read c))
 
 -- the reader's answer
 opened-is : (c : tie.After-open) → c .open .result ≡ openOf (image-of c)
@@ -58,7 +59,7 @@ answered : (c : tie.After-known-told) → openOf (image-of (read c)) ≡ O.Site 
 answered c = sym (opened-is (read c)) ∙ c .before .opened .given .1
 
 -- the bounds of its header
-fits : (c : tie.After-known-told) → (let h = header c in (h .edges + 4 * h .m ≤ length (image-of (read c))) × (h .m ≤ 4096) × (h .n ≤ 512))
+fits : (c : tie.After-known-told) → (let h = header c in (h .edges + edgeBytes * h .m ≤ length (image-of (read c))) × (h .m ≤ 4096) × (h .n ≤ 512))
 fits c = site-fits (image-of (read c)) (header c) (answered c)
 
 -- where the scan of the entries stopped
@@ -137,7 +138,7 @@ returns-3 c =
     let s = image-of (read k) in
     let l = list-of (read k) in
     ap tallyAnswer
-    (ap T.Of (c .tally-listed .ensures ∙ ap (λ (w : ℕ). tallyAt (take w (drop (h .edges) s)) (h .m) everyEdge l) (add-sub-cancel-left (h .edges) (4 * h .m)))
+    (ap T.Of (c .tally-listed .ensures ∙ ap (λ (w : ℕ). tallyAt (take w (drop (h .edges) s)) (h .m) everyEdge l) (add-sub-cancel-left (h .edges) (edgeBytes * h .m)))
     ∙ entries-yes (h .n) l (tally k) _ (scanned (g .before)) (g .if1 .left)
     ∙ site-tallied s h (answered k) l)
 

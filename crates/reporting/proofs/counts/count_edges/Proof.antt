@@ -5,6 +5,7 @@ use Prim.Native.Nat.{ℕ, _+_, _*_, _-_, _≤_}
 use mathlib.Core.Path.{_≡_, sym, ap, _∙_, subst}
 use denote.Ref.{now}
 use lib.ListN.{length, length-replicate}
+use Rattle.fields.specs.Fields.{edgeBytes}
 use Rattle.fields.specs.declared.Ends.{Ends}
 use Rattle.image.specs.Image.{endA, endB}
 use Rattle.reporting.specs.Held.{Edges, EdgesCounted}
@@ -32,7 +33,7 @@ given-edges : (c : tie.At-loop Inv-loop μ-loop) → Edges (now (start c .args .
 given-edges c = start c .pre .1 .1 .0
 
 -- the record of edge k stands in the part
-inside : (c : tie.In-loop Inv-loop μ-loop) → (c .before .loop .k ≤ 4095) × (4 * c .before .loop .k + 4 ≤ length (now (start (c .before) .args .edges)))
+inside : (c : tie.In-loop Inv-loop μ-loop) → (c .before .loop .k ≤ 4095) × (edgeBytes * c .before .loop .k + edgeBytes ≤ length (now (start (c .before) .args .edges)))
 inside c = (omega (arith, given-edges (c .before) .few), omega (arith, given-edges (c .before) .whole))
 
 loop-holds : tie.Need-loop-holds Inv-loop μ-loop
