@@ -16,7 +16,7 @@
  * added up, and confirmed by measuring (tests/rust, program stack). It is no part of what is proved,
  * and another compiler or target may need another amount.
  *
- *     dvg_report 139 KiB    dvg_plan, dvg_role 83 KiB    dvg_open, dvg_scores 34 KiB    dvg_members 1 KiB
+ *     dvg_report 91 KiB    dvg_plan, dvg_role 36 KiB    dvg_open, dvg_scores 35 KiB    dvg_members 1 KiB
  *
  * The caller owns everything that it lends, before, during and after the call. A pointer must be
  * valid for the length given with it, also where that length is 0 (any non-null pointer then
