@@ -4,7 +4,7 @@
 --     pairs l                s, the count of all pairs of places in l
 --     everyEdge              the test that every edge passes
 --     joinedBy s test u v    u and v are the two ends of an edge that passes; with every edge, u and v are adjacent (the paper: tied)
---     joinedPairs s test l     t, the count of pairs of places whose handsets are joined so
+--     joinedPairs s test l   t, the count of pairs of places whose handsets are joined so
 --     leaving s test l       o, the count of edges that pass and have just one end in l
 --
 -- Density is (s - t) / s and conductance o / (2 t + o), neither reduced. The laws are in proofs/Tallying of the crate `scores`.

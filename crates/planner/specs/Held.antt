@@ -4,11 +4,11 @@
 --     HasEnds edges n k        edge k stands in the part, and its ends are below n
 --     inWord word base k       edge k is in a word that holds edges from base on, one bit an edge
 --     EdgeSet ws f             64 words hold the edges that pass f
---     isShort ..                the ends of edge k are no farther apart than the root of the limit
+--     isShort ..               the ends of edge k are no farther apart than the root of the limit
 --     Dropped edges f a b      the table b is the table a without the edges that pass f
 --     enough ..                the test for similarity by a table and its sizes
---     neighbourIn                   the neighbour relation among the handsets of a network
---     NeighboursKept s ..            what dropping the edges that are too long leaves of an image's tables
+--     neighbourIn              the neighbour relation among the handsets of a network
+--     NeighboursKept s ..      what dropping the edges that are too long leaves of an image's tables
 use Prim.Native.Nat.{ℕ, _+_, _*_, _-_, _≤_, _<_, min}
 use mathlib.Core.Path.{_≡_}
 use mathlib.Core.Bool.{Bool, _&&_}

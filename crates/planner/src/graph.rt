@@ -56,7 +56,7 @@ fn is_short(handsets: &[u8], e: Ends, limit: u64) -> bool
     image::within(&handsets[a..a_past], &handsets[b..b_past], limit)
 }
 
-// The edges from `base` on that are near, as a word: of `count` edges, at most 64. It is made without a branch.
+// The edges from `base` on that are no longer than the root of the limit, as a word: of `count` edges, at most 64. It is made without a branch.
 fn short_word<'a>(handsets: &'a [u8], edges: &'a [u8], base: usize, count: usize, limit: u64) -> u64
     requires { ⌜ (count ≤ 64) × (base ≤ 4096) × (length (now handsets) ≤ handsetBytes * 512) × ((k : ℕ) → k < count → HasEnds (now edges) (length (now handsets) / handsetBytes) (base + k)) ⌝ }
     ensures { λ r. ⌜ WordOf r (λ k. ltb k count && isShort (now (handsets .entry)) (now (edges .entry)) limit (base + k)) ⌝ }
