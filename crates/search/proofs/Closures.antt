@@ -1,7 +1,7 @@
--- The closures that a search finds: a closure has its start and every number of the row of each core left that it has, and it is the least such set. So what
+-- The closures that a search finds: a closure has the row of its start and of each core left that it has, and it is the least such set. So what
 -- `collect` leaves is the closure, whatever rows stand in the place of those of cores that are not left.
 --
---     closure-start, closure-on, closure-least     a closure is the least set with its start that is closed under steps
+--     closure-start, closure-on, closure-least     a closure is the least set with the row of its start that is closed under steps
 --     collected-closure                            the set that `collect` gives is the closure; collected-left: and what is left is left without it
 --     left-first, left-next                        what is left at first, and after each search; found-is: what a search finds
 --     smallest-later                               a search takes out the smallest core left, so the next one starts after it
@@ -12,8 +12,8 @@ use native.Mathlib.Omega.{arith}
 use native.Mathlib.Numerals.{add-one}
 use native.Mathlib.Decide.{ℕ-discrete, decLt}
 use mathlib.Core.Path.{_≡_, refl, sym, ap, _∙_}
-use mathlib.Core.Logic.{⊎-elim}
-use mathlib.Core.Bool.{Bool, true, false, _&&_, not}
+use mathlib.Core.Logic.{_⊎_, inl, inr, ⊎-elim}
+use mathlib.Core.Bool.{Bool, true, false, _&&_, _||_, not}
 use mathlib.Core.List.{List}
 use lib.Dec.{T, eqb, eqb→eq, T-not}
 use lib.ListN.{length, getD}
@@ -21,7 +21,7 @@ use Rattle.sets.specs.Below.{any, find, bit, sum}
 use Rattle.sets.specs.Bits.{bitOf, bitAt, cell}
 use Rattle.sets.proofs.Bits.{bitAt-lt, zeros, bitAt-zeros}
 use Rattle.sets.proofs.Counting.{bit-true}
-use Rattle.sets.proofs.Tests.{and-make, and-left, and-right, or-left, or-right, or-cases, decide, eqb-of, any-make, none-any, not-any, find-law, find-is, find-none}
+use Rattle.sets.proofs.Tests.{and-make, and-left, and-right, or-left, decide, eqb-of, eqb-not, any-make, none-any, not-any, find-law, find-is, find-none}
 use Rattle.community.specs.Network.{chain}
 use Rattle.community.proofs.Reachability.{chain-step, chain-meet, chain-least}
 use Rattle.search.specs.Held.{FirstCommon, Joined, Stored, Collected}
@@ -53,42 +53,34 @@ bit-eqb x h = bit-is (eqb x 1) x h (λ e. eqb-of x 1 e) (λ t. eqb→eq x 1 t)
 -- ---- a closure
 
 module _ (rows : List ℕ) (left : ℕ → Bool) (u : ℕ) where
-  pub closure-start : T (closure rows left u u)
-  unfolding closure
-  closure-start = or-left (eqb u u) (chain (steps rows left) 512 u u) (eqb-of u u refl)
-
   step-in : (x v : ℕ) → T (left x) → cell rows x v ≡ 1 → T (steps rows left x v)
   unfolding steps
   step-in x v t e = and-make (left x) (eqb (cell rows x v) 1) t (eqb-of (cell rows x v) 1 e)
 
   pub closure-on : (x v : ℕ) → x < 512 → T (closure rows left u x) → T (left x) → cell rows x v ≡ 1 → T (closure rows left u v)
   unfolding closure
-  closure-on x v h t p e =
-      let s = chain-step (steps rows left) 512 x v (step-in x v p e) in
-      or-right (eqb u v) (chain (steps rows left) 512 u v)
-      (⊎-elim
-      (λ q. rw (eqb→eq u x q) s)
-      (λ c. chain-meet (steps rows left) 512 x h u v c s)
-      (or-cases (eqb u x) (chain (steps rows left) 512 u x) t))
+  closure-on x v h t p e = chain-meet (steps rows left) 512 x h u v t (chain-step (steps rows left) 512 x v (step-in x v p e))
 
-  pub closure-least : (f : ℕ → Bool) → u < 512 → T (f u)
+  pub closure-start : (v : ℕ) → T (left u) → cell rows u v ≡ 1 → T (closure rows left u v)
+  unfolding closure
+  closure-start v p e = chain-step (steps rows left) 512 u v (step-in u v p e)
+
+  pub closure-least : (f : ℕ → Bool) → u < 512 → ((v : ℕ) → v < 512 → cell rows u v ≡ 1 → T (f v))
       → ((x v : ℕ) → x < 512 → v < 512 → T (f x) → T (left x) → cell rows x v ≡ 1 → T (f v))
       → (v : ℕ) → v < 512 → T (closure rows left u v) → T (f v)
   unfolding closure steps
-  closure-least f h fu on v l t =
-      ⊎-elim
-      (λ q. rw (sym (eqb→eq u v q)) fu)
-      (λ c.
-      chain-least (steps rows left) 512 (λ x y. T (f x) → T (f y))
-      (λ x y a b s fx. on x y a b fx (and-left (left x) (eqb (cell rows x y) 1) s) (eqb→eq (cell rows x y) 1 (and-right (left x) (eqb (cell rows x y) 1) s)))
-      (λ x y z p q fx. q (p fx))
-      512 (omega arith) u v h l c fu)
-      (or-cases (eqb u v) (chain (steps rows left) 512 u v) t)
+  closure-least f h first on v l t =
+      chain-least (steps rows left) 512 (λ x y. (x ≡ u) ⊎ T (f x) → T (f y))
+      (λ x y a b s.
+      let e : cell rows x y ≡ 1 = eqb→eq (cell rows x y) 1 (and-right (left x) (eqb (cell rows x y) 1) s) in
+      ⊎-elim (λ q. first y b (ap (λ (z : ℕ). cell rows z y) (sym q) ∙ e)) (λ fx. on x y a b fx (and-left (left x) (eqb (cell rows x y) 1) s) e))
+      (λ x y z p q o. q (inr (p o)))
+      512 (omega arith) u v h l t (inl refl)
 
 -- the numbers of `left` pass the test f, and the table has rows for them as in `rows`
 module _ (rows table left : List ℕ) (f : ℕ → Bool) (left-is : (v : ℕ) → v < 512 → bitAt left v ≡ bit (f v))
     (same : (x v : ℕ) → x < 512 → v < 512 → bitAt left x ≡ 1 → cell table x v ≡ cell rows x v)
-    (u : ℕ) (h : u < 512) (left′ set : List ℕ) (col : Collected table left u left′ set) where
+    (u : ℕ) (h : u < 512) (is-left : T (f u)) (left′ set : List ℕ) (col : Collected table left u left′ set) where
   in-left : (x : ℕ) → x < 512 → T (f x) → bitAt left x ≡ 1
   in-left x l t = left-is x l ∙ bit-true (f x) t
 
@@ -96,31 +88,47 @@ module _ (rows table left : List ℕ) (f : ℕ → Bool) (left-is : (v : ℕ) �
   collected-closure v l =
       bit-is (closure rows f u v) (bitAt set v) (bitAt-lt set v)
       (λ e.
-      col .least (closure rows f u) (closure-start rows f u)
+      col .least (closure rows f u) (λ y hy c. closure-start rows f u y is-left (sym (same u y h hy (in-left u h is-left)) ∙ c))
       (λ x y hx hy t p r. closure-on rows f u x y hx t (bit-one (f x) (bitAt left x) (left-is x hx) p) (sym (same x y hx hy p) ∙ r))
       v l e)
       (λ t.
       eqb→eq (bitAt set v) 1
-      (closure-least rows f u (λ x. eqb (bitAt set x) 1) h (eqb-of (bitAt set u) 1 (col .start))
+      (closure-least rows f u (λ x. eqb (bitAt set x) 1) h
+      (λ y hy c. eqb-of (bitAt set y) 1 (col .start y hy (same u y h hy (in-left u h is-left) ∙ c)))
       (λ x y hx hy s p r.
       eqb-of (bitAt set y) 1
       (col .closed x y hx hy (eqb→eq (bitAt set x) 1 s) (in-left x hx p) (same x y hx hy (in-left x hx p) ∙ r)))
       v l t))
 
-  pub collected-left : (v : ℕ) → v < 512 → bitAt left′ v ≡ bit (f v && not (closure rows f u v))
-  collected-left v l = and-not (f v) (closure rows f u v) (col .rest v l) (left-is v l) (collected-closure v l)
+  pub collected-left : (v : ℕ) → v < 512 → bitAt left′ v ≡ bit (f v && not (eqb u v || closure rows f u v))
+  collected-left v l = pick (ℕ-discrete v u)
     where
       and-not : (a b : Bool) {x y z : ℕ} → x ≡ min y (1 - z) → y ≡ bit a → z ≡ bit b → x ≡ bit (a && not b)
       and-not true true e p q = omega (arith, e, p, q)
       and-not true false e p q = omega (arith, e, p, q)
       and-not false b e p q = omega (arith, e, p)
 
+      start-out : (a b c : Bool) → T b → 0 ≡ bit (a && not (b || c))
+      start-out true true c t = refl
+      start-out false true c t = refl
+      start-out a false c t = absurd t
+
+      other : (b c : Bool) → T (not b) → c ≡ (b || c)
+      other true c t = absurd t
+      other false c t = refl
+
+      pick : Dec (v ≡ u) → bitAt left′ v ≡ bit (f v && not (eqb u v || closure rows f u v))
+      pick (yes e) = ap (bitAt left′) e ∙ col .gone ∙ start-out (f v) (eqb u v) (closure rows f u v) (eqb-of u v (sym e))
+      pick (no d) =
+          and-not (f v) (closure rows f u v) (col .rest v l d) (left-is v l) (collected-closure v l)
+          ∙ ap (λ (b : Bool). bit (f v && not b)) (other (eqb u v) (closure rows f u v) (eqb-not u v (λ e. d (sym e))))
+
 -- ---- the searches
 
 pub left-next : (rows cores : List ℕ) (k u v : ℕ) → find 512 (leftAfter rows cores k) ≡ u
-    → leftAfter rows cores (suc k) v ≡ (leftAfter rows cores k v && not (closure rows (leftAfter rows cores k) u v))
+    → leftAfter rows cores (suc k) v ≡ (leftAfter rows cores k v && not (eqb u v || closure rows (leftAfter rows cores k) u v))
 unfolding leftAfter
-left-next rows cores k u v e = ap (λ (x : ℕ). leftAfter rows cores k v && not (closure rows (leftAfter rows cores k) x v)) e
+left-next rows cores k u v e = ap (λ (x : ℕ). leftAfter rows cores k v && not (eqb x v || closure rows (leftAfter rows cores k) x v)) e
 
 pub found-is : (rows cores : List ℕ) (k u v : ℕ) → find 512 (leftAfter rows cores k) ≡ u → foundBy rows cores k v ≡ closure rows (leftAfter rows cores k) u v
 unfolding foundBy
@@ -144,14 +152,15 @@ module _ (table cores : List ℕ) (k : ℕ) where
       m = find-law 512 (leftAfter table cores k) some
 
       reached : Bool
-      reached = closure table (leftAfter table cores k) (least k) (least (suc k))
+      reached = eqb (least k) (least (suc k)) || closure table (leftAfter table cores k) (least k) (least (suc k))
 
       still : T (any 512 (leftAfter table cores (suc k))) → T (leftAfter table cores k (least (suc k)) && not reached)
       still t = rw (left-next table cores k (least k) (least (suc k)) refl) at (find-law 512 (leftAfter table cores (suc k)) t .1)
 
       later : T (any 512 (leftAfter table cores (suc k))) → Dec (least (suc k) ≡ least k) → Dec (least (suc k) < least k) → least k < least (suc k)
       later t (yes e) d =
-          absurd (T-not reached (and-right (leftAfter table cores k (least (suc k))) (not reached) (still t)) (rw e (closure-start table (leftAfter table cores k) (least k))))
+          absurd (T-not reached (and-right (leftAfter table cores k (least (suc k))) (not reached) (still t))
+          (or-left (eqb (least k) (least (suc k))) (closure table (leftAfter table cores k) (least k) (least (suc k))) (eqb-of (least k) (least (suc k)) (sym e))))
       later t (no n) (yes l) =
           absurd (not-any (least k) (leftAfter table cores k) (least (suc k)) (m .2) l (and-left (leftAfter table cores k (least (suc k))) (not reached) (still t)))
       later t (no n) (no d) = omega (arith, n, d)
@@ -211,7 +220,7 @@ module _ (rows₀ cores : List ℕ) where
           omega (arith, copy .bits v h, bitAt-zeros 8 v, ap (bitAt cores) e)
 
   module _ (rows left : List ℕ) (k u : ℕ) (now : Finding rows₀ cores rows left k u) where
-    pub finding-left : u < 512 → bitAt left u ≡ 1
+    finding-left : u < 512 → bitAt left u ≡ 1
     finding-left h = omega (arith, now .first .found h)
 
     -- no core before u is left
@@ -236,14 +245,18 @@ module _ (rows₀ cores : List ℕ) where
       -- a core that is left after the search comes after u
       later : (x : ℕ) → x < 512 → bitAt left′ x ≡ 1 → u < x
       later x l t =
-          let was : bitAt left x ≡ 1 = omega (arith, col .rest x l, t, bitAt-lt left x) in
-          let other : x ≡ u → ⊥ = λ e. omega (arith, col .rest x l, t, col .start, ap (bitAt set) e) in
+          let other : x ≡ u → ⊥ = λ e. omega (arith, t, col .gone, ap (bitAt left′) e) in
+          let was : bitAt left x ≡ 1 = omega (arith, col .rest x l other, t, bitAt-lt left x) in
           let before : x < u → ⊥ = λ q. omega (arith, now .first .before x q, was) in
           omega (arith, other, before)
 
       pub finding-falls : sum 512 (bitAt left′) < sum 512 (bitAt left)
       finding-falls =
-          sum-less 512 (bitAt left) (bitAt left′) u h (λ v l. omega (arith, col .rest v l)) (omega (arith, col .rest u h, col .start, finding-left h))
+          sum-less 512 (bitAt left) (bitAt left′) u h (λ v l. fewer v l (ℕ-discrete v u)) (omega (arith, col .gone, finding-left h))
+        where
+          fewer : (v : ℕ) → v < 512 → Dec (v ≡ u) → bitAt left′ v ≤ bitAt left v
+          fewer v l (yes e) = omega (arith, col .gone, ap (bitAt left′) e)
+          fewer v l (no d) = omega (arith, col .rest v l d)
 
       pub finding-on : (after : List ℕ) (u′ : ℕ) → length left′ ≡ 8 → Stored rows k set after → FirstCommon left′ left′ u′ → Finding rows₀ cores after left′ (k + 1) u′
       finding-on after u′ l st first = record {
@@ -251,7 +264,7 @@ module _ (rows₀ cores : List ℕ) where
         some-left = λ j q. some j q (ℕ-discrete j k);
         left-size = l;
         left-is = λ v q.
-            collected-left rows₀ rows left (leftAfter rows₀ cores k) (now .left-is) same u h left′ set col v q
+            collected-left rows₀ rows left (leftAfter rows₀ cores k) (now .left-is) same u h is-left left′ set col v q
             ∙ ap bit (sym (left-next rows₀ cores k u v smallest) ∙ ap (λ (x : ℕ). leftAfter rows₀ cores x v) (sym (add-one k)));
         first = first;
         size = st .size ∙ now .size;
@@ -270,7 +283,7 @@ module _ (rows₀ cores : List ℕ) where
           row-next : (j v : ℕ) → j < k + 1 → v < 512 → Dec (j ≡ k) → cell after j v ≡ bit (foundBy rows₀ cores j v)
           row-next j v q m (yes e) =
               ap (λ (x : ℕ). cell after x v) e ∙ st .row v m
-              ∙ collected-closure rows₀ rows left (leftAfter rows₀ cores k) (now .left-is) same u h left′ set col v m
+              ∙ collected-closure rows₀ rows left (leftAfter rows₀ cores k) (now .left-is) same u h is-left left′ set col v m
               ∙ ap bit (sym (found-is rows₀ cores k u v smallest))
               ∙ ap (λ (x : ℕ). bit (foundBy rows₀ cores x v)) (sym e)
           row-next j v q m (no d) =

@@ -10,14 +10,14 @@ use native.Mathlib.Omega.{arith}
 use native.Mathlib.Decide.{ℕ-discrete, decLt}
 use mathlib.Core.Path.{_≡_, refl, sym, ap, _∙_}
 use mathlib.Core.Logic.{⊎-elim}
-use mathlib.Core.Bool.{Bool, not, _&&_}
+use mathlib.Core.Bool.{Bool, not, _&&_, _||_}
 use mathlib.Core.List.{List, [], _∷_, _++_}
-use lib.Dec.{T, ltb, lt→ltb, ltb→lt, T-not}
+use lib.Dec.{T, ltb, eqb, lt→ltb, ltb→lt, eqb→eq, T-not}
 use lib.ListN.{length, getD, length-append, List·getD-append}
 use lib.Seq.{getD-at}
 use Rattle.sets.specs.Below.{any, find, bit, select}
 use Rattle.sets.specs.Bits.{bitAt, cell}
-use Rattle.sets.proofs.Tests.{and-make, and-left, and-right, T-ext, decide, not-any, any-none, find-law}
+use Rattle.sets.proofs.Tests.{and-make, and-left, and-right, or-right, or-cases, T-ext, decide, not-any, any-none, find-law}
 use Rattle.sets.proofs.Counting.{bit-true}
 use Rattle.sets.proofs.Selecting.{select-yes, select-same}
 use Rattle.community.specs.Network.{Network, similar, isCore, Reachable, one, more, reachable, isLeader, leaders}
@@ -163,7 +163,7 @@ module _ {g : Network} {table cores : List ℕ} (given : Surveyed g table cores)
       related x v a c t = given .similar-table .bits x v (small a) (small c) ∙ bit-true (similarIn g x v) (similar-in g x v a c t)
 
       whole : (v : ℕ) → Reachable g u v → T (closure table left u v)
-      whole v (one a c t) = closure-on table left u u v h (closure-start table left u) is-left (related u v a c (step-similar ok u v t))
+      whole v (one a c t) = closure-start table left u v is-left (related u v a c (step-similar ok u v t))
       whole v (more {v = x} r c t) =
           let core = step-core ok x v t in
           closure-on table left u x v (small (to-below r)) (whole x r) (still x (to-below r) core (Reachable-back ok r core))
@@ -171,24 +171,35 @@ module _ {g : Network} {table cores : List ℕ} (given : Surveyed g table cores)
 
       only : (v : ℕ) → v < 512 → T (closure table left u v) → T (reachableIn g u v)
       only v l t =
-          closure-least table left u (reachableIn g u) h (reachable-in g u u (core-self ok u u-below u-core))
+          closure-least table left u (reachableIn g u) h
+          (λ y ly r. let s = row u y h ly r in reachable-in g u y (one u-below (s .1) (step-make ok u y u-core (s .2))))
           (λ x y lx ly p q r.
-          let s = similar-take g x y (bit-one (similarIn g x y) (cell table x y) (given .similar-table .bits x y lx ly) r) in
+          let s = row x y lx ly r in
           reachable-in g u y (more (reachable-take g u x p) (s .1) (step-make ok x y (now .core x lx q .1) (s .2))))
           v l t
+        where
+          row : (x y : ℕ) → x < 512 → y < 512 → cell table x y ≡ 1 → (x < g .n) × (y < g .n) × T (similar g x y)
+          row x y lx ly r = similar-take g x y (bit-one (similarIn g x y) (cell table x y) (given .similar-table .bits x y lx ly) r)
 
       closure-reachable : (v : ℕ) → v < 512 → closure table left u v ≡ reachableIn g u v
       closure-reachable v l = T-ext (closure table left u v) (reachableIn g u v) (only v l) (λ t. whole v (reachable-take g u v t))
 
       module _ (smallest : find 512 left ≡ u) where
-        left-on : (v : ℕ) → leftAfter table cores (suc k) v ≡ (left v && not (closure table left u v))
+        abbrev out : ℕ → Bool
+        out v = eqb u v || closure table left u v
+
+        left-on : (v : ℕ) → leftAfter table cores (suc k) v ≡ (left v && not (out v))
         left-on v = left-next table cores k u v smallest
 
         left-was : (v : ℕ) → T (leftAfter table cores (suc k) v) → T (left v)
-        left-was v t = and-left (left v) (not (closure table left u v)) (rw (left-on v) at t)
+        left-was v t = and-left (left v) (not (out v)) (rw (left-on v) at t)
 
-        left-out : (v : ℕ) → T (leftAfter table cores (suc k) v) → T (not (closure table left u v))
-        left-out v t = and-right (left v) (not (closure table left u v)) (rw (left-on v) at t)
+        left-out : (v : ℕ) → T (leftAfter table cores (suc k) v) → T (not (out v))
+        left-out v t = and-right (left v) (not (out v)) (rw (left-on v) at t)
+
+        -- u is in its own row, so what goes out is what is found
+        out-found : (v : ℕ) → T (out v) → T (closure table left u v)
+        out-found v t = ⊎-elim (λ e. rw (sym (eqb→eq u v e)) (whole u (core-self ok u u-below u-core))) (λ c. c) (or-cases (eqb u v) (closure table left u v) t)
 
         found-on : Found g table cores (suc k) (suc u)
         found-on = record {
@@ -215,7 +226,7 @@ module _ {g : Network} {table cores : List ℕ} (given : Surveyed g table cores)
             apart-next v w l p q t r = go (ℕ-discrete w u) (decLt w b)
               where
                 go : Dec (w ≡ u) → Dec (w < b) → ⊥
-                go (yes z) d = T-not (closure table left u v) (left-out v p) (whole v (rw z at r))
+                go (yes z) d = T-not (out v) (left-out v p) (or-right (eqb u v) (closure table left u v) (whole v (rw z at r)))
                 go (no n) (yes d) = now .apart v w l (left-was v p) d t r
                 go (no n) (no d) = no-leader w (omega arith) (omega (arith, u-below)) (any-none u left first w (omega arith)) t
 
@@ -224,9 +235,8 @@ module _ {g : Network} {table cores : List ℕ} (given : Surveyed g table cores)
               where
                 found-now : T (left v) → T (closure table left u v)
                 found-now y =
-                    ⊎-elim (λ c. c)
-                    (λ n. absurd (T-not (leftAfter table cores (suc k) v) p (rw (left-on v) (and-make (left v) (not (closure table left u v)) y n))))
-                    (decide (closure table left u v))
+                    ⊎-elim (out-found v) (λ n. absurd (T-not (leftAfter table cores (suc k) v) p (rw (left-on v) (and-make (left v) (not (out v)) y n))))
+                    (decide (out v))
 
                 was : T (left v) → (w : ℕ) × (w < suc u) × T (isLeader g w) × Reachable g w v
                 was y = (u, omega arith, leads .1, reachable-take g u v (only v (small l) (found-now y)))

@@ -18,10 +18,10 @@ use lib.Dec.{T}
 use lib.ListN.{length, getD, set, length-set}
 use lib.Seq.{getD-set-same, getD-set-other}
 use Rattle.sets.specs.Below.{sum}
-use Rattle.sets.specs.Bits.{bitOf, bitAt, cell, withBit}
+use Rattle.sets.specs.Bits.{bitOf, bitAt, cell, withoutBit}
 use Rattle.sets.proofs.Tests.{below}
 use Rattle.sets.proofs.Counting.{sum-le}
-use Rattle.sets.proofs.Bits.{bitOf-none, bitOf-lt, bitAt-lt, bitOf-and, bitOf-or, bitOf-xor, word-bit, cell-word, zeros, bitAt-zeros, bitAt-set-same, bitAt-set-other, length-withBit}
+use Rattle.sets.proofs.Bits.{bitOf-none, bitOf-lt, bitAt-lt, bitOf-and, bitOf-or, bitOf-xor, word-bit, cell-word, zeros, bitAt-zeros, bitAt-clear-same, bitAt-clear-other}
 use Rattle.sets.proofs.Lowest.{Lowest, cleared, cleared-lt, cleared-le, cleared-other}
 use Rattle.search.specs.Held.{FirstCommon, Joined, JoinedAll, Stored, Collected}
 
@@ -180,11 +180,11 @@ module _ (table : List ℕ) (word base : ℕ) (s₀ : List ℕ) where
     adding-bit : (k : ℕ) → bitOf w k ≡ 1 → bitOf word k ≡ 1
     adding-bit k e = omega (arith, now .part k, bitOf-lt word k)
 
-    pub adding-on : (t : ℕ) (s′ : List ℕ) → t < 64 → bitOf w t ≡ 1 → Joined table (base + t) s s′ → Adding table word base s₀ (cleared w t) s′
-    adding-on t s′ h e j = record {
-      fits = cleared-lt w t h (now .fits);
+    pub adding-on : (t : ℕ) (s′ : List ℕ) → t < 64 → Lowest w t → Joined table (base + t) s s′ → Adding table word base s₀ (cleared w) s′
+    adding-on t s′ h low j = record {
+      fits = cleared-lt w (now .fits);
       size = j .size;
-      part = λ k. omega (arith, cleared-le w t h k, now .part k);
+      part = λ k. omega (arith, cleared-le w k, now .part k);
       keeps = λ v l p. kept v l (now .keeps v l p);
       rows = λ k v a b p q r. pick k v a b p q r (ℕ-discrete k t);
       least = λ f given step v l p. only f given step v l p (ℕ-discrete (bitAt s v) 1);
@@ -193,11 +193,11 @@ module _ (table : List ℕ) (word base : ℕ) (s₀ : List ℕ) where
         kept : (v : ℕ) → v < 512 → bitAt s v ≡ 1 → bitAt s′ v ≡ 1
         kept v l p = omega (arith, j .bits v l, bitAt-lt s′ v)
 
-        pick : (k v : ℕ) → k < 64 → v < 512 → bitOf word k ≡ 1 → bitOf (cleared w t) k ≡ 0 → cell table (base + k) v ≡ 1 → Dec (k ≡ t) → bitAt s′ v ≡ 1
+        pick : (k v : ℕ) → k < 64 → v < 512 → bitOf word k ≡ 1 → bitOf (cleared w) k ≡ 0 → cell table (base + k) v ≡ 1 → Dec (k ≡ t) → bitAt s′ v ≡ 1
         pick k v a b p q r (yes d) =
             let c : cell table (base + t) v ≡ 1 = ap (λ (x : ℕ). cell table (base + x) v) (sym d) ∙ r in
             omega (arith, j .bits v b, c, bitAt-lt s v)
-        pick k v a b p q r (no d) = kept v b (now .rows k v a b p (sym (cleared-other w t h k d) ∙ q) r)
+        pick k v a b p q r (no d) = kept v b (now .rows k v a b p (sym (cleared-other w t low k d) ∙ q) r)
 
         only : (f : ℕ → Bool) → ((v : ℕ) → v < 512 → bitAt s₀ v ≡ 1 → T (f v))
             → ((k v : ℕ) → k < 64 → v < 512 → bitOf word k ≡ 1 → cell table (base + k) v ≡ 1 → T (f v))
@@ -205,7 +205,7 @@ module _ (table : List ℕ) (word base : ℕ) (s₀ : List ℕ) where
         only f given step v l p (yes q) = now .least f given step v l q
         only f given step v l p (no d) =
             let c : cell table (base + t) v ≡ 1 = omega (arith, j .bits v l, p, d, bitAt-lt s v) in
-            step t v h l (adding-bit t e) c
+            step t v h l (adding-bit t (low .here)) c
 
     pub adding-end : w ≡ 0 → JoinedAll table word base s₀ s
     adding-end e = record {
@@ -301,39 +301,34 @@ sum-less (suc n) f g i h le l =
 pub record Growing (table left₀ : List ℕ) (u : ℕ) (s left : List ℕ) (w : ℕ) : Type 0 where
   pub left-size : length left ≡ 8
   pub size : length s ≡ 8
-  pub seed : u < 512
-  pub start : bitAt s u ≡ 1
+  pub start : (v : ℕ) → v < 512 → cell table u v ≡ 1 → bitAt s v ≡ 1
   pub most : w ≤ 512
   pub next : w < 512 → (bitAt left w ≡ 1) × (bitAt s w ≡ 1)
   pub sub : (x : ℕ) → bitAt left x ≤ bitAt left₀ x
   pub out : (x : ℕ) → x < 512 → bitAt left₀ x ≡ 1 → bitAt left x ≡ 0 → bitAt s x ≡ 1
   pub done : (x v : ℕ) → x < 512 → v < 512 → bitAt left₀ x ≡ 1 → bitAt left x ≡ 0 → cell table x v ≡ 1 → bitAt s v ≡ 1
-  pub least : (f : ℕ → Bool) → T (f u)
+  pub least : (f : ℕ → Bool) → ((v : ℕ) → v < 512 → cell table u v ≡ 1 → T (f v))
       → ((x v : ℕ) → x < 512 → v < 512 → T (f x) → bitAt left₀ x ≡ 1 → cell table x v ≡ 1 → T (f v))
       → (v : ℕ) → v < 512 → bitAt s v ≡ 1 → T (f v)
   pub before : (k : ℕ) → k < w → min (bitAt s k) (bitAt left k) ≡ 0
 
-pub growing-start : (table left : List ℕ) (u : ℕ) → length left ≡ 8 → u < 512 → bitAt left u ≡ 1 → Growing table left u (withBit (zeros 8) u) left u
-growing-start table left u l h e = record {
+-- at the start it has row u
+pub growing-start : (table left : List ℕ) (u : ℕ) (s : List ℕ) (w : ℕ) → length left ≡ 8 → Joined table u (zeros 8) s → FirstCommon s left w → Growing table left u s left w
+growing-start table left u s w l row first = record {
   left-size = l;
-  size = length-withBit (zeros 8) u;
-  seed = h;
-  start = here;
-  most = omega arith;
-  next = λ q. (e, here);
+  size = row .size;
+  start = λ v q c. row-bit v q ∙ c;
+  most = first .within;
+  next = λ q. (omega (arith, first .found q, bitAt-lt left w), omega (arith, first .found q, bitAt-lt s w));
   sub = λ x. le-refl (bitAt left x);
-  out = λ x l p q. absurd (omega arith);
-  done = λ x v l m p q r. absurd (omega arith);
-  least = λ f t step v l p. pick f t v p (ℕ-discrete v u);
-  before = λ k l. omega (arith, bitAt-set-other (zeros 8) u k (λ q. omega (arith, l, q)), bitAt-zeros 8 k);
+  out = λ x q p z. absurd (omega arith);
+  done = λ x v q m p z c. absurd (omega arith);
+  least = λ f given step v q p. given v q (sym (row-bit v q) ∙ p);
+  before = first .before;
 }
   where
-    here : bitAt (withBit (zeros 8) u) u ≡ 1
-    here = bitAt-set-same (zeros 8) u (let l : u / 64 < 8 = omega arith in l)
-
-    pick : (f : ℕ → Bool) → T (f u) → (v : ℕ) → bitAt (withBit (zeros 8) u) v ≡ 1 → Dec (v ≡ u) → T (f v)
-    pick f t v p (yes q) = rw q t
-    pick f t v p (no n) = absurd (omega (arith, bitAt-set-other (zeros 8) u v n, bitAt-zeros 8 v))
+    row-bit : (v : ℕ) → v < 512 → bitAt s v ≡ cell table u v
+    row-bit v q = omega (arith, row .bits v q, bitAt-zeros 8 v)
 
 -- a turn takes out the numbers of w's word that are in the set, w at least, and adds their rows
 module _ (table left₀ : List ℕ) (u : ℕ) (s left : List ℕ) (w : ℕ) (now : Growing table left₀ u s left w) (h : w < 512) where
@@ -350,8 +345,7 @@ module _ (table left₀ : List ℕ) (u : ℕ) (s left : List ℕ) (w : ℕ) (now
     growing-on = record {
       left-size = length-set left j (bitXor (getD left j 0) (shared s left j)) ∙ now .left-size;
       size = all .size;
-      seed = now .seed;
-      start = all .keeps u (now .seed) (now .start);
+      start = λ v l c. all .keeps v l (now .start v l c);
       most = first .within;
       next = λ q. (omega (arith, first .found q, bitAt-lt left′ w′), omega (arith, first .found q, bitAt-lt s′ w′));
       sub = λ x. omega (arith, without-le s left j low x, now .sub x);
@@ -381,24 +375,42 @@ module _ (table left₀ : List ℕ) (u : ℕ) (s left : List ℕ) (w : ℕ) (now
             (sym (both-bit s left j (x % 64) k) ∙ ap (λ (y : ℕ). min (bitAt s y) (bitAt left y)) i ∙ omega (arith, o, t))
             (ap (λ (y : ℕ). cell table y v) i ∙ r)
 
--- no number of the set is left
-module _ (table left₀ : List ℕ) (u : ℕ) (s left : List ℕ) (w : ℕ) (now : Growing table left₀ u s left w) (h : 512 ≤ w) where
+-- no number of the set is left, out of the numbers of left₀ but u
+module _ (table left₀ : List ℕ) (u : ℕ) (s left : List ℕ) (w : ℕ) (now : Growing table (withoutBit left₀ u) u s left w) (h : 512 ≤ w) (l₀ : length left₀ ≡ 8) (l : u < 512) where
   last : w ≡ 512
   last = omega (arith, now .most)
 
-  rest′ : (v : ℕ) → v < 512 → bitAt left v ≡ min (bitAt left₀ v) (1 - bitAt s v)
-  rest′ v l = pick (ℕ-discrete (bitAt left v) 0) (ℕ-discrete (bitAt left₀ v) 1)
+  abbrev but : ℕ → ℕ
+  but = bitAt (withoutBit left₀ u)
+
+  but-other : (v : ℕ) → (v ≡ u → ⊥) → but v ≡ bitAt left₀ v
+  but-other v d = bitAt-clear-other left₀ u v d
+
+  but-u : but u ≡ 0
+  but-u = bitAt-clear-same left₀ u (let q : u / 64 < length left₀ = omega arith in q)
+
+  rest′ : (v : ℕ) → v < 512 → (v ≡ u → ⊥) → bitAt left v ≡ min (bitAt left₀ v) (1 - bitAt s v)
+  rest′ v q d = pick (ℕ-discrete (bitAt left v) 0) (ℕ-discrete (but v) 1)
     where
-      pick : Dec (bitAt left v ≡ 0) → Dec (bitAt left₀ v ≡ 1) → bitAt left v ≡ min (bitAt left₀ v) (1 - bitAt s v)
-      pick (yes z) (yes o) = omega (arith, now .out v l o z)
-      pick (yes z) (no o) = omega (arith, bitAt-lt left₀ v)
-      pick (no z) d = omega (arith, bitAt-lt left₀ v, bitAt-lt left v, now .sub v, now .before v (omega (arith, l, last)))
+      pick : Dec (bitAt left v ≡ 0) → Dec (but v ≡ 1) → bitAt left v ≡ min (bitAt left₀ v) (1 - bitAt s v)
+      pick (yes z) (yes o) = omega (arith, now .out v q o z)
+      pick (yes z) (no o) = omega (arith, bitAt-lt left₀ v, but-other v d)
+      pick (no z) e = omega (arith, but-other v d, bitAt-lt left₀ v, bitAt-lt left v, now .sub v, now .before v (omega (arith, q, last)))
 
   pub growing-end : Collected table left₀ u left s
   growing-end = record {
     size = now .size;
     start = now .start;
-    closed = λ x v l m p q r. now .done x v l m q (omega (arith, now .before x (omega (arith, l, last)), bitAt-lt left x)) r;
-    least = now .least;
+    closed = λ x v q m p o c. closed-at x v q m p o c (ℕ-discrete x u);
+    least = λ f given step. now .least f given (λ x v q m t o c. step x v q m t (was x o (ℕ-discrete x u)) c);
+    gone = omega (arith, now .sub u, but-u);
     rest = rest′;
   }
+    where
+      closed-at : (x v : ℕ) → x < 512 → v < 512 → bitAt s x ≡ 1 → bitAt left₀ x ≡ 1 → cell table x v ≡ 1 → Dec (x ≡ u) → bitAt s v ≡ 1
+      closed-at x v q m p o c (yes e) = now .start v m (ap (λ (y : ℕ). cell table y v) (sym e) ∙ c)
+      closed-at x v q m p o c (no d) = now .done x v q m (but-other x d ∙ o) (omega (arith, now .before x (omega (arith, q, last)), bitAt-lt left x)) c
+
+      was : (x : ℕ) → but x ≡ 1 → Dec (x ≡ u) → bitAt left₀ x ≡ 1
+      was x o (yes e) = absurd (omega (arith, o, but-u, ap but e))
+      was x o (no d) = sym (but-other x d) ∙ o

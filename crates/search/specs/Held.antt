@@ -37,13 +37,14 @@ pub record Stored (rows : List ℕ) (k : ℕ) (s after : List ℕ) : Type 0 wher
   pub row : (v : ℕ) → v < 512 → cell after k v ≡ bitAt s v
   pub others : (i : ℕ) → (i / 8 ≡ k → ⊥) → getD after i 0 ≡ getD rows i 0
 
--- The set has u, whatever the table relates to a number of both the set and left, and nothing that a test which holds of u and passes along
--- such steps would not hold of. left′ is left without the set.
+-- The set has row u, whatever the table relates to a number of both the set and left, and nothing that a test which holds of row u and passes along
+-- such steps would not hold of. left′ is left without u and the set.
 pub record Collected (table left : List ℕ) (u : ℕ) (left′ set : List ℕ) : Type 0 where
   pub size : length set ≡ 8
-  pub start : bitAt set u ≡ 1
+  pub start : (v : ℕ) → v < 512 → cell table u v ≡ 1 → bitAt set v ≡ 1
   pub closed : (x v : ℕ) → x < 512 → v < 512 → bitAt set x ≡ 1 → bitAt left x ≡ 1 → cell table x v ≡ 1 → bitAt set v ≡ 1
-  pub least : (f : ℕ → Bool) → T (f u)
+  pub least : (f : ℕ → Bool) → ((v : ℕ) → v < 512 → cell table u v ≡ 1 → T (f v))
       → ((x v : ℕ) → x < 512 → v < 512 → T (f x) → bitAt left x ≡ 1 → cell table x v ≡ 1 → T (f v))
       → (v : ℕ) → v < 512 → bitAt set v ≡ 1 → T (f v)
-  pub rest : (v : ℕ) → v < 512 → bitAt left′ v ≡ min (bitAt left v) (1 - bitAt set v)
+  pub gone : bitAt left′ u ≡ 0
+  pub rest : (v : ℕ) → v < 512 → (v ≡ u → ⊥) → bitAt left′ v ≡ min (bitAt left v) (1 - bitAt set v)

@@ -2,8 +2,8 @@
 -- none before it has found. With the similarity relation of a site and its cores these are the site's communities (proofs/Communities).
 --
 --     steps rows left u v           one step of a search: u is one of the cores left, and v is in row u
---     closure rows left u v         v is u, or a chain of steps leads from u to v
---     leftAfter rows cores k v      v is a core that none of the first k searches has found
+--     closure rows left u v         a chain of one or more steps leads from u to v
+--     leftAfter rows cores k v      v is a core that none of the first k searches has begun at or found
 --     foundBy rows cores k v        search k finds v: the closure of the smallest core left
 --     Searched rows cores after r   after r searches no core is left; row k of the table after them is what search k found, and the words past row r are as before
 --     Sized rows cores              the tables have 512 rows of eight words, and eight words
@@ -24,12 +24,14 @@ steps rows left u v = left u && eqb (cell rows u v) 1
 
 unfoldable pub closure : List ℕ → (ℕ → Bool) → ℕ → ℕ → Bool
 unfolding steps
-closure rows left u v = eqb u v || chain (steps rows left) 512 u v
+closure rows left u v = chain (steps rows left) 512 u v
 
 unfoldable pub leftAfter : List ℕ → List ℕ → ℕ → ℕ → Bool
 unfolding closure
 leftAfter rows cores zero v = eqb (bitAt cores v) 1
-leftAfter rows cores (suc k) v = leftAfter rows cores k v && not (closure rows (leftAfter rows cores k) (find 512 (leftAfter rows cores k)) v)
+leftAfter rows cores (suc k) v =
+    leftAfter rows cores k v
+    && not (eqb (find 512 (leftAfter rows cores k)) v || closure rows (leftAfter rows cores k) (find 512 (leftAfter rows cores k)) v)
 
 unfoldable pub foundBy : List ℕ → List ℕ → ℕ → ℕ → Bool
 unfolding closure leftAfter

@@ -5,7 +5,6 @@
 ghost use Prim.Native.Nat.{_+_, _*_, _≤_, _<_};
 ghost use mathlib.Core.Path.{_≡_};
 ghost use lib.ListN.{length};
-ghost use Rattle.sets.specs.Bits.{bitAt};
 ghost use Rattle.search.specs.Held.{FirstCommon, Joined, JoinedAll, Stored, Collected};
 ghost use Rattle.search.specs.Search.{SearchCall};
 
@@ -46,7 +45,7 @@ fn join_all(table: &[u64], word: u64, base: usize, set: &mut [u64])
     while w != 0 {
         let k = u64::trailing_zeros(w);
         join_row(table, base + k as usize, set);
-        w = w ^ (w & (1u64 << k));
+        w = w & (w - 1);
     }
 }
 
@@ -62,15 +61,16 @@ fn store_row(rows: &mut [u64], k: usize, set: &[u64])
     }
 }
 
-// The closure of u, a core of `left`: row u, the row of each core left in that row, and so on. Takes out of `left` whatever it comes by, a word of
-// cores at a time, so that no row is added twice.
+// The closure of u, a core of `left`: row u, the row of each core left in that row, and so on. Takes u out of `left`, and whatever it comes by, a word
+// of cores at a time, so that no row is added twice.
 fn collect(table: &[u64], left: &mut [u64], u: usize) -> [u64; 8]
-    requires { ⌜ (length (now table) ≡ 4096) × (length (now left) ≡ 8) × (u < 512) × (bitAt (now left) u ≡ 1) ⌝ }
+    requires { ⌜ (length (now table) ≡ 4096) × (length (now left) ≡ 8) × (u < 512) ⌝ }
     ensures { λ r. ⌜ Collected (now (table .entry)) (now (left .entry)) u (now (left .exit)) r ⌝ }
 {
     let mut set = [0u64; 8];
-    sets::mark(&mut set, u);
-    let mut w = u;
+    join_row(table, u, &mut set);
+    sets::unmark(left, u);
+    let mut w = first_common(&set, left);
     while w < 512 {
         let both = set[w / 64] & left[w / 64];
         left[w / 64] = left[w / 64] ^ both;

@@ -3,21 +3,20 @@
 --     Lowest w t     t is the place of the lowest set bit of w
 --     bitOf-first    bit 0 is the lowest digit; bitOf-half: the other bits are those of the half
 --     lowest         the number of trailing zeros of a word that is not 0 is that place
---     cleared w t    w with bit t cleared, as the code makes it; cleared-is: that is `without`
---     cleared-lt, cleared-le, cleared-same, cleared-other, cleared-falls     it fits, has no other bit than w, not bit t, and one bit less
-use Prim.Native.Nat.{ℕ, zero, suc, _*_, _/_, _%_, _^_, _≤_, _<_}
+--     cleared w      w with its lowest set bit cleared, as the code makes it
+--     cleared-lt, cleared-le, cleared-same, cleared-other, cleared-falls     it fits, has no other bit than w, not the lowest, and one bit less
+use Prim.Native.Nat.{ℕ, zero, suc, _-_, _/_, _%_, _^_, _≤_, _<_, min}
 use mathlib.Core.Path.{_≡_, refl, sym, ap, _∙_, subst}
 use native.Mathlib.Omega.{arith}
 use native.Mathlib.Numerals.{add-one}
-use native.Mathlib.Decide.{ℕ-discrete}
 use native.Mathlib.Nat.{mod-lt, zero-lt-suc, div-one, pow-suc, mul-comm, div-div-eq-div-mul}
 use lib.Arith.{lt-one}
-use lib.Pow.{shr-lt, pow-lt}
-use lib.Bits.{bitAnd, bitXor, xor-lt, and-lt}
+use lib.Pow.{shr-lt}
+use lib.Bits.{bitAnd, and-lt}
 use lib.Count.{trailingZeros, under}
 use Rattle.sets.specs.Below.{sum}
 use Rattle.sets.specs.Bits.{bitOf}
-use Rattle.sets.proofs.Bits.{shl-one, bitOf-clear-same, bitOf-clear-other, sum-drop}
+use Rattle.sets.proofs.Bits.{bitOf-and, sum-drop}
 
 -- t is the place of the lowest set bit of w
 pub record Lowest (w t : ℕ) : Type 0 where
@@ -51,29 +50,46 @@ lowest zero w p h = absurd (omega (arith, lt-one h))
 lowest (suc k) w p h =
     by-digit k w p (λ q. lowest k (w / 2) q (shr-lt k 1 (subst (λ (x : ℕ). w < 2 ^ x) (sym (add-one k)) h))) (w % 2) refl (mod-lt w (zero-lt-suc 1))
 
--- ---- a bit is cleared
-abbrev pub cleared : ℕ → ℕ → ℕ
-cleared w t = bitXor w (bitAnd w (1 * 2 ^ t % 2 ^ 64))
+-- ---- the lowest set bit is cleared
+lowest-half : (w t : ℕ) → Lowest w (suc t) → Lowest (w / 2) t
+lowest-half w t l = record { here = sym (bitOf-half w t) ∙ l .here; lower = λ j h. sym (bitOf-half w j) ∙ l .lower (suc j) (omega arith) }
 
-module _ (w t : ℕ) (h : t < 64) where
-  pub cleared-is : cleared w t ≡ bitXor w (bitAnd w (2 ^ t))
-  cleared-is = ap (λ (x : ℕ). bitXor w (bitAnd w x)) (shl-one t h)
+-- w - 1 has the bits of w above its lowest set bit, and there a 0
+half-less : (w : ℕ) → w % 2 ≡ 0 → (w - 1) / 2 ≡ w / 2 - 1
+half-less w e = omega arith
 
-  pub cleared-lt : w < 2 ^ 64 → cleared w t < 2 ^ 64
-  cleared-lt l = rw (shl-one t h) (xor-lt 64 w (bitAnd w (2 ^ t)) l (and-lt 64 w (2 ^ t) l (pow-lt h)))
+bitOf-less : (t w : ℕ) → Lowest w t → bitOf (w - 1) t ≡ 0
+bitOf-less zero w l = omega (arith, bitOf-first (w - 1), bitOf-first w, l .here)
+bitOf-less (suc t) w l =
+    bitOf-half (w - 1) t
+    ∙ ap (λ (x : ℕ). bitOf x t) (half-less w (sym (bitOf-first w) ∙ l .lower 0 (omega arith)))
+    ∙ bitOf-less t (w / 2) (lowest-half w t l)
 
-  pub cleared-same : bitOf (cleared w t) t ≡ 0
-  cleared-same = ap (λ (x : ℕ). bitOf x t) cleared-is ∙ bitOf-clear-same w t
+bitOf-keeps : (t w k : ℕ) → Lowest w t → (k ≡ t → ⊥) → min (bitOf w k) (bitOf (w - 1) k) ≡ bitOf w k
+bitOf-keeps zero w zero l d = absurd (d refl)
+bitOf-keeps zero w (suc k) l d =
+    let e : (w - 1) / 2 ≡ w / 2 = omega (arith, bitOf-first w, l .here) in
+    omega (arith, bitOf-half w k, bitOf-half (w - 1) k, ap (λ (x : ℕ). bitOf x k) e)
+bitOf-keeps (suc t) w zero l d = omega (arith, l .lower 0 (omega arith))
+bitOf-keeps (suc t) w (suc k) l d =
+    let e = half-less w (sym (bitOf-first w) ∙ l .lower 0 (omega arith)) in
+    omega (arith, bitOf-half w k, bitOf-half (w - 1) k, ap (λ (x : ℕ). bitOf x k) e, bitOf-keeps t (w / 2) k (lowest-half w t l) (λ p. d (ap suc p)))
 
-  pub cleared-other : (k : ℕ) → (k ≡ t → ⊥) → bitOf (cleared w t) k ≡ bitOf w k
-  cleared-other k d = ap (λ (x : ℕ). bitOf x k) cleared-is ∙ bitOf-clear-other w t k d
+abbrev pub cleared : ℕ → ℕ
+cleared w = bitAnd w (w - 1)
 
-  pub cleared-le : (k : ℕ) → bitOf (cleared w t) k ≤ bitOf w k
-  cleared-le k = pick (ℕ-discrete k t)
-    where
-      pick : Dec (k ≡ t) → bitOf (cleared w t) k ≤ bitOf w k
-      pick (yes e) = omega (arith, ap (bitOf (cleared w t)) e, cleared-same)
-      pick (no d) = omega (arith, cleared-other k d)
+pub cleared-lt : (w : ℕ) → w < 2 ^ 64 → cleared w < 2 ^ 64
+cleared-lt w h = and-lt 64 w (w - 1) h (omega (arith, h))
 
-  pub cleared-falls : bitOf w t ≡ 1 → sum 64 (bitOf (cleared w t)) < sum 64 (bitOf w)
-  cleared-falls e = omega (arith, sum-drop (bitOf w) (bitOf (cleared w t)) t 64 h e cleared-same cleared-other)
+pub cleared-le : (w k : ℕ) → bitOf (cleared w) k ≤ bitOf w k
+cleared-le w k = omega (arith, bitOf-and w (w - 1) k)
+
+module _ (w t : ℕ) (l : Lowest w t) where
+  pub cleared-same : bitOf (cleared w) t ≡ 0
+  cleared-same = omega (arith, bitOf-and w (w - 1) t, bitOf-less t w l)
+
+  pub cleared-other : (k : ℕ) → (k ≡ t → ⊥) → bitOf (cleared w) k ≡ bitOf w k
+  cleared-other k d = bitOf-and w (w - 1) k ∙ bitOf-keeps t w k l d
+
+  pub cleared-falls : t < 64 → sum 64 (bitOf (cleared w)) < sum 64 (bitOf w)
+  cleared-falls h = omega (arith, sum-drop (bitOf w) (bitOf (cleared w)) t 64 h (l .here) cleared-same cleared-other)

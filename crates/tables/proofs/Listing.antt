@@ -85,14 +85,14 @@ word-none base w e =
     ap (map (λ (k : ℕ). base + k))
     (select-none 64 (inWord w) (λ k l. eqb-not (bitOf w k) 1 (λ q. omega (arith, bitOf-none k, ap (λ (x : ℕ). bitOf x k) e))))
 
-pub word-lowest : (base w t : ℕ) → t < 64 → Lowest w t → wordMembers base w ≡ (base + t) ∷ wordMembers base (cleared w t)
+pub word-lowest : (base w t : ℕ) → t < 64 → Lowest w t → wordMembers base w ≡ (base + t) ∷ wordMembers base (cleared w)
 word-lowest base w t h l =
     ap (map (λ (k : ℕ). base + k))
-    (select-lowest t (inWord w) (inWord (cleared w t))
+    (select-lowest t (inWord w) (inWord (cleared w))
     (eqb-of (bitOf w t) 1 (l .here))
     (λ j q. eqb-not (bitOf w j) 1 (λ e. omega (arith, l .lower j q)))
-    (eqb-not (bitOf (cleared w t) t) 1 (λ e. omega (arith, cleared-same w t h)))
-    (λ j n. ap (λ (b : ℕ). eqb b 1) (cleared-other w t h j n))
+    (eqb-not (bitOf (cleared w) t) 1 (λ e. omega (arith, cleared-same w t l)))
+    (λ j n. ap (λ (b : ℕ). eqb b 1) (cleared-other w t l j n))
     64 h)
 
 -- ---- the members of a row

@@ -73,7 +73,7 @@ fn write_word(word: u64, base: usize, members: &mut [u16], at: usize) -> usize
         let k = u64::trailing_zeros(w);
         members[place] = (base + k as usize) as u16;
         place += 1;
-        w = w ^ (w & (1u64 << k));
+        w = w & (w - 1);
     }
     place
 }

@@ -10,7 +10,7 @@ use Rattle.sets.specs.Below.{sum}
 use Rattle.sets.specs.Bits.{bitAt}
 use Rattle.sets.proofs.Tests.{eqb-of}
 use Rattle.search.specs.Search.{Sized}
-use Rattle.search.proofs.Closures.{Finding, finding-start, finding-left, finding-falls, finding-on, finding-end}
+use Rattle.search.proofs.Closures.{Finding, finding-start, finding-falls, finding-on, finding-end}
 use Rattle.search.proofs.find_communities.Statement.{statement}
 use Rattle.search.proofs.find_communities.Tie as tie
 
@@ -101,12 +101,7 @@ collect-requires : tie.Need-collect-requires Inv-loop μ-loop
 collect-requires c κs =
     let i = c .before .before in
     let l = i .before .loop in
-    let a = start (sized-place (i .before)) .args in (
-      l .inv .size ∙ sized (sized-place (i .before)) .0,
-      l .inv .left-size,
-      i .loop-test .taken,
-      finding-left (a .table .now) (a .cores .now) (l .table) (l .left) (l .k) (l .u) (l .inv) (i .loop-test .taken),
-    )
+    (l .inv .size ∙ sized (sized-place (i .before)) .0, l .inv .left-size, i .loop-test .taken)
 
 slice-aggregate-store-row : tie.Need-slice-aggregate-store-row Inv-loop μ-loop
 slice-aggregate-store-row c = sym (c .before .before .before .collect .ensures .size)

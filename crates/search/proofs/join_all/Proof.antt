@@ -3,6 +3,7 @@
 use Prim.Native.Nat.{ℕ, _<_}
 use mathlib.Core.Path.{sym, _∙_}
 use native.Mathlib.Omega.{arith}
+use borrow.Author.Needs.{needs}
 use lib.Count.{trailingZeros}
 use Rattle.sets.specs.Below.{sum}
 use Rattle.sets.specs.Bits.{bitOf}
@@ -52,23 +53,20 @@ join-row-requires c κs =
     let f = first i .0 in
     (omega (arith, f, s .pre .1), omega (arith, f, s .pre .0, s .pre .1), i .before .loop .inv .size)
 
-cast-w : tie.Need-cast-w Inv-loop μ-loop
-cast-w c = omega (arith, first (turn (joined c)) .0)
-
-shl-w : tie.Need-shl-w Inv-loop μ-loop
-shl-w c = omega (arith, first (turn (joined c)) .0)
+sub-w : tie.Need-sub-w Inv-loop μ-loop
+sub-w c = search needs
 
 loop-less : tie.Need-loop-less Inv-loop μ-loop
 loop-less c =
     let i = turn (joined c) in
-    cleared-falls (i .before .loop .w) (place i) (first i .0) (first i .1 .here)
+    cleared-falls (i .before .loop .w) (place i) (first i .1) (first i .0)
 
 loop-again : tie.Need-loop-again Inv-loop μ-loop
 loop-again c =
     let i = turn (joined c) in
     let l = i .before .loop in
     let a = start (i .before) .args in
-    adding-on (a .table .now) (a .word) (a .base) (a .set .now) (l .w) (l .set) (l .inv) (place i) (joined c .join-row .last .1 .1 .0) (first i .0) (first i .1 .here)
+    adding-on (a .table .now) (a .word) (a .base) (a .set .now) (l .w) (l .set) (l .inv) (place i) (joined c .join-row .last .1 .1 .0) (first i .0) (first i .1)
     (joined c .join-row .ensures)
 
 same-length : tie.Need-same-length Inv-loop μ-loop
@@ -90,8 +88,7 @@ join-all-spec =
     cast-join-row
     add-join-row
     join-row-requires
-    cast-w
-    shl-w
+    sub-w
     loop-less
     loop-again
     same-length

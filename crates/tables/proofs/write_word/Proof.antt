@@ -4,6 +4,7 @@ use mathlib.Core.Path.{_≡_, refl, sym, ap, _∙_}
 use mathlib.Core.List.{[], _∷_}
 use Prim.Native.Nat.{ℕ, _+_, _^_, _<_}
 use native.Mathlib.Omega.{arith}
+use borrow.Author.Needs.{needs}
 use native.Mathlib.Numerals.{add-one}
 use lib.ListN.{length, set}
 use lib.Seq.{sets, length-sets}
@@ -36,7 +37,7 @@ module _ (c : tie.In-loop Inv-loop μ-loop) where
   few : zeros < 64
   few = lowest 64 (c .before .loop .w) (omega arith) (c .before .loop .inv .0) .0
 
-  rest : wordMembers base (c .before .loop .w) ≡ (base + zeros) ∷ wordMembers base (cleared (c .before .loop .w) zeros)
+  rest : wordMembers base (c .before .loop .w) ≡ (base + zeros) ∷ wordMembers base (cleared (c .before .loop .w))
   rest = word-lowest base (c .before .loop .w) zeros few (lowest 64 (c .before .loop .w) (omega arith) (c .before .loop .inv .0) .1)
 
   room : c .before .loop .place < length (c .before .before .args .members .now)
@@ -67,11 +68,8 @@ slice-write-members c = omega (arith, room c, same c)
 add-place : tie.Need-add-place Inv-loop μ-loop
 add-place c = omega (arith, room c, c .before .before .good)
 
-cast-w : tie.Need-cast-w Inv-loop μ-loop
-cast-w c = omega (arith, few c)
-
-shl-w : tie.Need-shl-w Inv-loop μ-loop
-shl-w c = omega (arith, few c)
+sub-w : tie.Need-sub-w Inv-loop μ-loop
+sub-w c = search needs
 
 loop-less : tie.Need-loop-less Inv-loop μ-loop
 loop-less c = omega (arith, ap length (rest c))
@@ -81,9 +79,9 @@ loop-again c =
     let l = c .before .loop in
     let t : ℕ = trailingZeros 64 (l .w) in
     let b : ℕ = c .before .before .args .base in (
-      cleared-lt (l .w) t (few c) (l .inv .0),
+      cleared-lt (l .w) (l .inv .0),
       omega (arith, ap length (rest c), l .inv .1),
-      ap (λ (i : ℕ). sets (set (l .members) (l .place) (b + t)) i (wordMembers b (cleared (l .w) t))) (add-one (l .place))
+      ap (λ (i : ℕ). sets (set (l .members) (l .place) (b + t)) i (wordMembers b (cleared (l .w)))) (add-one (l .place))
           ∙ ap (sets (l .members) (l .place)) (sym (rest c)) ∙ l .inv .2,
     )
 
@@ -116,8 +114,7 @@ write-word-spec =
     mul-members
     slice-write-members
     add-place
-    cast-w
-    shl-w
+    sub-w
     loop-less
     loop-again
     same-length
