@@ -16,12 +16,13 @@ use Rattle.image.specs.Signed.{signed32}
 use Rattle.image.specs.declared.Refusal.{Refusal}
 use Rattle.image.specs.declared.Opened.{Opened}
 use Rattle.image.specs.declared.Opened.the-variants as O
+use Rattle.community.specs.Network.{roleValues}
 use Rattle.community.specs.declared.Role.{Role}
 use Rattle.community.specs.declared.Role.the-variants.{Core, Border, Outlier}
 use Rattle.tables.specs.Plan.{planAnswer}
 use Rattle.tables.specs.declared.Planned.{Planned}
 use Rattle.tables.specs.declared.Planned.the-variants as P
-use Rattle.planner.specs.Plan.{planOf, knownOf, roleValues, knownAnswer}
+use Rattle.planner.specs.Plan.{planOf, knownOf, knownAnswer}
 use Rattle.planner.specs.declared.Known.{Known}
 use Rattle.planner.specs.declared.Known.the-variants as K
 use Rattle.scores.specs.Scored.{talliedOf}

@@ -11,7 +11,7 @@
 --     over new l             a table that begins with new entries, and past them holds what it held
 --     PlanWritten gs ..      the outcome for the communities gs: the answer and both tables
 --     roleFor cores rows k v the role of v, from the set of cores and the communities as the first k rows
---     OneAnswer              the theorem: the number, place and values leave nothing of the answer free (proved in proofs/Answers)
+--     OneAnswer              the theorem: the number, place and values leave nothing of the answer free, nor the values anything of a role (proved in proofs/Answers)
 use Prim.Native.Nat.{ℕ, zero, suc}
 use mathlib.Core.Path.{_≡_}
 use mathlib.Core.Bool.{cond}
@@ -22,7 +22,7 @@ use Rattle.sets.specs.Below.{select}
 use Rattle.sets.specs.Bits.{bitAt, cell}
 use Rattle.image.specs.declared.Refusal.{Refusal}
 use Rattle.image.specs.Answers.{Answer, refused, given, Injective}
-use Rattle.community.specs.Network.{communityNumber, membershipCount, borderOf}
+use Rattle.community.specs.Network.{communityNumber, membershipCount, borderOf, roleValues}
 use Rattle.community.specs.Tables.{startTable, memberTable}
 use Rattle.community.specs.declared.Role.{Role}
 use Rattle.community.specs.declared.Role.the-variants.{Core}
@@ -75,3 +75,4 @@ roleFor cores rows k v =
 
 pub record OneAnswer : Type 0 where
   pub plan : Injective planAnswer
+  pub role : Injective roleValues

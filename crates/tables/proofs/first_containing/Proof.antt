@@ -5,7 +5,7 @@ use Prim.Native.Nat.{ℕ, _-_, _≤_}
 use native.Mathlib.Omega.{arith}
 use Rattle.community.specs.Network.{communityNumber}
 use Rattle.tables.specs.Plan.{rowsOf}
-use Rattle.tables.proofs.Roles.{number-start, number-none, number-found}
+use Rattle.tables.proofs.Roles.{number-start, number-next, number-found}
 use Rattle.tables.proofs.first_containing.Statement.{statement}
 use Rattle.tables.proofs.first_containing.Tie as tie
 
@@ -44,7 +44,7 @@ loop-again : tie.Need-loop-again Inv-loop μ-loop
 loop-again c =
     let l = loop (c .before) .loop in
     let a = start (loop (c .before)) .args in
-    (omega arith, number-none (a .rows .now) (l .k) (a .v) (l .inv .1) (sym (c .before .in-row .ensures) ∙ c .if1 .left))
+    (omega arith, number-next (a .rows .now) (l .k) (a .v) (l .inv .1) (sym (c .before .in-row .ensures) ∙ c .if1 .left))
 
 returns-2 : tie.Need-returns-2 Inv-loop μ-loop
 returns-2 c =

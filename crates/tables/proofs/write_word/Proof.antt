@@ -10,7 +10,7 @@ use lib.Seq.{sets, length-sets}
 use lib.Count.{trailingZeros}
 use Rattle.sets.proofs.Lowest.{lowest, cleared, cleared-lt}
 use Rattle.tables.specs.Held.{wordMembers}
-use Rattle.tables.proofs.Listing.{word-none, word-lowest}
+use Rattle.tables.proofs.Listing.{wordMembers-none, wordMembers-lowest}
 use Rattle.tables.proofs.write_word.Statement.{statement}
 use Rattle.tables.proofs.write_word.Tie as tie
 
@@ -37,7 +37,7 @@ module _ (c : tie.In-loop Inv-loop μ-loop) where
   few = lowest 64 (c .before .loop .w) (omega arith) (c .before .loop .inv .0) .0
 
   rest : wordMembers base (c .before .loop .w) ≡ (base + zeros) ∷ wordMembers base (cleared (c .before .loop .w) zeros)
-  rest = word-lowest base (c .before .loop .w) zeros few (lowest 64 (c .before .loop .w) (omega arith) (c .before .loop .inv .0) .1)
+  rest = wordMembers-lowest base (c .before .loop .w) zeros few (lowest 64 (c .before .loop .w) (omega arith) (c .before .loop .inv .0) .1)
 
   room : c .before .loop .place < length (c .before .before .args .members .now)
   room = omega (arith, ap length rest, c .before .before .pre .1)
@@ -90,7 +90,7 @@ loop-again c =
 -- at the end nothing is left of the word
 module _ (c : tie.After-loop Inv-loop μ-loop) where
   none : wordMembers (c .before .before .args .base) (c .before .loop .w) ≡ []
-  none = word-none (c .before .before .args .base) (c .before .loop .w) (omega arith)
+  none = wordMembers-none (c .before .before .args .base) (c .before .loop .w) (omega arith)
 
   done : (let a = c .before .before .args in c .before .loop .members ≡ sets (a .members .now) (a .at) (wordMembers (a .base) (a .word)))
   done = let l = c .before .loop in ap (sets (l .members) (l .place)) (sym none) ∙ l .inv .2

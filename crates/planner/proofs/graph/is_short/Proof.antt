@@ -1,46 +1,46 @@
 -- `planner::graph::is_short` meets its contract: the parts handed on are the records of the two ends.
 use Prim.Native.Nat.{ℕ}
-use native.Mathlib.Omega.{arith}
 use mathlib.Core.Path.{ap₂, _∙_}
 use mathlib.Core.List.{List}
 use lib.Dec.{leb}
+use borrow.Author.Needs.{needs}
 use Rattle.image.specs.Image.{distanceBetween}
 use Rattle.image.proofs.Records.{handset-part}
 use Rattle.planner.proofs.graph.is_short.Statement.{statement}
 use Rattle.planner.proofs.graph.is_short.Tie as tie
 
 mul-a : tie.Need-mul-a
-mul-a c = omega arith
+mul-a c = search needs
 
 add-a-past : tie.Need-add-a-past
-add-a-past c = omega arith
+add-a-past c = search needs
 
 mul-b : tie.Need-mul-b
-mul-b c = omega arith
+mul-b c = search needs
 
 add-b-past : tie.Need-add-b-past
-add-b-past c = omega arith
+add-b-past c = search needs
 
 sub-within : tie.Need-sub-within
-sub-within c = omega arith
+sub-within c = search needs
 
 part-within-start : tie.Need-part-within-start
-part-within-start c = omega arith
+part-within-start c = search needs
 
 part-within-end : tie.Need-part-within-end
-part-within-end c = omega arith
+part-within-end c = search needs
 
 sub-within-2 : tie.Need-sub-within-2
-sub-within-2 c = omega arith
+sub-within-2 c = search needs
 
 part-within-start-2 : tie.Need-part-within-start-2
-part-within-start-2 c = omega arith
+part-within-start-2 c = search needs
 
 part-within-end-2 : tie.Need-part-within-end-2
-part-within-end-2 c = omega arith
+part-within-end-2 c = search needs
 
 within-requires : tie.Need-within-requires
-within-requires c κs = tt
+within-requires c κs = search needs
 
 returns : tie.Need-returns
 returns c =

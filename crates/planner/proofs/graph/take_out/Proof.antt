@@ -4,7 +4,6 @@ use mathlib.Core.Path.{_≡_, ap}
 use lib.Bits.{bitAnd, bitXor}
 use lib.ListN.{getD, set}
 use native.Mathlib.Nat.{mod-lt, zero-lt-suc}
-use native.Mathlib.Omega.{arith}
 use borrow.Author.Needs.{needs}
 use Rattle.sets.specs.Bits.{bitOf, bitAt, withoutBit}
 use Rattle.sets.proofs.Bits.{shl-one}
@@ -17,43 +16,43 @@ abbrev start : tie.After-slice-known2 → tie.Start
 start c = c .before .before
 
 mul-i : tie.Need-mul-i
-mul-i c = omega arith
+mul-i c = search needs
 
 add-i : tie.Need-add-i
-add-i c = omega arith
+add-i c = search needs
 
 mul-k : tie.Need-mul-k
-mul-k c = omega arith
+mul-k c = search needs
 
 add-k : tie.Need-add-k
-add-k c = omega arith
+add-k c = search needs
 
 mul-w : tie.Need-mul-w
-mul-w c = omega arith
+mul-w c = search needs
 
 slice-read-w : tie.Need-slice-read-w
-slice-read-w c = omega arith
+slice-read-w c = search needs
 
 shl-table : tie.Need-shl-table
-shl-table c = omega arith
+shl-table c = search needs
 
 mul-table : tie.Need-mul-table
-mul-table c = omega arith
+mul-table c = search needs
 
 slice-write-table : tie.Need-slice-write-table
-slice-write-table c = omega arith
+slice-write-table c = search needs
 
 mul-sizes : tie.Need-mul-sizes
-mul-sizes c = omega arith
+mul-sizes c = search needs
 
 slice-read-sizes : tie.Need-slice-read-sizes
-slice-read-sizes c = omega arith
+slice-read-sizes c = search needs
 
 shr-sizes : tie.Need-shr-sizes
-shr-sizes c = omega arith
+shr-sizes c = search needs
 
 cast-sizes : tie.Need-cast-sizes
-cast-sizes c = omega arith
+cast-sizes c = search needs
 
 sub-sizes : tie.Need-sub-sizes
 unfolding bitAt bitOf
@@ -63,10 +62,10 @@ sub-sizes c =
     row-bit (a .table .now) (a .sizes .now) (a .u) (a .v) (s .pre .0) (s .pre .1) (s .pre .2) (s .pre .3)
 
 mul-sizes-2 : tie.Need-mul-sizes-2
-mul-sizes-2 c = omega arith
+mul-sizes-2 c = search needs
 
 slice-write-sizes : tie.Need-slice-write-sizes
-slice-write-sizes c = omega arith
+slice-write-sizes c = search needs
 
 same-length : tie.Need-same-length
 same-length c = search needs
