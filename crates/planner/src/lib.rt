@@ -59,7 +59,6 @@ pub fn role(image: &[u8], v: usize) -> Known
     let mut table = [0u64; 4096];
     let mut sizes = [0u32; 512];
     let mut short = [0u64; 64];
-    let mut cores = [0u64; 8];
     let opened = graph::open_neighbours(image, &mut short, &mut table, &mut sizes);
     let Opened::Site(h) = opened else {
         return Known::Refused(image::refusal_of(opened));
@@ -71,6 +70,7 @@ pub fn role(image: &[u8], v: usize) -> Known
         });
     }
     let neighbours = sizes[v];
+    let mut cores = [0u64; 8];
     let count = graph::find_communities(image, h, &mut short, &mut table, &mut sizes, &mut cores);
     let role = tables::role_in(&cores, &table, count, v);
     Known::Handset(Standing { neighbours, role })

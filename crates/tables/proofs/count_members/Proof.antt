@@ -4,6 +4,7 @@ use mathlib.Core.Path.{_≡_, sym, ap, _∙_}
 use Prim.Native.Nat.{ℕ, _*_, _-_, _≤_}
 use native.Mathlib.Omega.{arith}
 use lib.ListN.{length}
+use borrow.Author.Needs.{needs}
 use Rattle.community.specs.Tables.{memberTable}
 use Rattle.tables.specs.Plan.{rowsOf}
 use Rattle.tables.proofs.Listing.{members-none, members-length, row-small}
@@ -27,23 +28,23 @@ loop-holds : tie.Need-loop-holds Inv-loop μ-loop
 loop-holds c = (omega arith, omega arith, sym (ap length (members-none (c .before .args .rows .now))))
 
 row-size-requires : tie.Need-row-size-requires Inv-loop μ-loop
-row-size-requires c κs = omega (arith, start (c .before) .pre)
+row-size-requires c κs = search needs
 
 -- a row has at most 512 members
 small : (c : tie.After-row-size Inv-loop μ-loop) → c .row-size .result ≤ 512
 small c = omega (arith, c .row-size .ensures, row-small (start (loop c) .args .rows .now) (loop c .loop .k))
 
 cast-total : tie.Need-cast-total Inv-loop μ-loop
-cast-total c = omega (arith, small c)
+cast-total c = search needs
 
 add-total : tie.Need-add-total Inv-loop μ-loop
-add-total c = omega (arith, small c)
+add-total c = search needs
 
 add-k : tie.Need-add-k Inv-loop μ-loop
-add-k c = omega arith
+add-k c = search needs
 
 loop-less : tie.Need-loop-less Inv-loop μ-loop
-loop-less c = omega arith
+loop-less c = search needs
 
 loop-again : tie.Need-loop-again Inv-loop μ-loop
 loop-again c =

@@ -1,7 +1,7 @@
 -- `tables::role_in` meets its contract, by the cases of a core, a border and an outlier.
 use Prim.Native.Nat.{ℕ, min}
 use mathlib.Core.Path.{_≡_, sym, ap, _∙_}
-use native.Mathlib.Omega.{arith}
+use borrow.Author.Needs.{needs}
 use Rattle.community.specs.Network.{communityNumber, membershipCount, borderOf, roleValues}
 use Rattle.tables.specs.Plan.{rowsOf, roleFor}
 use Rattle.tables.proofs.Roles.{role-core, role-other, border-some}
@@ -13,13 +13,13 @@ abbrev start : tie.After-has → tie.Start
 start c = c .before .before .before .before
 
 at-most-512-requires : tie.Need-at-most-512-requires
-at-most-512-requires c κs = tt
+at-most-512-requires c κs = search needs
 
 has-requires : tie.Need-has-requires
-has-requires c κs = tt
+has-requires c κs = search needs
 
 first-containing-requires : tie.Need-first-containing-requires
-first-containing-requires c κs = omega arith
+first-containing-requires c κs = search needs
 
 returns : tie.Need-returns
 returns c =
@@ -29,7 +29,7 @@ returns c =
     (c .first-containing .ensures ∙ ap (λ (k : ℕ). communityNumber (a .v) (rowsOf (a .rows .now) k)) (h .before .at-most-512 .ensures)))
 
 count-containing-requires : tie.Need-count-containing-requires
-count-containing-requires c κs = omega arith
+count-containing-requires c κs = search needs
 
 -- the role of a handset that is no core, from the count
 other : (c : tie.After-count-containing) → (let a = start (c .before .before) .args in

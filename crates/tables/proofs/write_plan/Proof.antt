@@ -1,9 +1,8 @@
 -- `tables::write_plan` meets its contract: the memberships are counted first, the tables are written where they fit, and the answer is that of the questions
 -- for the two counts.
-use Prim.Native.Nat.{ℕ, min}
+use Prim.Native.Nat.{ℕ}
 use mathlib.Core.Path.{_≡_, sym, ap, _∙_, subst}
 use mathlib.Core.List.{List}
-use native.Mathlib.Omega.{arith}
 use lib.ListN.{length}
 use borrow.Author.Needs.{needs}
 use Rattle.community.specs.Tables.{memberTable}
@@ -23,16 +22,16 @@ abbrev start : tie.After-count-members → tie.Start
 start c = c .before .before .before .before .before
 
 at-most-512-requires : tie.Need-at-most-512-requires
-at-most-512-requires c κs = tt
+at-most-512-requires c κs = search needs
 
 count-members-requires : tie.Need-count-members-requires
-count-members-requires c κs = omega arith
+count-members-requires c κs = search needs
 
 write-where-it-fits-requires : tie.Need-write-where-it-fits-requires
 write-where-it-fits-requires c κs = search needs
 
 ask-room-requires : tie.Need-ask-room-requires
-ask-room-requires c κs = tt
+ask-room-requires c κs = search needs
 
 same-length : tie.Need-same-length
 same-length c = search needs

@@ -8,6 +8,7 @@ use native.Mathlib.Numerals.{add-one}
 use lib.ListN.{length, set}
 use lib.Seq.{sets, length-sets}
 use lib.Count.{trailingZeros}
+use borrow.Author.Needs.{needs}
 use Rattle.sets.proofs.Lowest.{lowest, cleared, cleared-lt}
 use Rattle.tables.specs.Held.{wordMembers}
 use Rattle.tables.proofs.Listing.{wordMembers-none, wordMembers-lowest}
@@ -59,13 +60,13 @@ cast-members-2 : tie.Need-cast-members-2 Inv-loop μ-loop
 cast-members-2 c = omega (arith, few c)
 
 mul-members : tie.Need-mul-members Inv-loop μ-loop
-mul-members c = omega (arith, room c, c .before .before .good)
+mul-members c = search needs
 
 slice-write-members : tie.Need-slice-write-members Inv-loop μ-loop
 slice-write-members c = omega (arith, room c, same c)
 
 add-place : tie.Need-add-place Inv-loop μ-loop
-add-place c = omega (arith, room c, c .before .before .good)
+add-place c = search needs
 
 cast-w : tie.Need-cast-w Inv-loop μ-loop
 cast-w c = omega (arith, few c)

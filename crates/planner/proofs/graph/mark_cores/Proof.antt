@@ -52,7 +52,7 @@ mul-cores : tie.Need-mul-cores Inv-loop μ-loop
 mul-cores c = search needs
 
 slice-read-cores : tie.Need-slice-read-cores Inv-loop μ-loop
-slice-read-cores c = omega (arith, loop (c .before) .loop .inv .1 .size)
+slice-read-cores c = search needs
 
 shl-cores : tie.Need-shl-cores Inv-loop μ-loop
 shl-cores c = search needs
@@ -61,7 +61,7 @@ mul-cores-2 : tie.Need-mul-cores-2 Inv-loop μ-loop
 mul-cores-2 c = search needs
 
 slice-write-cores : tie.Need-slice-write-cores Inv-loop μ-loop
-slice-write-cores c = omega (arith, loop (made c) .loop .inv .1 .size)
+slice-write-cores c = search needs
 
 add-u : tie.Need-add-u Inv-loop μ-loop
 add-u c = search needs

@@ -7,6 +7,7 @@ use mathlib.Core.Logic.{⊎-elim}
 use mathlib.Core.Bool.{Bool, _&&_}
 use lib.Dec.{leb, ltb}
 use lib.ListN.{length}
+use borrow.Author.Needs.{needs}
 use Rattle.sets.specs.Below.{bit}
 use Rattle.sets.specs.Rows.{WordOf}
 use Rattle.fields.specs.Fields.{handsetBytes}
@@ -41,7 +42,7 @@ loop-holds c =
     (omega arith, word-none (λ i. ltb i 0 && f i) (λ i. passed-none i (f i)))
 
 add-ends-at : tie.Need-add-ends-at Inv-loop μ-loop
-add-ends-at c = omega (arith, start (c .before) .pre .0, start (c .before) .pre .1, c .loop-test .taken)
+add-ends-at c = search needs
 
 edge : (c : tie.In-loop Inv-loop μ-loop)
     → (let a = start (c .before) .args in HasEnds (a .edges .now) (length (a .handsets .now) / handsetBytes) (a .base + c .before .loop .k))
@@ -68,13 +69,13 @@ told c =
     ⊎-elim (λ w. w .1 ∙ ap bit (sym (w .0 .taken) ∙ e)) (λ w. w .1 ∙ ap bit (sym (w .0 .left) ∙ e)) (c .if1 .came)
 
 shl-word : tie.Need-shl-word Inv-loop μ-loop
-shl-word c = omega (arith, c .before .before .before .before .loop-test .taken, start (loop (c .before)) .pre .0)
+shl-word c = search needs
 
 add-k : tie.Need-add-k Inv-loop μ-loop
-add-k c = omega (arith, c .before .before .before .before .loop-test .taken, start (loop (c .before)) .pre .0)
+add-k c = search needs
 
 loop-less : tie.Need-loop-less Inv-loop μ-loop
-loop-less c = omega (arith, c .before .before .before .before .loop-test .taken)
+loop-less c = search needs
 
 loop-again : tie.Need-loop-again Inv-loop μ-loop
 loop-again c =

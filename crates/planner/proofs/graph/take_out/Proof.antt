@@ -1,12 +1,8 @@
 -- `planner::graph::take_out` meets its contract: the word written is the one without the bit, and the row's size goes down by it.
-use Prim.Native.Nat.{ℕ, _*_, _+_, _/_, _%_, _^_}
-use mathlib.Core.Path.{_≡_, ap}
-use lib.Bits.{bitAnd, bitXor}
-use lib.ListN.{getD, set}
-use native.Mathlib.Nat.{mod-lt, zero-lt-suc}
+use Prim.Native.Nat.{_*_, _+_}
 use borrow.Author.Needs.{needs}
-use Rattle.sets.specs.Bits.{bitOf, bitAt, withoutBit}
-use Rattle.sets.proofs.Bits.{shl-one}
+use Rattle.sets.specs.Bits.{bitOf, bitAt}
+use Rattle.sets.proofs.Bits.{stored-without}
 use Rattle.planner.proofs.Rows.{row-bit, counted-out}
 use Rattle.planner.proofs.graph.take_out.Statement.{statement}
 use Rattle.planner.proofs.graph.take_out.Tie as tie
@@ -74,15 +70,12 @@ same-length-2 : tie.Need-same-length-2
 same-length-2 c = search needs
 
 returns : tie.Need-returns
-unfolding withoutBit bitAt bitOf
+unfolding bitAt bitOf
 returns c =
     let s = start c in
     let a = s .args in
-    let t = a .table .now in
-    let i : ℕ = a .u * 512 + a .v in
-    let e : set t (i / 64) (bitXor (getD t (i / 64) 0) (bitAnd (getD t (i / 64) 0) (1 * 2 ^ (i % 64) % 2 ^ 64))) ≡ withoutBit t i =
-    ap (λ (x : ℕ). set t (i / 64) (bitXor (getD t (i / 64) 0) (bitAnd (getD t (i / 64) 0) x))) (shl-one (i % 64) (mod-lt i (zero-lt-suc 63))) in
-    (e, rw e (counted-out t (a .sizes .now) (a .u) (a .v) (s .pre .0) (s .pre .1) (s .pre .2) (s .pre .3)))
+    let e = stored-without (a .table .now) (a .u * 512 + a .v) in
+    (e, rw e (counted-out (a .table .now) (a .sizes .now) (a .u) (a .v) (s .pre .0) (s .pre .1) (s .pre .2) (s .pre .3)))
 
 pub take-out-spec : {M : Type 1} → statement M
 take-out-spec =
