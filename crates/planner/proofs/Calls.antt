@@ -21,7 +21,7 @@ use Rattle.sets.proofs.Bits.{zeros, bitAt-zeros}
 use Rattle.sets.proofs.Counting.{count-le}
 use Rattle.sets.proofs.Selecting.{length-select}
 use Rattle.image.specs.Image.{handsetCount}
-use Rattle.image.specs.Answers.{given}
+use Rattle.image.specs.Answers.{refusal, given}
 use Rattle.image.specs.Questions.{Accepted, openOf, headerOf, refusalOf}
 use Rattle.image.specs.declared.Header.{Header}
 use Rattle.image.specs.declared.Refusal.{Refusal}
@@ -34,7 +34,7 @@ use Rattle.community.specs.Site.{network}
 use Rattle.community.specs.declared.Role.the-variants.{Core}
 use Rattle.community.specs.declared.Standing.{Standing}
 use Rattle.search.specs.Communities.{coreIn, Grouped}
-use Rattle.tables.specs.Plan.{byRoom, refusal, planned, planAnswer, over, rowsOf, roleFor, PlanWritten}
+use Rattle.tables.specs.Plan.{byRoom, planned, planAnswer, over, rowsOf, roleFor, PlanWritten}
 use Rattle.tables.specs.declared.Planned.{Planned}
 use Rattle.tables.specs.declared.Planned.the-variants as P
 use Rattle.planner.specs.Plan.{PlanCall, CoreWords, communitiesOf, planOf, planFor, startsAfter, membersAfter, tableFor, coreFor, knownOf, knownFor, knownAnswer, standing}

@@ -16,7 +16,7 @@ use mathlib.Core.List.{List, _∷_}
 use lib.Dec.{ltb}
 use lib.ListN.{length}
 use Rattle.sets.specs.Rows.{SetOf}
-use Rattle.image.specs.Answers.{Answer, refused, given, Injective}
+use Rattle.image.specs.Answers.{Answer, refused, refusal, given, Injective}
 use Rattle.image.specs.Questions.{openOf}
 use Rattle.image.specs.declared.Opened.{Opened}
 use Rattle.image.specs.declared.Opened.the-variants as O
@@ -24,7 +24,7 @@ use Rattle.community.specs.Network.{neighbourhoodSize, isCore, communities, rol
 use Rattle.community.specs.Tables.{startTable, memberTable}
 use Rattle.community.specs.Site.{network}
 use Rattle.community.specs.declared.Standing.{Standing}
-use Rattle.tables.specs.Plan.{byRoom, refusal, planned, planAnswer, over}
+use Rattle.tables.specs.Plan.{byRoom, planned, planAnswer, over}
 use Rattle.tables.specs.declared.Planned.{Planned}
 use Rattle.tables.specs.declared.Planned.the-variants as P
 use Rattle.planner.specs.declared.Known.{Known}

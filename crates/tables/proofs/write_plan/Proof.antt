@@ -11,16 +11,6 @@ use Rattle.tables.proofs.Listing.{rows-length}
 use Rattle.tables.proofs.write_plan.Statement.{statement}
 use Rattle.tables.proofs.write_plan.Tie as tie
 
--- the places that the answers speak of
-abbrev wrote : tie.After-ask-room → tie.After-write-where-it-fits
-wrote c = c .before .before .before .before .before
-
-abbrev counted : tie.After-write-where-it-fits → tie.After-count-members
-counted c = c .before .before .before
-
-abbrev start : tie.After-count-members → tie.Start
-start c = c .before .before .before .before .before
-
 at-most-512-requires : tie.Need-at-most-512-requires
 at-most-512-requires c κs = search needs
 
@@ -41,9 +31,11 @@ same-length-2 c = search needs
 
 returns : tie.Need-returns
 returns c =
-    let w = wrote c .write-where-it-fits in
-    let k = counted (wrote c) in
-    let a = start k .args in
+    let written = c .before .before .before .before .before in
+    let k = written .before .before .before in
+    let start = k .before .before .before .before .before in
+    let w = written .write-where-it-fits in
+    let a = start .args in
     let gs : List (List ℕ) = rowsOf (a .rows .now) (k .before .at-most-512 .result) in
     let n : k .before .at-most-512 .result ≡ length gs = sym (rows-length (a .rows .now) (k .before .at-most-512 .result)) in
     let room : c .ask-room .result ≡ askRoom (length gs) (length (memberTable gs)) (length (a .starts .now)) (length (a .members .now)) =

@@ -28,17 +28,17 @@ loop-holds c = (omega arith, refl, refl)
 
 -- the place of the lowest set bit, and the members as that bit's number and the rest
 module _ (c : tie.In-loop Inv-loop μ-loop) where
-  abbrev zeros : ℕ
-  zeros = trailingZeros 64 (c .before .loop .w)
+  abbrev lowest-bit : ℕ
+  lowest-bit = trailingZeros 64 (c .before .loop .w)
 
   abbrev base : ℕ
   base = c .before .before .args .base
 
-  few : zeros < 64
+  few : lowest-bit < 64
   few = lowest 64 (c .before .loop .w) (omega arith) (c .before .loop .inv .0) .0
 
-  rest : wordMembers base (c .before .loop .w) ≡ (base + zeros) ∷ wordMembers base (cleared (c .before .loop .w) zeros)
-  rest = wordMembers-lowest base (c .before .loop .w) zeros few (lowest 64 (c .before .loop .w) (omega arith) (c .before .loop .inv .0) .1)
+  rest : wordMembers base (c .before .loop .w) ≡ (base + lowest-bit) ∷ wordMembers base (cleared (c .before .loop .w) lowest-bit)
+  rest = wordMembers-lowest base (c .before .loop .w) lowest-bit few (lowest 64 (c .before .loop .w) (omega arith) (c .before .loop .inv .0) .1)
 
   room : c .before .loop .place < length (c .before .before .args .members .now)
   room = omega (arith, ap length rest, c .before .before .pre .1)
