@@ -12,7 +12,7 @@ ghost use Rattle.sets.specs.Below.{sum};
 ghost use Rattle.sets.specs.Bits.{bitOf, bitAt, cell, withoutBit};
 ghost use Rattle.sets.specs.Rows.{WordOf, SetOf, Counted};
 ghost use Rattle.fields.specs.Fields.{handsetBytes, edgeBytes};
-ghost use Rattle.image.specs.Image.{endA, endB, handsetRecord, distanceBetween};
+ghost use Rattle.image.specs.Image.{endA, endB};
 ghost use Rattle.image.specs.Rows.{Room};
 ghost use Rattle.community.specs.Network.{meetsEpsilon};
 ghost use Rattle.community.specs.Site.{network};
@@ -45,11 +45,12 @@ fn ends_at(edges: &[u8], k: usize) -> Ends
     fields::read_ends(&edges[at..past])
 }
 
-// Whether the ends of an edge are no farther apart than the root of the limit.
-fn is_short(handsets: &[u8], e: Ends, limit: u64) -> bool
-    requires { ⌜ (e .a < 512) × (e .b < 512) × (handsetBytes * e .a + handsetBytes ≤ length (now handsets)) × (handsetBytes * e .b + handsetBytes ≤ length (now handsets)) ⌝ }
-    ensures { λ r. ⌜ r ≡ leb (distanceBetween (handsetRecord (now (handsets .entry)) (e .a)) (handsetRecord (now (handsets .entry)) (e .b))) limit ⌝ }
+// Whether the ends of edge k are no farther apart than the root of the limit.
+fn is_short<'a>(handsets: &'a [u8], edges: &'a [u8], k: usize, limit: u64) -> bool
+    requires { ⌜ (length (now handsets) ≤ handsetBytes * 512) × (HasEnds (now edges) (length (now handsets) / handsetBytes) k) ⌝ }
+    ensures { λ r. ⌜ r ≡ isShort (now (handsets .entry)) (now (edges .entry)) limit k ⌝ }
 {
+    let e = ends_at(edges, k);
     let a = fields::HANDSET_BYTES * e.a;
     let a_past = a + fields::HANDSET_BYTES;
     let b = fields::HANDSET_BYTES * e.b;
@@ -65,8 +66,7 @@ fn short_word<'a>(handsets: &'a [u8], edges: &'a [u8], base: usize, count: usize
     let mut word: u64 = 0;
     let mut k: usize = 0;
     while k < count {
-        let e = ends_at(edges, base + k);
-        let one = if is_short(handsets, e, limit) {
+        let one = if is_short(handsets, edges, base + k, limit) {
             1u64
         } else {
             0u64

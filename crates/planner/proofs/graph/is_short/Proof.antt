@@ -4,10 +4,13 @@ use mathlib.Core.Path.{ap₂, _∙_}
 use mathlib.Core.List.{List}
 use lib.Dec.{leb}
 use borrow.Author.Needs.{needs}
-use Rattle.image.specs.Image.{distanceBetween}
+use Rattle.image.specs.Image.{handsetRecord, distanceBetween}
 use Rattle.image.proofs.Records.{handset-part}
 use Rattle.planner.proofs.graph.is_short.Statement.{statement}
 use Rattle.planner.proofs.graph.is_short.Tie as tie
+
+ends-at-requires : tie.Need-ends-at-requires
+ends-at-requires c κs = search needs
 
 mul-a : tie.Need-mul-a
 mul-a c = search needs
@@ -44,14 +47,18 @@ within-requires c κs = search needs
 
 returns : tie.Need-returns
 returns c =
-    let a = c .before .before .before .before .before .before .args in
+    let e = c .before .before .before .before .before in
+    let hs : List ℕ = e .before .before .before .args .handsets .now in
+    let r = e .ends-at .result in
     c .within .ensures
-    ∙ ap₂ (λ (x y : List ℕ). leb (distanceBetween x y) (a .limit)) (handset-part (a .handsets .now) (a .e .a)) (handset-part (a .handsets .now) (a .e .b))
+    ∙ ap₂ (λ (x y : List ℕ). leb (distanceBetween x y) (e .before .before .before .args .limit)) (handset-part hs (r .a)) (handset-part hs (r .b))
+    ∙ ap₂ (λ (u v : ℕ). leb (distanceBetween (handsetRecord hs u) (handsetRecord hs v)) (e .before .before .before .args .limit)) (e .ends-at .ensures .0) (e .ends-at .ensures .1)
 
 pub is-short-spec : {M : Type 1} → statement M
 is-short-spec =
     tie.close
     (tie.spec
+    ends-at-requires
     mul-a
     add-a-past
     mul-b
