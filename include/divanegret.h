@@ -36,7 +36,7 @@
 extern "C" {
 #endif
 
-/* The parts of a refusal returned by any function but dvg_report. */
+/* The parts of a refusal. dvg_report tells no place: DVG_PLACE of its refusal is 0. */
 #define DVG_NUMBER(r) ((int32_t)(-(r) % 256))
 #define DVG_PLACE(r) ((int32_t)(-(r) / 256))
 

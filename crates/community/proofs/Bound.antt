@@ -69,7 +69,7 @@ last {g} ok (more {u} {v} {w} r b t) = (v, t, r, to-below r)
 module _ {g : Network} (ok : Sound g) where
   similar-neighbours : (w v : ℕ) → T (similar g w v) → T (g .neighbour w v)
   unfolding similar
-  similar-neighbours w v t = and-left (g .neighbour w v) (meetsEpsilon g (commonNeighbours g w v) (neighbourhoodSize g w) (neighbourhoodSize g v)) t
+  similar-neighbours w v t = and-left (g .neighbour w v) (meetsEpsilon (g .p) (g .q) (commonNeighbours g w v) (neighbourhoodSize g w) (neighbourhoodSize g v)) t
 
   groupsOf-core : (v : ℕ) → v < g .n → T (isCore g v) → leadersReaching g v ≤ 1
   unfolding leadersReaching

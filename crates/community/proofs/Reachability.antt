@@ -50,19 +50,11 @@ module _ (st : ℕ → ℕ → Bool) where
   -- a chain to k, or from k, needs no inner k
   to-end : (k u : ℕ) → T (chain st (suc k) u k) → T (chain st k u k)
   unfolding Ways
-  to-end k u t = go (ways k u k t)
-    where
-      go : Ways k u k → T (chain st k u k)
-      go (inl x) = x
-      go (inr x) = x .0
+  to-end k u t = ⊎-elim (λ x. x) (λ x. x .0) (ways k u k t)
 
   from-end : (k v : ℕ) → T (chain st (suc k) k v) → T (chain st k k v)
   unfolding Ways
-  from-end k v t = go (ways k k v t)
-    where
-      go : Ways k k v → T (chain st k k v)
-      go (inl x) = x
-      go (inr x) = x .1
+  from-end k v t = ⊎-elim (λ x. x) (λ x. x .1) (ways k k v t)
 
   -- two chains that meet at w below k are one
   pub chain-meet : (k w : ℕ) → w < k → (u v : ℕ) → T (chain st k u w) → T (chain st k w v) → T (chain st k u v)

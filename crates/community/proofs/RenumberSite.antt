@@ -72,18 +72,6 @@ module _ (s t : List ℕ) (r : Renumbered s t) (ok : Accepted s) where
   unfolding headerOf
   same-limit = ap (λ (h : Header). h .limit) same-header
 
-  same-p : epsilonNum t ≡ epsilonNum s
-  unfolding headerOf
-  same-p = ap (λ (h : Header). h .p) same-header
-
-  same-q : epsilonDen t ≡ epsilonDen s
-  unfolding headerOf
-  same-q = ap (λ (h : Header). h .q) same-header
-
-  same-mu : mu t ≡ mu s
-  unfolding headerOf mu
-  same-mu = ap (λ (h : Header). coreSize (h .mu)) same-header
-
   -- ---- handset records
   fits : Fits (headerOf s)
   fits = accepted-fits s ok
@@ -176,13 +164,12 @@ module _ (s t : List ℕ) (r : Renumbered s t) (ok : Accepted s) where
       (within-moved u v hu hv))
 
   pub network-moved : network t ≡ withNeighbour (network s) (neighbour t)
-  network-moved = λ i. record { n = same-handsets i; neighbour = neighbour t; p = same-p i; q = same-q i; mu = same-mu i }
+  unfolding headerOf mu
+  network-moved = ap (λ (h : Header). record { n = h .n; neighbour = neighbour t; p = h .p; q = h .q; mu = coreSize (h .mu) }) same-header
 
   sound-t : Sound (withNeighbour (network s) (neighbour t))
-  sound-t = subst Sound network-moved (network-sound t (omega (arith, same-p, same-q, p-q)))
-    where
-      p-q : epsilonNum s ≤ epsilonDen s
-      p-q = accepted-sound s ok .at-most-one
+  unfolding headerOf
+  sound-t = subst Sound network-moved (network-sound t (fits-t .p-q))
 
   -- ---- questions 7 to 10
   not-not : (b : Bool) → (T (not b) → ⊥) → T b

@@ -1,7 +1,7 @@
 -- Laws of the roles.
 use Prim.Native.Nat.{ℕ, zero, suc, _+_, _<_}
 use native.Mathlib.Omega.{arith}
-use mathlib.Core.Path.{_≡_, refl, ap, _∙_, subst}
+use mathlib.Core.Path.{_≡_, refl, sym, ap, _∙_, subst}
 use mathlib.Core.Logic.{⊎-elim}
 use mathlib.Core.Bool.{Bool, true, false, _&&_, cond}
 use mathlib.Core.List.{List, [], _∷_, _++_, map, List·Memᴰ, List·Memᴰ·head, List·Memᴰ·tail, List·Memᴰ·not-nil, List·Memᴰ·cases-cons}
@@ -12,8 +12,9 @@ use Rattle.sets.proofs.Tests.{T-ext, T-true, T-false, decide, or-left, or-right
 use Rattle.sets.proofs.Selecting.{map-append, mem-select, select-mem, select-yes, select-no}
 use Rattle.sets.specs.Renumbering.{Renumbering}
 use Rattle.sets.proofs.Counting.{count-cong}
-use Rattle.community.specs.Network.{Network, isCore, reachable, isLeader, members, communities, contains, communityNumber, membershipCount, leaders, role, borderOf}
-use Rattle.community.specs.declared.Role.the-variants.{Core}
+use Rattle.community.specs.Network.{Network, isCore, reachable, isLeader, members, communities, contains, communityNumber, membershipCount, leaders, role, borderOf, roleValues}
+use Rattle.community.specs.declared.Role.{Role}
+use Rattle.community.specs.declared.Role.the-variants.{Core, Border, Outlier}
 use Rattle.community.specs.Renumbered.{SameRole}
 use Rattle.community.specs.Renumbered.SameRole.{both-core, both-border, both-outlier}
 use Rattle.community.specs.Held.{Sound}
@@ -99,3 +100,16 @@ unfolding role
 role-moved g b r moved ok ok′ v h =
     rw (core-moved g b r moved v h, times-law (withNeighbour g b) (r .to v) (r .to-below v h), ← leadersReaching-moved g b r moved ok ok′ v h, times-law g v h)
     (same-cond (isCore g v) (communityNumber v (communities g)) (communityNumber (r .to v) (communities (withNeighbour g b))) (leadersReaching g v))
+
+-- ---- a role by its values
+roleFrom : List ℕ → Role
+roleFrom l = cond (eqb (getD l 0 0) 0) (Core (getD l 1 0)) (cond (eqb (getD l 0 0) 1) (Border (getD l 1 0)) Outlier)
+
+role-from : (r : Role) → roleFrom (roleValues r) ≡ r
+unfolding roleFrom
+role-from (Core k) = refl
+role-from (Border k) = refl
+role-from Outlier = refl
+
+pub role-same : (a b : Role) → roleValues a ≡ roleValues b → a ≡ b
+role-same a b e = sym (role-from a) ∙ ap roleFrom e ∙ role-from b

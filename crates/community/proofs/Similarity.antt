@@ -25,35 +25,34 @@ pub commonNeighbours-self : (g : Network) (u : ℕ) → commonNeighbours g u u �
 unfolding commonNeighbours neighbourhoodSize
 commonNeighbours-self g u = count-cong (g .n) (λ w. g .neighbour u w && g .neighbour u w) (g .neighbour u) (λ w h. and-same (g .neighbour u w))
 
-meetsEpsilon-comm : (g : Network) (c a b : ℕ) → meetsEpsilon g c a b ≡ meetsEpsilon g c b a
+meetsEpsilon-comm : (p q c a b : ℕ) → meetsEpsilon p q c a b ≡ meetsEpsilon p q c b a
 unfolding meetsEpsilon
-meetsEpsilon-comm g c a b = ap (λ (x : ℕ). leb (g .p * g .p * x) (c * c * (g .q * g .q))) (mul-comm a b)
+meetsEpsilon-comm p q c a b = ap (λ (x : ℕ). leb (p * p * x) (c * c * (q * q))) (mul-comm a b)
 
-meetsEpsilon-self : (g : Network) → g .p ≤ g .q → (a : ℕ) → T (meetsEpsilon g a a a)
+meetsEpsilon-self : (p q : ℕ) → p ≤ q → (a : ℕ) → T (meetsEpsilon p q a a a)
 unfolding meetsEpsilon
-meetsEpsilon-self g h a =
-    le→leb (g .p * g .p * (a * a)) (a * a * (g .q * g .q))
-    (rw (mul-comm (g .p * g .p) (a * a)) (mul-le-mul (omega arith) (mul-le-mul h h)))
+meetsEpsilon-self p q h a =
+    le→leb (p * p * (a * a)) (a * a * (q * q)) (rw (mul-comm (p * p) (a * a)) (mul-le-mul (omega arith) (mul-le-mul h h)))
 
 module _ {g : Network} (ok : Sound g) where
   pub similar-sym : (u v : ℕ) → similar g u v ≡ similar g v u
   unfolding similar
   similar-sym u v =
       ap₂ _&&_ (ok .neighbour-sym u v)
-      (ap (λ (c : ℕ). meetsEpsilon g c (neighbourhoodSize g u) (neighbourhoodSize g v)) (commonNeighbours-sym g u v) ∙ meetsEpsilon-comm g (commonNeighbours g v u) (neighbourhoodSize g u) (neighbourhoodSize g v))
+      (ap (λ (c : ℕ). meetsEpsilon (g .p) (g .q) c (neighbourhoodSize g u) (neighbourhoodSize g v)) (commonNeighbours-sym g u v) ∙ meetsEpsilon-comm (g .p) (g .q) (commonNeighbours g v u) (neighbourhoodSize g u) (neighbourhoodSize g v))
 
   pub similar-self : (u : ℕ) → T (g .neighbour u u) → T (similar g u u)
   unfolding similar
   similar-self u t =
-      and-make (g .neighbour u u) (meetsEpsilon g (commonNeighbours g u u) (neighbourhoodSize g u) (neighbourhoodSize g u)) t
-      (rw (commonNeighbours-self g u) (meetsEpsilon-self g (ok .at-most-one) (neighbourhoodSize g u)))
+      and-make (g .neighbour u u) (meetsEpsilon (g .p) (g .q) (commonNeighbours g u u) (neighbourhoodSize g u) (neighbourhoodSize g u)) t
+      (rw (commonNeighbours-self g u) (meetsEpsilon-self (g .p) (g .q) (ok .at-most-one) (neighbourhoodSize g u)))
 
   -- a core is similar to some handset, so it is neighbour to itself
   pub core-neighbour : (u : ℕ) → T (isCore g u) → T (g .neighbour u u)
   unfolding isCore similar
   core-neighbour u c =
       let a = any-take (g .n) (similar g u) (count-some (g .n) (similar g u) (omega (arith, leb→le (g .mu) (count (g .n) (similar g u)) c, ok .mu-some))) in
-      ok .neighbour-self u (a .0) (and-left (g .neighbour u (a .0)) (meetsEpsilon g (commonNeighbours g u (a .0)) (neighbourhoodSize g u) (neighbourhoodSize g (a .0))) (a .2))
+      ok .neighbour-self u (a .0) (and-left (g .neighbour u (a .0)) (meetsEpsilon (g .p) (g .q) (commonNeighbours g u (a .0)) (neighbourhoodSize g u) (neighbourhoodSize g (a .0))) (a .2))
 
   pub step-core : (u v : ℕ) → T (step g u v) → T (isCore g u)
   unfolding step

@@ -10,6 +10,7 @@
 --     IsCommunity g P           P is a community: it has a core, each two members are reachable from some one handset, and it is closed (paper 01: a group)
 --     communities g             the communities by their smallest core, the members of each ascending (proofs/Communities: listed exactly when IsCommunity)
 --     role g v                  core with its community's number, border with the count of its communities, or outlier
+--     roleValues r              a role's values: its kind (0 core, 1 border, 2 outlier), then that number or count, 0 for an outlier
 use Prim.Native.Nat.{ℕ, zero, suc, _+_, _*_, _<_}
 use mathlib.Core.Bool.{Bool, false, _&&_, _||_, not, cond}
 use mathlib.Core.List.{List, [], _∷_, map}
@@ -36,12 +37,12 @@ unfolding count
 commonNeighbours g u v = count (g .n) (λ w. g .neighbour u w && g .neighbour v w)
 
 -- c / √(a b) ≥ p / q, in whole numbers
-unfoldable pub meetsEpsilon : Network → ℕ → ℕ → ℕ → Bool
-meetsEpsilon g c a b = leb (g .p * g .p * (a * b)) (c * c * (g .q * g .q))
+unfoldable pub meetsEpsilon : ℕ → ℕ → ℕ → ℕ → ℕ → Bool
+meetsEpsilon p q c a b = leb (p * p * (a * b)) (c * c * (q * q))
 
 unfoldable pub similar : Network → ℕ → ℕ → Bool
 unfolding meetsEpsilon commonNeighbours neighbourhoodSize
-similar g u v = g .neighbour u v && meetsEpsilon g (commonNeighbours g u v) (neighbourhoodSize g u) (neighbourhoodSize g v)
+similar g u v = g .neighbour u v && meetsEpsilon (g .p) (g .q) (commonNeighbours g u v) (neighbourhoodSize g u) (neighbourhoodSize g v)
 
 unfoldable pub isCore : Network → ℕ → Bool
 unfolding similar count
@@ -120,3 +121,8 @@ borderOf (suc k) = Border (suc k)
 unfoldable pub role : Network → ℕ → Role
 unfolding isCore communityNumber membershipCount communities
 role g v = cond (isCore g v) (Core (communityNumber v (communities g))) (borderOf (membershipCount v (communities g)))
+
+abbrev pub roleValues : Role → List ℕ
+roleValues (Core k) = 0 ∷ k ∷ []
+roleValues (Border k) = 1 ∷ k ∷ []
+roleValues Outlier = 2 ∷ 0 ∷ []

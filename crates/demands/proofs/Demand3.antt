@@ -11,6 +11,7 @@ use lib.ListN.{length, getD, drop}
 use Rattle.sets.proofs.Tests.{T-true}
 use Rattle.sets.proofs.Counting.{inverse}
 use Rattle.image.specs.Image.{handsetCount}
+use Rattle.image.specs.Answers.{refusal}
 use Rattle.image.specs.Questions.{Accepted, headerOf}
 use Rattle.image.specs.declared.Opened.{Opened}
 use Rattle.image.proofs.Acceptance.{opened}
@@ -23,7 +24,7 @@ use Rattle.community.proofs.Tables.{table-community}
 use Rattle.community.proofs.Site.{accepted-sound}
 use Rattle.community.proofs.Bound.{memberships-bound}
 use Rattle.community.proofs.RenumberSite.{accepted-too, same-handsets, image-communities, image-memberships, image-roles, image-neighbours, community-numbered-back, community-numbered-on}
-use Rattle.tables.specs.Plan.{made, planned, planAnswer, byRoom, over, refusal}
+use Rattle.tables.specs.Plan.{made, planned, planAnswer, byRoom, over}
 use Rattle.tables.proofs.Answers.{plan-same}
 use Rattle.planner.specs.Plan.{PlanCall, communitiesOf, planOf, startsAfter, membersAfter, planFor, tableFor, knownOf, knownFor, knownAnswer, standing}
 use Rattle.planner.proofs.Answers.{known-same}

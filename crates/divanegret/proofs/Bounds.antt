@@ -18,6 +18,7 @@ use Rattle.sets.proofs.Tests.{and-left, and-right, or-right, decide, find-law, 
 use Rattle.sets.proofs.Counting.{count-le, sum-le, sum-const}
 use Rattle.image.specs.Image.{handsetCount, edgeCount, handsetRecords, edgeRecords, handsetRecord, endA, endB}
 use Rattle.image.specs.Questions.{headerOf, countsFit, thresholdsFit, tablesFit, outOfLimits, badEnd, isLoop, repeatsEarlier, ask, askEach, askEdges, askRecords, askHeader, openOf, Accepted}
+use Rattle.image.specs.Answers.{refusal}
 use Rattle.image.specs.declared.Header.{Header}
 use Rattle.image.specs.declared.Refusal.{Refusal}
 use Rattle.image.specs.declared.Opened.{Opened}
@@ -30,7 +31,7 @@ use Rattle.community.specs.Tables.{memberTable}
 use Rattle.community.specs.declared.Role.{Role}
 use Rattle.community.specs.declared.Role.the-variants.{Core, Border, Outlier}
 use Rattle.community.proofs.Bound.{memberships-bound}
-use Rattle.tables.specs.Plan.{refusal, made}
+use Rattle.tables.specs.Plan.{made}
 use Rattle.tables.specs.declared.Planned.{Planned}
 use Rattle.tables.specs.declared.Planned.the-variants as P
 use Rattle.planner.specs.Plan.{communitiesOf, planFor, planOf, standing, knownFor, knownOf}
@@ -40,10 +41,10 @@ use Rattle.scores.specs.Scored.{tallyOf, badEntry, askEntries, talliedFor, tall
 use Rattle.scores.specs.declared.Tallied.{Tallied}
 use Rattle.scores.specs.declared.Tallied.the-variants as T
 use Rattle.scores.proofs.Entries.{bit-le}
-use Rattle.lookup.specs.Lookup.{startOf, placed, between, membersOf, refusal14, lookedOf}
+use Rattle.lookup.specs.Lookup.{startOf, placed, between, membersOf, lookedOf}
 use Rattle.lookup.specs.declared.Looked.{Looked}
 use Rattle.lookup.specs.declared.Looked.the-variants as L
-use Rattle.reporting.specs.Report.{reportText, refusal16, writtenOf, reportFor, reportOf}
+use Rattle.reporting.specs.Report.{reportText, writtenOf, reportFor, reportOf}
 use Rattle.reporting.specs.declared.Reported.{Reported}
 use Rattle.reporting.specs.declared.Reported.the-variants as R
 use Rattle.reporting.proofs.Whole.{communities-few}
@@ -243,7 +244,7 @@ looked-small starts table k = go (placed starts (length table) k)
     b : ℕ
     b = startOf starts (k + 1)
 
-    go : (q : Bool) → LookedSmall (length table) (cond q (L.Found (length (cond q (between a b table) []))) (L.Refused refusal14))
+    go : (q : Bool) → LookedSmall (length table) (cond q (L.Found (length (cond q (between a b table) []))) (L.Refused (refusal 14)))
     go true = omega (arith, length-take (b - a) (drop a table), length-drop a table)
     go false = own-small 14 (omega arith) (omega arith)
 
@@ -255,7 +256,7 @@ pub report-small : (s : List ℕ) (room : ℕ) → ReportSmall room (reportOf s 
 unfolding reportOf writtenOf
 report-small s room = go (openOf s) (open-small s)
   where
-    fitting : (b : Bool) → leb (length (reportText s)) room ≡ b → ReportSmall room (cond b (R.Written (length (reportText s))) (R.Refused refusal16))
+    fitting : (b : Bool) → leb (length (reportText s)) room ≡ b → ReportSmall room (cond b (R.Written (length (reportText s))) (R.Refused (refusal 16)))
     fitting true e = leb→le (length (reportText s)) room (subst T (sym e) tt)
     fitting false e = own-small 16 (omega arith) (omega arith)
 

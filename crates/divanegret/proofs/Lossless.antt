@@ -16,12 +16,13 @@ use Rattle.image.specs.Signed.{signed32}
 use Rattle.image.specs.declared.Refusal.{Refusal}
 use Rattle.image.specs.declared.Opened.{Opened}
 use Rattle.image.specs.declared.Opened.the-variants as O
+use Rattle.community.specs.Network.{roleValues}
 use Rattle.community.specs.declared.Role.{Role}
 use Rattle.community.specs.declared.Role.the-variants.{Core, Border, Outlier}
 use Rattle.tables.specs.Plan.{planAnswer}
 use Rattle.tables.specs.declared.Planned.{Planned}
 use Rattle.tables.specs.declared.Planned.the-variants as P
-use Rattle.planner.specs.Plan.{planOf, knownOf, roleValues, knownAnswer}
+use Rattle.planner.specs.Plan.{planOf, knownOf, knownAnswer}
 use Rattle.planner.specs.declared.Known.{Known}
 use Rattle.planner.specs.declared.Known.the-variants as K
 use Rattle.scores.specs.Scored.{talliedOf}
@@ -36,7 +37,7 @@ use Rattle.reporting.specs.Report.{reportOf, reportAnswer}
 use Rattle.reporting.specs.declared.Reported.{Reported}
 use Rattle.reporting.specs.declared.Reported.the-variants as R
 use Rattle.divanegret.specs.Codes.{refusalCode, openCode, planCode, kindCode, roleCode, tallyCode, lookedCode, reportCode}
-use Rattle.divanegret.specs.Lossless.{int32, handsetsIn, tiesIn, groupsIn, membershipsIn, kindIn, valueIn, nearCountIn, leavingIn, joinedPairsIn, pairsIn, itself, Taken, takenBy, siteAnswer, numberOnly, whole, Lossless}
+use Rattle.divanegret.specs.Lossless.{int32, openMacros, planMacros, roleMacros, scoresMacros, itself, Taken, takenBy, siteAnswer, numberOnly, whole, Lossless}
 use Rattle.divanegret.proofs.Bounds.{Small, OpenSmall, PlanSmall, RoleSmall, KnownSmall, TallySmall, LookedSmall, ReportSmall, open-small, plan-small, role-small, tally-small, looked-small, report-small}
 
 -- a number below 2 ^ 31 is its int32_t
@@ -48,13 +49,13 @@ low32 k x e h =
 
 -- ---- refusals
 
-negative-taken : (macros : List (ℤ → ℤ)) (k : ℕ) → 1 ≤ k
+negative-taken : (macros : List (ℕ → ℤ)) (k : ℕ) → 1 ≤ k
     → takenBy macros (negℤ (pos k)) ≡ record { number = int32 (k % 256); place = int32 (k / 256); values = [] }
 unfolding takenBy
 negative-taken macros zero h = absurd (omega arith)
 negative-taken macros (suc k) h = refl
 
-refusal-taken : (macros : List (ℤ → ℤ)) (r : Refusal) → Small r → takenBy macros (refusalCode r) ≡ whole (refused r)
+refusal-taken : (macros : List (ℕ → ℤ)) (r : Refusal) → Small r → takenBy macros (refusalCode r) ≡ whole (refused r)
 refusal-taken macros r small =
     let k : ℕ = min (r .number) 255 + 256 * min (r .place) 4294967295 in
     let n : int32 (k % 256) ≡ pos (r .number) = low32 (k % 256) (r .number) (omega (arith, small .number, small .place)) (omega (arith, small .number)) in
@@ -73,23 +74,23 @@ values-3 : {a b c x y z : ℤ} → a ≡ x → b ≡ y → c ≡ z → _≡_ {A 
 values-3 p q r = λ i. p i ∷ q i ∷ r i ∷ []
 
 -- two numbers in one
-pair-taken : (k x y : ℕ) → k ≡ x + 65536 * y → x < 65536 → y < 65536 → takenBy (handsetsIn ∷ tiesIn ∷ []) (pos k) ≡ whole (given (x ∷ y ∷ []))
+pair-taken : (k x y : ℕ) → k ≡ x + 65536 * y → x < 65536 → y < 65536 → takenBy openMacros (pos k) ≡ whole (given (x ∷ y ∷ []))
 unfolding takenBy
 pair-taken k x y e h l = success (values-2 (low32 (k % 65536) x (omega arith) (omega arith)) (low32 (k / 65536) y (omega arith) (omega arith)))
 
-open-taken : (o : Opened) → OpenSmall o → takenBy (handsetsIn ∷ tiesIn ∷ []) (openCode o) ≡ whole (siteAnswer o)
+open-taken : (o : Opened) → OpenSmall o → takenBy openMacros (openCode o) ≡ whole (siteAnswer o)
 open-taken (O.Site h) small = pair-taken (h .n + 65536 * h .m) (h .n) (h .m) refl (omega (arith, small .0)) (omega (arith, small .1))
-open-taken (O.Refused r) small = refusal-taken (handsetsIn ∷ tiesIn ∷ []) r small
+open-taken (O.Refused r) small = refusal-taken openMacros r small
 
-plan-taken : (p : Planned) → PlanSmall p → takenBy (groupsIn ∷ membershipsIn ∷ []) (planCode p) ≡ whole (planAnswer p)
+plan-taken : (p : Planned) → PlanSmall p → takenBy planMacros (planCode p) ≡ whole (planAnswer p)
 plan-taken (P.Made c) small =
     pair-taken (min (c .groups) 65535 + 65536 * min (c .memberships) 65535) (c .groups) (c .memberships)
     (omega (arith, small .0, small .1)) (omega (arith, small .0)) (omega (arith, small .1))
-plan-taken (P.Refused r) small = refusal-taken (groupsIn ∷ membershipsIn ∷ []) r small
+plan-taken (P.Refused r) small = refusal-taken planMacros r small
 
 -- a near count, a kind and a value
 role-of : (k near x y : ℕ) → k ≡ x + 65536 * y + 4294967296 * near → near < 65536 → x < 65536 → y < 65536
-    → takenBy (nearCountIn ∷ kindIn ∷ valueIn ∷ []) (pos k) ≡ whole (given (near ∷ x ∷ y ∷ []))
+    → takenBy roleMacros (pos k) ≡ whole (given (near ∷ x ∷ y ∷ []))
 unfolding takenBy
 role-of k near x y e j h l =
     let w : k / 65536 ≡ y + 65536 * near = omega arith in
@@ -97,14 +98,14 @@ role-of k near x y e j h l =
     (low32 (k / 65536 % 65536) y (omega (arith, w)) (omega arith)))
 
 kind-taken : (x : Role) (near : ℕ) → RoleSmall x → near ≤ 512
-    → takenBy (nearCountIn ∷ kindIn ∷ valueIn ∷ []) (pos (kindCode x + 4294967296 * min near 65535)) ≡ whole (given (near ∷ roleValues x))
+    → takenBy roleMacros (pos (kindCode x + 4294967296 * min near 65535)) ≡ whole (given (near ∷ roleValues x))
 kind-taken (Core k) near small h = role-of _ near 0 k (omega arith) (omega arith) (omega arith) (omega arith)
 kind-taken (Border k) near small h = role-of _ near 1 k (omega arith) (omega arith) (omega arith) (omega arith)
 kind-taken Outlier near small h = role-of _ near 2 0 (omega arith) (omega arith) (omega arith) (omega arith)
 
-role-taken : (x : Known) → KnownSmall x → takenBy (nearCountIn ∷ kindIn ∷ valueIn ∷ []) (roleCode x) ≡ whole (knownAnswer x)
+role-taken : (x : Known) → KnownSmall x → takenBy roleMacros (roleCode x) ≡ whole (knownAnswer x)
 role-taken (K.Handset x) small = kind-taken (x .role) (x .neighbours) (small .0) (small .1)
-role-taken (K.Refused r) small = refusal-taken (nearCountIn ∷ kindIn ∷ valueIn ∷ []) r small
+role-taken (K.Refused r) small = refusal-taken roleMacros r small
 
 -- the middle share, and the upper
 middle : (k t s : ℕ) → k ≡ t + 1048576 * s → t < 1048576 → k % 1048576 ≡ t
@@ -114,35 +115,35 @@ upper : (k o s : ℕ) → k ≡ o + 68719476736 * s → o < 68719476736 → k / 
 upper k o s e h = omega arith
 
 tally-of : (k s t o : ℕ) → k ≡ o + 65536 * t + 68719476736 * s → t < 1048576 → o < 65536
-    → takenBy (pairsIn ∷ joinedPairsIn ∷ leavingIn ∷ []) (pos k) ≡ whole (given (s ∷ t ∷ o ∷ []))
+    → takenBy scoresMacros (pos k) ≡ whole (given (s ∷ t ∷ o ∷ []))
 unfolding takenBy
 tally-of k s t o e l h =
     let x : k % 65536 ≡ o = omega arith in
     let w : k / 65536 ≡ t + 1048576 * s = omega arith in
     success (values-3 (ap pos (upper k (o + 65536 * t) s e (omega arith))) (ap pos (middle (k / 65536) t s w l)) (ap pos x))
 
-tally-taken : (x : Tallied) → TallySmall x → takenBy (pairsIn ∷ joinedPairsIn ∷ leavingIn ∷ []) (tallyCode x) ≡ whole (tallyAnswer x)
+tally-taken : (x : Tallied) → TallySmall x → takenBy scoresMacros (tallyCode x) ≡ whole (tallyAnswer x)
 tally-taken (T.Of x) small =
     tally-of _ (x .pairs) (x .joined) (x .leaving) (omega (arith, small .0, small .1, small .2)) (omega (arith, small .1)) (omega (arith, small .2))
-tally-taken (T.Refused r) small = refusal-taken (pairsIn ∷ joinedPairsIn ∷ leavingIn ∷ []) r small
+tally-taken (T.Refused r) small = refusal-taken scoresMacros r small
 
 -- a count that is at most the length of what was lent
-count-taken : (k room : ℕ) → room < 9223372036854775808 → k ≤ room → takenBy (itself ∷ []) (pos (min k 9223372036854775807)) ≡ whole (given (k ∷ []))
+count-taken : (k room : ℕ) → room < 9223372036854775808 → k ≤ room → takenBy itself (pos (min k 9223372036854775807)) ≡ whole (given (k ∷ []))
 unfolding takenBy
 count-taken k room h l =
     let e : min k 9223372036854775807 ≡ k = omega arith in
     success (ap (λ (x : ℕ). pos x ∷ []) e)
 
-looked-taken : (x : Looked) (room : ℕ) → room < 9223372036854775808 → LookedSmall room x → takenBy (itself ∷ []) (lookedCode x) ≡ whole (lookAnswer x)
+looked-taken : (x : Looked) (room : ℕ) → room < 9223372036854775808 → LookedSmall room x → takenBy itself (lookedCode x) ≡ whole (lookAnswer x)
 looked-taken (L.Found k) room h small = count-taken k room h small
-looked-taken (L.Refused r) room h small = refusal-taken (itself ∷ []) r small
+looked-taken (L.Refused r) room h small = refusal-taken itself r small
 
-report-taken : (x : Reported) (room : ℕ) → room < 9223372036854775808 → ReportSmall room x → takenBy (itself ∷ []) (reportCode x) ≡ whole (numberOnly (reportAnswer x))
+report-taken : (x : Reported) (room : ℕ) → room < 9223372036854775808 → ReportSmall room x → takenBy itself (reportCode x) ≡ whole (numberOnly (reportAnswer x))
 report-taken (R.Written k) room h small = count-taken k room h small
 report-taken (R.Refused r) room h small =
     let n : int32 (r .number % 256) ≡ pos (r .number) = low32 (r .number % 256) (r .number) (omega (arith, small .number)) (omega (arith, small .number)) in
     let p : int32 (r .number / 256) ≡ pos 0 = low32 (r .number / 256) 0 (omega (arith, small .number)) (omega arith) in
-    negative-taken (itself ∷ []) (r .number) (small .some) ∙ (λ i. record { number = n i; place = p i; values = [] })
+    negative-taken itself (r .number) (small .some) ∙ (λ i. record { number = n i; place = p i; values = [] })
 
 pub lossless : Lossless
 lossless = record {

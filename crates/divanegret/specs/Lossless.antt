@@ -3,20 +3,20 @@
 -- as a number, a place and values is that of the library's own definitions (planAnswer, knownAnswer, tallyAnswer, lookAnswer, reportAnswer).
 --
 --     int32 k                    the (int32_t) of a macro: the low 32 bits of k, as a signed number
---     numberIn, placeIn          DVG_NUMBER and DVG_PLACE of a call's number
---     handsetsIn .. pairsIn      DVG_HANDSETS to DVG_PAIRS, in the header's order
---     takenBy macros z           what a caller takes out of the number z: 0 or more is a success, with its values by their macros; less is a refusal
+--     openMacros .. itself       the macros of each call, DVG_HANDSETS to DVG_PAIRS, in the order of the answer's values
+--     takenBy macros z           what a caller takes out of the number z: 0 or more is a success, with its values by their macros; less is a refusal, with
+--                                its number and place by DVG_NUMBER and DVG_PLACE
 --     siteAnswer o               the answer of dvg_open: n and m, or the refusal
---     numberOnly a               the answer without its place, as dvg_report tells it
+--     numberOnly a               the answer with place 0, as dvg_report tells it
 --     whole a                    all numbers of an answer
 --     Lossless                   the theorem: what is taken out of each call's number is the whole answer
 --
 -- Proved in proofs/Lossless as `lossless`. The part of dvg_members asks for a member table of fewer than 2 ^ 63 entries, and that of dvg_report for a buffer
 -- of fewer than 2 ^ 63 bytes; a caller in C can lend no longer one.
-use Prim.Native.Nat.{ℕ, _%_, _/_, _<_}
+use Prim.Native.Nat.{ℕ, suc, _%_, _/_, _<_}
 use mathlib.Core.Path.{_≡_}
 use mathlib.Core.List.{List, [], _∷_, map}
-use lib.IntN.{ℤ, pos, negsuc, natAbs}
+use lib.IntN.{ℤ, pos, negsuc}
 use lib.ListN.{length}
 use Rattle.image.specs.Answers.{Answer, refused, given}
 use Rattle.image.specs.Questions.{openOf}
@@ -32,62 +32,40 @@ use Rattle.lookup.specs.Answers.{lookAnswer}
 use Rattle.reporting.specs.Report.{reportOf, reportAnswer}
 use Rattle.divanegret.specs.Codes.{openCode, planCode, roleCode, tallyCode, lookedCode, reportCode}
 
--- ---- the macros
+-- ---- the macros of a success r
 
 abbrev pub int32 : ℕ → ℤ
 int32 k = signed32 (k % 4294967296)
 
--- of a refusal r, which is less than 0: natAbs r is -(r)
-abbrev pub numberIn : ℤ → ℤ
-numberIn r = int32 (natAbs r % 256)
+-- DVG_HANDSETS and DVG_TIES
+abbrev pub openMacros : List (ℕ → ℤ)
+openMacros = (λ r. int32 (r % 65536)) ∷ (λ r. int32 (r / 65536)) ∷ []
 
-abbrev pub placeIn : ℤ → ℤ
-placeIn r = int32 (natAbs r / 256)
+-- DVG_GROUPS and DVG_MEMBERSHIPS
+abbrev pub planMacros : List (ℕ → ℤ)
+planMacros = (λ r. int32 (r % 65536)) ∷ (λ r. int32 (r / 65536)) ∷ []
 
--- of a success r, which is 0 or more: natAbs r is r
-abbrev pub handsetsIn : ℤ → ℤ
-handsetsIn r = int32 (natAbs r % 65536)
+-- DVG_NEAR, DVG_KIND and DVG_VALUE
+abbrev pub roleMacros : List (ℕ → ℤ)
+roleMacros = (λ r. int32 (r / 4294967296)) ∷ (λ r. int32 (r % 65536)) ∷ (λ r. int32 (r / 65536 % 65536)) ∷ []
 
-abbrev pub tiesIn : ℤ → ℤ
-tiesIn r = int32 (natAbs r / 65536)
-
-abbrev pub groupsIn : ℤ → ℤ
-groupsIn r = int32 (natAbs r % 65536)
-
-abbrev pub membershipsIn : ℤ → ℤ
-membershipsIn r = int32 (natAbs r / 65536)
-
-abbrev pub kindIn : ℤ → ℤ
-kindIn r = int32 (natAbs r % 65536)
-
-abbrev pub valueIn : ℤ → ℤ
-valueIn r = int32 (natAbs r / 65536 % 65536)
-
-abbrev pub nearCountIn : ℤ → ℤ
-nearCountIn r = int32 (natAbs r / 4294967296)
-
--- these stay int64_t
-abbrev pub leavingIn : ℤ → ℤ
-leavingIn r = pos (natAbs r % 65536)
-
-abbrev pub joinedPairsIn : ℤ → ℤ
-joinedPairsIn r = pos (natAbs r / 65536 % 1048576)
-
-abbrev pub pairsIn : ℤ → ℤ
-pairsIn r = pos (natAbs r / 68719476736)
+-- DVG_PAIRS, DVG_TIED_PAIRS and DVG_LEAVING, which stay int64_t
+abbrev pub scoresMacros : List (ℕ → ℤ)
+scoresMacros = (λ r. pos (r / 68719476736)) ∷ (λ r. pos (r / 65536 % 1048576)) ∷ (λ r. pos (r % 65536)) ∷ []
 
 -- dvg_members and dvg_report: the number itself
-abbrev pub itself : ℤ → ℤ
-itself r = r
+abbrev pub itself : List (ℕ → ℤ)
+itself = pos ∷ []
 
 pub record Taken : Type 0 where
   pub number : ℤ
   pub place : ℤ
   pub values : List ℤ
 
-unfoldable pub takenBy : List (ℤ → ℤ) → ℤ → Taken
-takenBy macros (pos k) = record { number = pos 0; place = pos 0; values = map (λ f. f (pos k)) macros }
-takenBy macros (negsuc k) = record { number = numberIn (negsuc k); place = placeIn (negsuc k); values = [] }
+-- a refusal, for which DVG_NUMBER and DVG_PLACE use -(r), is less than 0: negsuc k is -(suc k)
+unfoldable pub takenBy : List (ℕ → ℤ) → ℤ → Taken
+takenBy macros (pos r) = record { number = pos 0; place = pos 0; values = map (λ f. f r) macros }
+takenBy macros (negsuc k) = record { number = int32 (suc k % 256); place = int32 (suc k / 256); values = [] }
 
 -- ---- the answers
 
@@ -105,11 +83,11 @@ whole a = record { number = pos (a .number); place = pos (a .place); values = ma
 
 -- s is an image; a and b are the lengths of a start table and a member table; v is a handset and l a list of handsets
 pub record Lossless : Type 0 where
-  pub opened : (s : List ℕ) → takenBy (handsetsIn ∷ tiesIn ∷ []) (openCode (openOf s)) ≡ whole (siteAnswer (openOf s))
-  pub planned : (s : List ℕ) (a b : ℕ) → takenBy (groupsIn ∷ membershipsIn ∷ []) (planCode (planOf s a b)) ≡ whole (planAnswer (planOf s a b))
-  pub role : (s : List ℕ) (v : ℕ) → takenBy (nearCountIn ∷ kindIn ∷ valueIn ∷ []) (roleCode (knownOf s v)) ≡ whole (knownAnswer (knownOf s v))
-  pub scores : (s l : List ℕ) → takenBy (pairsIn ∷ joinedPairsIn ∷ leavingIn ∷ []) (tallyCode (talliedOf s l)) ≡ whole (tallyAnswer (talliedOf s l))
+  pub opened : (s : List ℕ) → takenBy openMacros (openCode (openOf s)) ≡ whole (siteAnswer (openOf s))
+  pub planned : (s : List ℕ) (a b : ℕ) → takenBy planMacros (planCode (planOf s a b)) ≡ whole (planAnswer (planOf s a b))
+  pub role : (s : List ℕ) (v : ℕ) → takenBy roleMacros (roleCode (knownOf s v)) ≡ whole (knownAnswer (knownOf s v))
+  pub scores : (s l : List ℕ) → takenBy scoresMacros (tallyCode (talliedOf s l)) ≡ whole (tallyAnswer (talliedOf s l))
   pub members : (starts table : List ℕ) (k : ℕ) → length table < 9223372036854775808
-      → takenBy (itself ∷ []) (lookedCode (lookedOf starts table k)) ≡ whole (lookAnswer (lookedOf starts table k))
+      → takenBy itself (lookedCode (lookedOf starts table k)) ≡ whole (lookAnswer (lookedOf starts table k))
   pub report : (s : List ℕ) (room : ℕ) → room < 9223372036854775808
-      → takenBy (itself ∷ []) (reportCode (reportOf s room)) ≡ whole (numberOnly (reportAnswer (reportOf s room)))
+      → takenBy itself (reportCode (reportOf s room)) ≡ whole (numberOnly (reportAnswer (reportOf s room)))

@@ -2,6 +2,7 @@
 --
 --     Answer          a number, which is 0 where nothing is refused, a place, and the values of the case
 --     refused r       a refusal: its number and place, and no values
+--     refusal k       the refusal with number k, which names no place
 --     given vs        nothing is refused, and these are the values
 --     openAnswer o    the reader's answer: the header's numbers in their order, or the refusal
 --     Injective f     two for which f gives the same are the same
@@ -20,6 +21,9 @@ pub record Answer : Type 0 where
 
 abbrev pub refused : Refusal → Answer
 refused r = record { number = r .number; place = r .place; values = [] }
+
+abbrev pub refusal : ℕ → Refusal
+refusal k = record { number = k; place = 0 }
 
 abbrev pub given : List ℕ → Answer
 given vs = record { number = 0; place = 0; values = vs }

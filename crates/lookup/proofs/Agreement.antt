@@ -11,7 +11,8 @@ use mathlib.Core.List.{List, [], _∷_}
 use lib.ListN.{length, take, drop, length-take, length-drop}
 use lib.Seq.{slice}
 use borrow.Author.Tests.{lt-ltb, le-ltb, le-leb, lt-leb}
-use Rattle.lookup.specs.Lookup.{startOf, placed, between, membersOf, refusal14, lookedOf, Agree}
+use Rattle.image.specs.Answers.{refusal}
+use Rattle.lookup.specs.Lookup.{startOf, placed, between, membersOf, lookedOf, Agree}
 use Rattle.lookup.specs.Held.{spanOf}
 use Rattle.lookup.specs.declared.Span.{Span}
 use Rattle.lookup.specs.declared.Looked.the-variants.{Found, Refused}
@@ -54,7 +55,7 @@ module _ (starts table : List ℕ) (k : ℕ) where
   unfolding lookedOf
   looked-yes e = simp e
 
-  pub looked-no : placed starts (length table) k ≡ false → lookedOf starts table k ≡ Refused refusal14
+  pub looked-no : placed starts (length table) k ≡ false → lookedOf starts table k ≡ Refused (refusal 14)
   unfolding lookedOf
   looked-no e = simp e
 
@@ -67,10 +68,10 @@ module _ (starts table : List ℕ) (k : ℕ) where
       go false e = rw (span-no starts (length table) k e) (members-no e)
 
   pub looked-span : (r : Span) → r ≡ spanOf starts (length table) k → r .past ≤ length table
-      → lookedOf starts table k ≡ cond (r .found) (Found (r .past - r .first)) (Refused refusal14)
+      → lookedOf starts table k ≡ cond (r .found) (Found (r .past - r .first)) (Refused (refusal 14))
   looked-span r d h = go (placed starts (length table) k) refl
     where
-      go : (b : Bool) → placed starts (length table) k ≡ b → lookedOf starts table k ≡ cond (r .found) (Found (r .past - r .first)) (Refused refusal14)
+      go : (b : Bool) → placed starts (length table) k ≡ b → lookedOf starts table k ≡ cond (r .found) (Found (r .past - r .first)) (Refused (refusal 14))
       go true e =
           let s = d ∙ span-yes starts (length table) k e in
           let inside : startOf starts (k + 1) ≤ length table = rw s at h in

@@ -12,6 +12,7 @@ use mathlib.Core.Bool.{Bool, _&&_, cond}
 use mathlib.Core.List.{List, []}
 use lib.Dec.{T, leb, ltb}
 use lib.ListN.{length, getD, take, drop}
+use Rattle.image.specs.Answers.{refusal}
 use Rattle.image.specs.declared.Refusal.{Refusal}
 use Rattle.lookup.specs.declared.Looked.{Looked}
 use Rattle.lookup.specs.declared.Looked.the-variants.{Found, Refused}
@@ -30,16 +31,12 @@ unfoldable pub membersOf : List ℕ → List ℕ → ℕ → List ℕ
 unfolding placed
 membersOf starts table k = cond (placed starts (length table) k) (between (startOf starts k) (startOf starts (k + 1)) table) []
 
--- the paper's number and place for question 14
-abbrev pub refusal14 : Refusal
-refusal14 = record { number = 14; place = 0 }
-
 unfoldable pub lookedOf : List ℕ → List ℕ → ℕ → Looked
 unfolding placed membersOf
-lookedOf starts table k = cond (placed starts (length table) k) (Found (length (membersOf starts table k))) (Refused refusal14)
+lookedOf starts table k = cond (placed starts (length table) k) (Found (length (membersOf starts table k))) (Refused (refusal 14))
 
 -- the lookup and its companion agree: a part is given where there is no refusal, with the count of its members; 14 is the only refusal, and the part is
 -- then empty
 pub record Agree (starts table : List ℕ) (k : ℕ) (part : List ℕ) (looked : Looked) : Type 0 where
   pub found : (n : ℕ) → looked ≡ Found n → T (placed starts (length table) k) × (part ≡ between (startOf starts k) (startOf starts (k + 1)) table) × (n ≡ length part)
-  pub refused : (r : Refusal) → looked ≡ Refused r → (T (placed starts (length table) k) → ⊥) × (r ≡ refusal14) × (part ≡ [])
+  pub refused : (r : Refusal) → looked ≡ Refused r → (T (placed starts (length table) k) → ⊥) × (r ≡ refusal 14) × (part ≡ [])

@@ -1,7 +1,7 @@
 -- How the calls' answers follow from what was found of a site: a refused image ends the call with its refusal, and of an accepted one the rows that were
 -- found are its communities, so the counts, the tables and the roles are those of the definitions.
 --
---     Ready, ready, ready-count, reading-no         what the reader tells and leaves, after a yes and after a no
+--     ready-count, told-no                          what is told of an accepted and of a refused image
 --     plan-refused, cores-refused, known-refused    the outcome of the calls for a refused image
 --     handsets-most, groups-most                    an accepted image has at most 512 handsets, and so at most 512 communities
 --     plan-found, cores-found                       the outcome of a plan, from the communities found
@@ -10,64 +10,46 @@ use Prim.Native.Nat.{ℕ, _≤_, _<_, min}
 use native.Mathlib.Omega.{arith}
 use mathlib.Core.Path.{_≡_, refl, sym, ap, ap₂, _∙_}
 use mathlib.Core.Bool.{Bool, true, false, _&&_, cond}
-use mathlib.Core.List.{List}
+use mathlib.Core.List.{List, _∷_}
 use lib.Dec.{ltb, eqb, lt→ltb, ltb→lt, not-T}
 use lib.ListN.{length}
 use Rattle.sets.specs.Below.{bit}
 use Rattle.sets.specs.Bits.{bitAt}
-use Rattle.sets.specs.Rows.{SetOf, Table, Counted}
+use Rattle.sets.specs.Rows.{SetOf}
 use Rattle.sets.proofs.Tests.{T-true, T-false}
 use Rattle.sets.proofs.Bits.{zeros, bitAt-zeros}
 use Rattle.sets.proofs.Counting.{count-le}
 use Rattle.sets.proofs.Selecting.{length-select}
 use Rattle.image.specs.Image.{handsetCount}
+use Rattle.image.specs.Answers.{refusal, given}
 use Rattle.image.specs.Questions.{Accepted, openOf, headerOf, refusalOf}
-use Rattle.image.specs.Rows.{Room, related, Reading}
 use Rattle.image.specs.declared.Header.{Header}
 use Rattle.image.specs.declared.Refusal.{Refusal}
 use Rattle.image.specs.declared.Opened.{Opened}
 use Rattle.image.specs.declared.Opened.the-variants as O
-use Rattle.image.proofs.Acceptance as A
 use Rattle.image.proofs.Acceptance.{opened, accepted-fits}
-use Rattle.image.proofs.Answers.{open-same}
-use Rattle.community.specs.Network.{isCore, isLeader, leaders, role, neighbourhoodSize, communityNumber, membershipCount, borderOf}
+use Rattle.community.specs.Network.{isCore, isLeader, leaders, role, neighbourhoodSize, communityNumber, membershipCount, borderOf, roleValues}
 use Rattle.community.specs.Tables.{startTable, memberTable}
 use Rattle.community.specs.Site.{network}
 use Rattle.community.specs.declared.Role.the-variants.{Core}
 use Rattle.community.specs.declared.Standing.{Standing}
 use Rattle.search.specs.Communities.{coreIn, Grouped}
-use Rattle.tables.specs.Plan.{byRoom, refusal, planned, planAnswer, over, rowsOf, roleFor, PlanWritten}
+use Rattle.tables.specs.Plan.{byRoom, planned, planAnswer, over, rowsOf, roleFor, PlanWritten}
 use Rattle.tables.specs.declared.Planned.{Planned}
 use Rattle.tables.specs.declared.Planned.the-variants as P
-use Rattle.planner.specs.Plan.{PlanCall, CoreWords, communitiesOf, planOf, planFor, startsAfter, membersAfter, tableFor, coreFor, knownOf, knownFor, standing}
+use Rattle.planner.specs.Plan.{PlanCall, CoreWords, communitiesOf, planOf, planFor, startsAfter, membersAfter, tableFor, coreFor, knownOf, knownFor, knownAnswer, standing}
+use Rattle.planner.specs.Held.{Ready, NeighboursRead}
 use Rattle.planner.specs.declared.Known.the-variants as K
 use Rattle.planner.proofs.Listing.{grouped-rows}
 
--- ---- the reader's answer
-
--- an accepted image, its header, and the rows of its edges with their sizes
-pub record Ready (s : List ℕ) (h : Header) (rows sizes : List ℕ) : Type 0 where
-  pub accepted : Accepted s
-  pub header : h ≡ headerOf s
-  pub room : Room rows sizes
-  pub table : Table rows (related s)
-  pub counted : Counted rows sizes
-
-pub ready-count : {s : List ℕ} {h : Header} {rows sizes : List ℕ} → Ready s h rows sizes → h .n ≡ handsetCount s
+-- ---- what is told of an image
+pub ready-count : {s : List ℕ} {h : Header} {short rows sizes : List ℕ} → Ready s h short rows sizes → h .n ≡ handsetCount s
 unfolding headerOf
 ready-count r = ap (λ (x : Header). x .n) (r .header)
 
-module _ {s : List ℕ} {a : Opened} {rows sizes : List ℕ} (r : Reading s a rows sizes) where
-  opened-is : a ≡ openOf s
-  opened-is = open-same a (openOf s) (r .answered)
-
-  pub ready : (h : Header) → a ≡ O.Site h → Ready s h rows sizes
-  ready h e =
-      let y = A.accepted s h (sym opened-is ∙ e) in
-      record { accepted = y .0; header = y .1; room = r .room; table = r .held .table h e; counted = r .held .counted h e }
-
-  pub reading-no : (x y : Refusal) → a ≡ O.Refused x → y ≡ refusalOf a → openOf s ≡ O.Refused y
-  reading-no x y e f = sym opened-is ∙ e ∙ ap O.Refused (sym (f ∙ ap refusalOf e))
+pub told-no : {s : List ℕ} {a : Opened} {short rows sizes : List ℕ} → NeighboursRead s a short rows sizes
+    → (x y : Refusal) → a ≡ O.Refused x → y ≡ refusalOf a → openOf s ≡ O.Refused y
+told-no r x y e f = sym (r .answered) ∙ e ∙ ap O.Refused (sym (f ∙ ap refusalOf e))
 
 -- ---- a refused image
 module _ (s : List ℕ) (r : Refusal) (e : openOf s ≡ O.Refused r) where
@@ -146,10 +128,10 @@ module _ (s : List ℕ) (ok : Accepted s) where
   role-found c f v h =
       ap₂ (λ (b : Bool) (gs : List (List ℕ)). cond b (Core (communityNumber v gs)) (borderOf (membershipCount v gs))) (core-bit c v h) (rows-are f)
 
-  pub known-found : (v : ℕ) → v < handsetCount s → (x : Standing) → x .neighbours ≡ neighbourhoodSize (network s) v → x .role ≡ role (network s) v
-      → K.Handset x ≡ knownOf s v
+  pub known-found : (v : ℕ) → v < handsetCount s → (x : Standing) → x .neighbours ≡ neighbourhoodSize (network s) v
+      → roleValues (x .role) ≡ roleValues (role (network s) v) → knownAnswer (K.Handset x) ≡ knownAnswer (knownOf s v)
   unfolding knownOf standing headerOf
   known-found v h x p q =
-      (λ i. K.Handset (record { neighbours = p i; role = q i }))
-      ∙ sym (ap (λ (o : Opened). knownFor s o v) (opened s ok)
-      ∙ ap (λ (b : Bool). cond b (K.Handset (standing s v)) (K.Refused (refusal 13))) (T-true (ltb v (handsetCount s)) (lt→ltb v (handsetCount s) h)))
+      ap₂ (λ (n : ℕ) (vs : List ℕ). given (n ∷ vs)) p q
+      ∙ ap knownAnswer (sym (ap (λ (o : Opened). knownFor s o v) (opened s ok)
+      ∙ ap (λ (b : Bool). cond b (K.Handset (standing s v)) (K.Refused (refusal 13))) (T-true (ltb v (handsetCount s)) (lt→ltb v (handsetCount s) h))))

@@ -7,6 +7,7 @@
 --     neighbour-size, neighbour-common       the counts of the neighbour table are those of the network; enough-is: and the test by them is the definition's
 --     cores-set                    the cores by the sizes of the similarity table
 --     edges-ready, short-ready, dissimilar-ready     the edges of the part and of the two sets stand there, and their ends are handsets
+--     told-yes, read-no, read-yes     what the reader tells, and so what is told and left of an image
 --     neighbours-kept, surveyed          the two steps that drop edges; neighbour-sizes: the sizes after the first
 use Prim.Native.Nat.{ℕ, _+_, _*_, _-_, _/_, _≤_, _<_, min}
 use native.Mathlib.Omega.{arith}
@@ -25,10 +26,15 @@ use Rattle.sets.proofs.Tests.{and-make, and-left, and-right, or-left, or-right,
 use Rattle.sets.proofs.Counting.{bit-false, count-cong, count-sum, count-wide, count-at, sum-cong}
 use Rattle.fields.specs.Fields.{coreSize, handsetBytes, edgeBytes}
 use Rattle.image.specs.Image.{handsetCount, edgeCount, imageLength, limitSquared, epsilonNum, epsilonDen, muField, mu, handsetRecords, edgeRecords, endA, endB, joins, adjacent, within, neighbour}
-use Rattle.image.specs.Questions.{Accepted, headerOf, isLoop}
-use Rattle.image.specs.Rows.{related}
+use Rattle.image.specs.Questions.{Accepted, headerOf, openOf, isLoop}
+use Rattle.image.specs.Answers.{openAnswer}
+use Rattle.image.specs.Rows.{Room, related, Reading}
 use Rattle.image.specs.declared.Header.{Header}
-use Rattle.image.proofs.Acceptance.{Fits, Checked, checked-fits, ends-below}
+use Rattle.image.specs.declared.Refusal.{Refusal}
+use Rattle.image.specs.declared.Opened.{Opened}
+use Rattle.image.specs.declared.Opened.the-variants as O
+use Rattle.image.proofs.Acceptance.{Fits, accepted-fits, accepted, ends-below}
+use Rattle.image.proofs.Answers.{given-refused, open-same}
 use Rattle.image.proofs.Edges.{joins-cases, joins-one}
 use Rattle.image.proofs.Records.{part-is, within-records}
 use Rattle.image.proofs.Rows.{table-cong}
@@ -37,13 +43,13 @@ use Rattle.community.specs.Site.{network}
 use Rattle.community.proofs.Similarity.{similar-sym, similar-self}
 use Rattle.community.proofs.Site.{adjacent-comm, neighbour-comm, neighbour-self, accepted-sound}
 use Rattle.search.specs.Communities.{both, similarIn, coreIn, Surveyed}
-use Rattle.planner.specs.Held.{HasEnds, EdgeSet, isShort, Dropped, enough, neighbourIn, NeighboursKept}
+use Rattle.planner.specs.Held.{HasEnds, EdgeSet, isShort, Dropped, enough, neighbourIn, Ready, NeighboursRead}
 use Rattle.planner.proofs.Words.{set-passes, passes-set}
 use Rattle.planner.proofs.Edges.{dropped-cong}
 
 -- the second half of similarity: enough common neighbours for the two sizes
 abbrev pub meets : Network → ℕ → ℕ → Bool
-meets g u v = meetsEpsilon g (commonNeighbours g u v) (neighbourhoodSize g u) (neighbourhoodSize g v)
+meets g u v = meetsEpsilon (g .p) (g .q) (commonNeighbours g u v) (neighbourhoodSize g u) (neighbourhoodSize g v)
 
 -- a symmetric relation that holds of each handset with itself, and else only along edges
 pub record Along (s : List ℕ) (R : ℕ → ℕ → Bool) : Type 0 where
@@ -120,7 +126,7 @@ module _ (s : List ℕ) (ok : Accepted s) where
   similar-along = record {
     symmetric = similar-sym (accepted-sound s ok);
     self = λ u. similar-self (accepted-sound s ok) u (neighbour-self s u);
-    only = λ u v t. neighbour-only u v (and-left (neighbour s u v) (meetsEpsilon (network s) (commonNeighbours (network s) u v) (neighbourhoodSize (network s) u) (neighbourhoodSize (network s) v)) t);
+    only = λ u v t. neighbour-only u v (and-left (neighbour s u v) (meetsEpsilon (network s .p) (network s .q) (commonNeighbours (network s) u v) (neighbourhoodSize (network s) u) (neighbourhoodSize (network s) v)) t);
   }
 
   -- the ends of an edge are neighbours exactly when they are within gamma
@@ -218,10 +224,7 @@ pub record Read (s : List ℕ) (h : Header) : Type 0 where
   pub length-of : h .len ≡ length s
   pub fits : Fits h
 
-pub checked-of : {s : List ℕ} → Accepted s → Checked s
-checked-of ok = record { q1 = ok .q1; q2 = ok .q2; q3 = ok .q3; q4 = ok .q4; q5 = ok .q5; q6 = ok .q6 }
-
-pub header-is : (s : List ℕ) (h : Header) → Checked s → h ≡ headerOf s → Read s h
+pub header-is : (s : List ℕ) (h : Header) → Accepted s → h ≡ headerOf s → Read s h
 unfolding headerOf
 header-is s h ok e = record {
   n-is = ap (λ (x : Header). x .n) e;
@@ -231,7 +234,7 @@ header-is s h ok e = record {
   q-is = ap (λ (x : Header). x .q) e;
   mu-is = ap (λ (x : Header). x .mu) e;
   length-of = ap (λ (x : Header). x .len) e ∙ eqb→eq (imageLength s) (length s) (ok .q2);
-  fits = subst Fits (sym e) (checked-fits s ok);
+  fits = subst Fits (sym e) (accepted-fits s ok);
 }
 
 pub core-size-is : (s : List ℕ) (r m : ℕ) → r ≡ coreSize m → m ≡ muField s → r ≡ mu s
@@ -343,10 +346,28 @@ module _ (g : Network) (small : g .n ≤ 512) where
         (decide (ltb u (g .n))));
   }
 
+-- ---- what is told and left of an image
+module _ {s : List ℕ} {a : Opened} {rows sizes : List ℕ} (r : Reading s a rows sizes) where
+  opened-is : a ≡ openOf s
+  opened-is = open-same a (openOf s) (r .answered)
+
+  pub told-yes : (h : Header) → a ≡ O.Site h → Accepted s × (h ≡ headerOf s)
+  told-yes h e = accepted s h (sym opened-is ∙ e)
+
+  pub read-no : {short : List ℕ} (x : Refusal) → a ≡ O.Refused x → NeighboursRead s a short rows sizes
+  read-no x e = record { answered = opened-is; room = r .room; ready = λ h d. given-refused _ _ x (ap openAnswer (sym d ∙ e)) }
+
+  pub read-yes : {short ws sizes′ : List ℕ} (h : Header) → a ≡ O.Site h → Room ws sizes′ → Ready s h short ws sizes′ → NeighboursRead s (O.Site h) short ws sizes′
+  read-yes {short} {ws} {sizes′} h e room k = record {
+    answered = sym e ∙ opened-is;
+    room = room;
+    ready = λ g d. subst (λ (x : Header). Ready s x short ws sizes′) (k .header ∙ sym (told-yes g (e ∙ d) .1)) k;
+  }
+
 -- ---- the two steps
 module _ (s : List ℕ) (h : Header) (ok : Accepted s) (e : h ≡ headerOf s) where
   read : Read s h
-  read = header-is s h (checked-of ok) e
+  read = header-is s h ok e
 
   small : network s .n ≤ 512
   small = omega (arith, read .n-is, read .fits .n-limit)
@@ -374,8 +395,10 @@ module _ (s : List ℕ) (h : Header) (ok : Accepted s) (e : h ≡ headerOf s) wh
   pub neighbours-kept : {short ws after sizes : List ℕ} → Table ws (related s)
       → EdgeSet short (λ k. ltb k (h .m) && isShort (handsetPart s h) (edgePart s h) (h .limit) k)
       → Dropped (edgePart s h) (λ k. ltb k (h .m) && not (isShort (handsetPart s h) (edgePart s h) (h .limit) k)) ws after
-      → Counted after sizes → NeighboursKept s short after sizes
+      → Counted after sizes → Ready s h short after sizes
   neighbours-kept {short} {ws} {after} t set d c = record {
+    accepted = ok;
+    header = e;
     short-set = record { size = set .size; bits = λ k l. set .bits k l ∙ ap bit (passed-is k _ _ (short-is-within k)) };
     table =
         neighbour-table s ok t
@@ -386,7 +409,7 @@ module _ (s : List ℕ) (h : Header) (ok : Accepted s) (e : h ≡ headerOf s) wh
     counted = c;
   }
 
-  module _ {short ws sizes : List ℕ} (kept : NeighboursKept s short ws sizes) where
+  module _ {short ws sizes : List ℕ} (kept : Ready s h short ws sizes) where
     -- the sizes are those of the neighbourhoods
     pub neighbour-sizes : (u : ℕ) → u < network s .n → getD sizes u 0 ≡ neighbourhoodSize (network s) u
     neighbour-sizes u l = kept .counted .rows u (omega (arith, l, small)) ∙ neighbour-size (network s) small u (kept .table) l

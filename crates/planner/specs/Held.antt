@@ -8,7 +8,8 @@
 --     Dropped edges f a b      the table b is the table a without the edges that pass f
 --     enough ..                the test for similarity by a table and its sizes
 --     neighbourIn              the neighbour relation among the handsets of a network
---     NeighboursKept s ..      what dropping the edges that are too long leaves of an image's tables
+--     Ready s h ..             an accepted image, its header, its neighbour table with the sizes, and the set of the edges that are not too long
+--     NeighboursRead s a ..    what is told of an image, and left of an accepted one
 use Prim.Native.Nat.{ℕ, _+_, _*_, _-_, _≤_, _<_, min}
 use mathlib.Core.Path.{_≡_}
 use mathlib.Core.Bool.{Bool, _&&_}
@@ -20,7 +21,12 @@ use Rattle.sets.specs.Bits.{bitOf, bitAt, cell}
 use Rattle.sets.specs.Rows.{Table, Counted}
 use Rattle.fields.specs.Fields.{edgeBytes}
 use Rattle.image.specs.Image.{edgeCount, edgeRecords, endA, endB, joins, handsetRecord, distanceBetween, within}
-use Rattle.community.specs.Network.{Network}
+use Rattle.image.specs.Questions.{Accepted, headerOf, openOf}
+use Rattle.image.specs.Rows.{Room}
+use Rattle.image.specs.declared.Header.{Header}
+use Rattle.image.specs.declared.Opened.{Opened}
+use Rattle.image.specs.declared.Opened.the-variants.{Site}
+use Rattle.community.specs.Network.{Network, meetsEpsilon}
 use Rattle.community.specs.Site.{network}
 use Rattle.search.specs.Communities.{both}
 
@@ -45,17 +51,21 @@ pub record Dropped (edges : List ℕ) (f : ℕ → Bool) (before after : List �
   pub out : (u v k : ℕ) → u < 512 → v < 512 → T (f k) → T (joins edges u v k) → cell after u v ≡ 0
   pub kept : (u v : ℕ) → u < 512 → v < 512 → ((k : ℕ) → T (f k) → T (joins edges u v k) → ⊥) → cell after u v ≡ cell before u v
 
--- c / √(a b) ≥ p / q for the marks c that rows u and v have in common and their sizes a and b
+-- of the marks that rows u and v have in common, and of their sizes
 abbrev pub enough : List ℕ → List ℕ → ℕ → ℕ → ℕ → ℕ → Bool
-enough ws sizes p q u v =
-    leb (p * p * (getD sizes u 0 * getD sizes v 0))
-    (sum 512 (λ w. min (cell ws u w) (cell ws v w)) * sum 512 (λ w. min (cell ws u w) (cell ws v w)) * (q * q))
+enough ws sizes p q u v = meetsEpsilon p q (sum 512 (λ w. min (cell ws u w) (cell ws v w))) (getD sizes u 0) (getD sizes v 0)
 
 unfoldable pub neighbourIn : Network → ℕ → ℕ → Bool
 neighbourIn g u v = both g u v && g .neighbour u v
 
--- the neighbour table of an accepted image with its sizes, and the set of the edges that are not too long
-pub record NeighboursKept (s short ws sizes : List ℕ) : Type 0 where
+pub record Ready (s : List ℕ) (h : Header) (short ws sizes : List ℕ) : Type 0 where
+  pub accepted : Accepted s
+  pub header : h ≡ headerOf s
   pub short-set : EdgeSet short (λ k. ltb k (edgeCount s) && within s (endA (edgeRecords s) k) (endB (edgeRecords s) k))
   pub table : Table ws (neighbourIn (network s))
   pub counted : Counted ws sizes
+
+pub record NeighboursRead (s : List ℕ) (answer : Opened) (short ws sizes : List ℕ) : Type 0 where
+  pub answered : answer ≡ openOf s
+  pub room : Room ws sizes
+  pub ready : (h : Header) → answer ≡ Site h → Ready s h short ws sizes

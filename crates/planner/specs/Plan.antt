@@ -7,27 +7,24 @@
 --     PlanCall              the outcome of a call for a plan: its answer and both tables
 --     CoreWords s ws        the set of cores that comes with a plan's answer
 --     knownOf s v           the role call's answer: the image's refusal, 13, or the near count and the role
---     knownAnswer k         its number, place and values: the near count, the role's kind (0 core, 1 border, 2 outlier), and the core's group number or the border's count of groups, 0 for an outlier
+--     knownAnswer k         its number, place and values: the near count and the role's values
 --     OneAnswer             the theorem: the number, place and values leave nothing of the role call's answer free (proved in proofs/Answers)
-use Prim.Native.Nat.{ℕ, _<_}
+use Prim.Native.Nat.{ℕ}
 use mathlib.Core.Path.{_≡_}
 use mathlib.Core.Bool.{Bool, false, _&&_, cond}
-use mathlib.Core.List.{List, [], _∷_}
+use mathlib.Core.List.{List, _∷_}
 use lib.Dec.{ltb}
 use lib.ListN.{length}
-use Rattle.sets.specs.Below.{bit}
-use Rattle.sets.specs.Bits.{bitAt}
-use Rattle.image.specs.Answers.{Answer, refused, given, Injective}
+use Rattle.sets.specs.Rows.{SetOf}
+use Rattle.image.specs.Answers.{Answer, refused, refusal, given, Injective}
 use Rattle.image.specs.Questions.{openOf}
 use Rattle.image.specs.declared.Opened.{Opened}
 use Rattle.image.specs.declared.Opened.the-variants as O
-use Rattle.community.specs.Network.{neighbourhoodSize, isCore, communities, role}
+use Rattle.community.specs.Network.{neighbourhoodSize, isCore, communities, role, roleValues}
 use Rattle.community.specs.Tables.{startTable, memberTable}
 use Rattle.community.specs.Site.{network}
-use Rattle.community.specs.declared.Role.{Role}
-use Rattle.community.specs.declared.Role.the-variants.{Core, Border, Outlier}
 use Rattle.community.specs.declared.Standing.{Standing}
-use Rattle.tables.specs.Plan.{byRoom, refusal, planned, planAnswer, over}
+use Rattle.tables.specs.Plan.{byRoom, planned, planAnswer, over}
 use Rattle.tables.specs.declared.Planned.{Planned}
 use Rattle.tables.specs.declared.Planned.the-variants as P
 use Rattle.planner.specs.declared.Known.{Known}
@@ -65,9 +62,8 @@ abbrev pub coreFor : List ℕ → Opened → ℕ → Bool
 coreFor s (O.Site h) v = ltb v (h .n) && isCore (network s) v
 coreFor s (O.Refused r) v = false
 
-pub record CoreWords (s ws : List ℕ) : Type 0 where
-  pub size : length ws ≡ 8
-  pub bits : (v : ℕ) → v < 512 → bitAt ws v ≡ bit (coreFor s (openOf s) v)
+abbrev pub CoreWords : List ℕ → List ℕ → Type 0
+CoreWords s ws = SetOf ws (coreFor s (openOf s))
 
 -- the near count and the role of a handset
 unfoldable pub standing : List ℕ → ℕ → Standing
@@ -79,11 +75,6 @@ knownFor s (O.Refused r) v = K.Refused r
 
 unfoldable pub knownOf : List ℕ → ℕ → Known
 knownOf s v = knownFor s (openOf s) v
-
-abbrev pub roleValues : Role → List ℕ
-roleValues (Core k) = 0 ∷ k ∷ []
-roleValues (Border k) = 1 ∷ k ∷ []
-roleValues Outlier = 2 ∷ 0 ∷ []
 
 abbrev pub knownAnswer : Known → Answer
 knownAnswer (K.Handset x) = given (x .neighbours ∷ roleValues (x .role))

@@ -1,4 +1,4 @@
-// The network of a site: the size of each neighbourhood, who is similar to whom, and who is a core. A table has a row of eight words for each handset,
+// The network of a site: the size of each neighbourhood, who is similar to whom, who is a core, and so which are its communities. A table has a row of eight words for each handset,
 // one bit a handset, and the size of each row stands beside it; only the edges are gone through, never the pairs of handsets.
 //
 // The reader leaves every edge in the table. First the edges that are too long are dropped, and then those whose ends are not similar: each time a word
@@ -10,16 +10,17 @@ ghost use lib.Dec.{T, leb, ltb, eqb};
 ghost use lib.ListN.{length, getD, replicate};
 ghost use Rattle.sets.specs.Below.{sum};
 ghost use Rattle.sets.specs.Bits.{bitOf, bitAt, cell, withoutBit};
-ghost use Rattle.sets.specs.Rows.{WordOf, SetOf, Table, Counted};
+ghost use Rattle.sets.specs.Rows.{WordOf, SetOf, Counted};
 ghost use Rattle.fields.specs.Fields.{handsetBytes, edgeBytes};
-ghost use Rattle.image.specs.Image.{endA, endB, handsetRecord, distanceBetween};
-ghost use Rattle.image.specs.Questions.{Accepted, headerOf};
-ghost use Rattle.image.specs.Rows.{Room, related};
+ghost use Rattle.image.specs.Image.{endA, endB};
+ghost use Rattle.image.specs.Rows.{Room};
+ghost use Rattle.community.specs.Network.{meetsEpsilon};
 ghost use Rattle.community.specs.Site.{network};
-ghost use Rattle.search.specs.Communities.{Surveyed};
-ghost use Rattle.planner.specs.Held.{HasEnds, inWord, EdgeSet, isShort, Dropped, enough, NeighboursKept};
+ghost use Rattle.search.specs.Communities.{coreIn, Grouped};
+ghost use Rattle.planner.specs.Held.{HasEnds, inWord, EdgeSet, isShort, Dropped, enough, Ready, NeighboursRead};
 use fields::Ends;
 use image::Header;
+use image::Opened;
 
 // Takes v out of row u, if it is in it.
 fn take_out(table: &mut [u64], sizes: &mut [u32], u: usize, v: usize)
@@ -44,11 +45,12 @@ fn ends_at(edges: &[u8], k: usize) -> Ends
     fields::read_ends(&edges[at..past])
 }
 
-// Whether the ends of an edge are no farther apart than the root of the limit.
-fn is_short(handsets: &[u8], e: Ends, limit: u64) -> bool
-    requires { ⌜ (e .a < 512) × (e .b < 512) × (handsetBytes * e .a + handsetBytes ≤ length (now handsets)) × (handsetBytes * e .b + handsetBytes ≤ length (now handsets)) ⌝ }
-    ensures { λ r. ⌜ r ≡ leb (distanceBetween (handsetRecord (now (handsets .entry)) (e .a)) (handsetRecord (now (handsets .entry)) (e .b))) limit ⌝ }
+// Whether the ends of edge k are no farther apart than the root of the limit.
+fn is_short<'a>(handsets: &'a [u8], edges: &'a [u8], k: usize, limit: u64) -> bool
+    requires { ⌜ (length (now handsets) ≤ handsetBytes * 512) × (HasEnds (now edges) (length (now handsets) / handsetBytes) k) ⌝ }
+    ensures { λ r. ⌜ r ≡ isShort (now (handsets .entry)) (now (edges .entry)) limit k ⌝ }
 {
+    let e = ends_at(edges, k);
     let a = fields::HANDSET_BYTES * e.a;
     let a_past = a + fields::HANDSET_BYTES;
     let b = fields::HANDSET_BYTES * e.b;
@@ -64,8 +66,7 @@ fn short_word<'a>(handsets: &'a [u8], edges: &'a [u8], base: usize, count: usize
     let mut word: u64 = 0;
     let mut k: usize = 0;
     while k < count {
-        let e = ends_at(edges, base + k);
-        let one = if is_short(handsets, e, limit) {
+        let one = if is_short(handsets, edges, base + k, limit) {
             1u64
         } else {
             0u64
@@ -92,7 +93,7 @@ fn drop_edges(edges: &[u8], word: u64, base: usize, table: &mut [u64], sizes: &m
     }
 }
 
-// Drops those of the first m edges that are too long. The empty set `near` gets the others.
+// Drops those of the first m edges that are too long. The empty set `short` gets the others.
 fn drop_long<'a>(
     handsets: &'a [u8],
     edges: &'a [u8],
@@ -135,7 +136,7 @@ fn common(table: &[u64], u: usize, v: usize) -> u32
 // Whether c common neighbours of a and b are enough: c / √(a b) ≥ p / q, in whole numbers.
 fn meets_epsilon(c: u64, a: u64, b: u64, p: u64, q: u64) -> bool
     requires { ⌜ (c ≤ 512) × (a ≤ 512) × (b ≤ 512) × (p ≤ 1000) × (q ≤ 1000) ⌝ }
-    ensures { λ r. ⌜ r ≡ leb (p * p * (a * b)) (c * c * (q * q)) ⌝ }
+    ensures { λ r. ⌜ r ≡ meetsEpsilon p q c a b ⌝ }
 {
     p * p * (a * b) <= c * c * (q * q)
 }
@@ -224,18 +225,21 @@ fn mark_cores(sizes: &[u32], n: usize, mu: u32, cores: &mut [u64])
     }
 }
 
-// Drops the edges that are too long from the table of all edges of an accepted site, which leaves its neighbour relation. The empty set `near` gets the
-// other edges.
-pub(crate) fn keep_neighbours(
+// Puts questions 1 to 10 to an image. Of an accepted one the two tables get the neighbour relation and the sizes of the neighbourhoods: the edges that are too
+// long are dropped from the table of all edges. The empty set `short` gets the other edges.
+pub(crate) fn open_neighbours(
     image: &[u8],
-    h: Header,
     short: &mut [u64],
-    table: &mut [u64],
-    sizes: &mut [u32],
-)
-    requires { ⌜ (Accepted (now image)) × (h ≡ headerOf (now image)) × (now short ≡ replicate 64 0) × (Room (now table) (now sizes)) × (Table (now table) (related (now image))) × (Counted (now table) (now sizes)) ⌝ }
-    ensures { λ _. ⌜ NeighboursKept (now (image .entry)) (now (short .exit)) (now (table .exit)) (now (sizes .exit)) ⌝ }
+    table: &mut [u64; 4096],
+    sizes: &mut [u32; 512],
+) -> Opened
+    requires { ⌜ now short ≡ replicate 64 0 ⌝ }
+    ensures { λ r. ⌜ NeighboursRead (now (image .entry)) r (now (short .exit)) (now (table .exit)) (now (sizes .exit)) ⌝ }
 {
+    let opened = image::open_rows(image, table, sizes);
+    let Opened::Site(h) = opened else {
+        return opened;
+    };
     let m = h.m as usize;
     let a = h.edges as usize;
     let b = a + fields::EDGE_BYTES * m;
@@ -250,20 +254,21 @@ pub(crate) fn keep_neighbours(
         table,
         sizes,
     );
+    opened
 }
 
-// Drops the edges whose ends are not similar from the neighbour table of an accepted site, which leaves its similarity relation, and marks the cores in
-// the empty set `cores`. Of the set of near edges it keeps those that it drops.
-pub(crate) fn keep_similar(
+// Makes the neighbour table of an accepted site its communities, as the first rows, and gives their count; the empty set `cores` gets the cores. On the way the
+// edges whose ends are not similar are dropped, which leaves the similarity relation; of the set of short edges it keeps those that it drops.
+pub(crate) fn find_communities(
     image: &[u8],
     h: Header,
     short: &mut [u64],
     table: &mut [u64],
     sizes: &mut [u32],
     cores: &mut [u64],
-)
-    requires { ⌜ (Accepted (now image)) × (h ≡ headerOf (now image)) × (Room (now table) (now sizes)) × (NeighboursKept (now image) (now short) (now table) (now sizes)) × (now cores ≡ replicate 8 0) ⌝ }
-    ensures { λ _. ⌜ Surveyed (network (now (image .entry))) (now (table .exit)) (now (cores .exit)) ⌝ }
+) -> usize
+    requires { ⌜ (Ready (now image) h (now short) (now table) (now sizes)) × (Room (now table) (now sizes)) × (now cores ≡ replicate 8 0) ⌝ }
+    ensures { λ r. ⌜ (SetOf (now (cores .exit)) (coreIn (network (now (image .entry))))) × (Grouped (network (now (image .entry))) (now (table .exit)) r) ⌝ }
 {
     let m = h.m as usize;
     let a = h.edges as usize;
@@ -272,4 +277,5 @@ pub(crate) fn keep_similar(
     keep_dissimilar(edges, table, sizes, m, h.p, h.q, short);
     drop_set(edges, short, m, table, sizes);
     mark_cores(sizes, h.n as usize, fields::core_size(h.mu) as u32, cores);
+    search::find_communities(table, cores)
 }

@@ -1,21 +1,13 @@
 // The planner: the communities of a site, written into two lent tables, and the role of each handset.
 //
-// The reader leaves every edge behind as rows of bits; `graph` goes on from there to the neighbour relation, the similarity relation and the cores, crate
-// `search` finds the communities, and crate `tables` counts and writes them. The calls work everything out on the stack, and write only when nothing is
-// left to refuse.
+// The reader leaves every edge behind as rows of bits; `graph` goes on from there to the neighbour relation, the similarity relation and the cores, of which
+// crate `search` finds the communities, and crate `tables` counts and writes them. The calls work everything out on the stack, and write only when nothing
+// is left to refuse.
 mod graph;
 
 ghost use mathlib.Core.Path.{_≡_};
-ghost use lib.ListN.{replicate};
-ghost use Rattle.sets.specs.Rows.{SetOf};
-ghost use Rattle.image.specs.Questions.{Accepted, headerOf};
-ghost use Rattle.image.specs.Rows.{Room};
-ghost use Rattle.community.specs.Site.{network};
-ghost use Rattle.search.specs.Communities.{coreIn, Grouped};
-ghost use Rattle.planner.specs.Held.{NeighboursKept};
 ghost use Rattle.planner.specs.Plan.{PlanCall, CoreWords, knownAnswer, knownOf};
 use community::Standing;
-use image::Header;
 use image::Opened;
 use image::Refusal;
 use tables::Planned;
@@ -32,39 +24,22 @@ pub enum Known {
     Refused(Refusal),
 }
 
-// Makes the neighbour table of an accepted site its communities, as the first rows, and gives their count; the empty set `cores` gets the cores.
-fn find_groups(
-    image: &[u8],
-    h: Header,
-    short: &mut [u64],
-    table: &mut [u64],
-    sizes: &mut [u32],
-    cores: &mut [u64],
-) -> usize
-    requires { ⌜ (Accepted (now image)) × (h ≡ headerOf (now image)) × (Room (now table) (now sizes)) × (NeighboursKept (now image) (now short) (now table) (now sizes)) × (now cores ≡ replicate 8 0) ⌝ }
-    ensures { λ r. ⌜ (SetOf (now (cores .exit)) (coreIn (network (now (image .entry))))) × (Grouped (network (now (image .entry))) (now (table .exit)) r) ⌝ }
-{
-    graph::keep_similar(image, h, short, table, sizes, cores);
-    search::find_communities(table, cores)
-}
-
 // The plan of an image in both tables, and the set of its cores. A refusal writes nothing.
 pub fn plan_and_cores(image: &[u8], starts: &mut [u32], members: &mut [u16]) -> Outcome
     ensures { λ r. ⌜ (PlanCall (now (image .entry)) (now (starts .entry)) (now (members .entry)) (r .answer) (now (starts .exit)) (now (members .exit))) × (CoreWords (now (image .entry)) (r .cores)) ⌝ }
 {
     let mut table = [0u64; 4096];
     let mut sizes = [0u32; 512];
+    let mut short = [0u64; 64];
     let mut cores = [0u64; 8];
-    let opened = image::open_rows(image, &mut table, &mut sizes);
+    let opened = graph::open_neighbours(image, &mut short, &mut table, &mut sizes);
     let Opened::Site(h) = opened else {
         return Outcome {
             answer: Planned::Refused(image::refusal_of(opened)),
             cores,
         };
     };
-    let mut short = [0u64; 64];
-    graph::keep_neighbours(image, h, &mut short, &mut table, &mut sizes);
-    let count = find_groups(image, h, &mut short, &mut table, &mut sizes, &mut cores);
+    let count = graph::find_communities(image, h, &mut short, &mut table, &mut sizes, &mut cores);
     let answer = tables::write_plan(&table, count, starts, members);
     Outcome { answer, cores }
 }
@@ -83,8 +58,8 @@ pub fn role(image: &[u8], v: usize) -> Known
 {
     let mut table = [0u64; 4096];
     let mut sizes = [0u32; 512];
-    let mut cores = [0u64; 8];
-    let opened = image::open_rows(image, &mut table, &mut sizes);
+    let mut short = [0u64; 64];
+    let opened = graph::open_neighbours(image, &mut short, &mut table, &mut sizes);
     let Opened::Site(h) = opened else {
         return Known::Refused(image::refusal_of(opened));
     };
@@ -94,10 +69,9 @@ pub fn role(image: &[u8], v: usize) -> Known
             place: 0,
         });
     }
-    let mut short = [0u64; 64];
-    graph::keep_neighbours(image, h, &mut short, &mut table, &mut sizes);
     let neighbours = sizes[v];
-    let count = find_groups(image, h, &mut short, &mut table, &mut sizes, &mut cores);
+    let mut cores = [0u64; 8];
+    let count = graph::find_communities(image, h, &mut short, &mut table, &mut sizes, &mut cores);
     let role = tables::role_in(&cores, &table, count, v);
     Known::Handset(Standing { neighbours, role })
 }

@@ -14,14 +14,14 @@ use lib.ListN.{length, getD, drop}
 use borrow.Author.Tests.{leb-true, le-leb, lt-ltb, le-ltb}
 use Rattle.sets.proofs.Writing.{sets-front}
 use Rattle.image.specs.Questions.{openOf}
-use Rattle.image.specs.Answers.{Answer}
+use Rattle.image.specs.Answers.{Answer, refusal}
 use Rattle.image.specs.declared.Header.{Header}
 use Rattle.image.specs.declared.Refusal.{Refusal}
 use Rattle.image.specs.declared.Opened.{Opened}
 use Rattle.image.specs.declared.Opened.the-variants as O
 use Rattle.image.proofs.Answers.{given-refused, refused-same}
 use Rattle.text.specs.Text.{Wrote}
-use Rattle.reporting.specs.Report.{reportText, writtenOf, writtenIn, reportFor, reportOf, afterFor, textAfter, refusedText, refusal15, refusal16, printed, programText, reportAnswer, ReportCall, OneAnswer}
+use Rattle.reporting.specs.Report.{reportText, writtenOf, writtenIn, reportFor, reportOf, afterFor, textAfter, refusedText, printed, programText, reportAnswer, ReportCall, OneAnswer}
 use Rattle.reporting.specs.Held.{Filled}
 use Rattle.reporting.specs.declared.Reported.{Reported}
 use Rattle.reporting.specs.declared.Reported.the-variants as R
@@ -54,7 +54,7 @@ written-fits : (t l : List ℕ) (k : ℕ) → R.Written k ≡ writtenOf t (lengt
 unfolding writtenOf
 written-fits t l k q = go (leb (length t) (length l)) refl q
   where
-    go : (b : Bool) → leb (length t) (length l) ≡ b → R.Written k ≡ cond b (R.Written (length t)) (R.Refused refusal16) → (k ≡ length t) × (length t ≤ length l)
+    go : (b : Bool) → leb (length t) (length l) ≡ b → R.Written k ≡ cond b (R.Written (length t)) (R.Refused (refusal 16)) → (k ≡ length t) × (length t ≤ length l)
     go true e q = (cc, leb-true (length t) (length l) e)
     go false e q = let z : _≡_ {A = ℕ} 0 1 = cc in absurd (omega arith)
 
@@ -63,7 +63,7 @@ refused-keeps : (t l : List ℕ) (r : Refusal) → R.Refused r ≡ writtenOf t (
 unfolding writtenOf writtenIn
 refused-keeps t l r q = go (leb (length t) (length l)) refl q
   where
-    go : (b : Bool) → leb (length t) (length l) ≡ b → R.Refused r ≡ cond b (R.Written (length t)) (R.Refused refusal16) → cond (leb (length t) (length l)) (t ++ drop (length t) l) l ≡ l
+    go : (b : Bool) → leb (length t) (length l) ≡ b → R.Refused r ≡ cond b (R.Written (length t)) (R.Refused (refusal 16)) → cond (leb (length t) (length l)) (t ++ drop (length t) l) l ≡ l
     go true e q = let z : _≡_ {A = ℕ} 0 1 = cc in absurd (omega arith)
     go false e q = rw e
 
@@ -71,7 +71,7 @@ in-front : (t l : List ℕ) → length t ≤ length l → writtenIn t l ≡ t ++
 unfolding writtenIn
 in-front t l h = simp (le-leb _ _ h)
 
-pub program-long : (s : List ℕ) (room : ℕ) → 65536 < length s → programText s room ≡ refusedText refusal15
+pub program-long : (s : List ℕ) (room : ℕ) → 65536 < length s → programText s room ≡ refusedText (refusal 15)
 unfolding programText
 program-long s room h = simp (lt-ltb _ _ h)
 

@@ -16,11 +16,11 @@ use mathlib.Core.Path.{_≡_}
 use mathlib.Core.Bool.{Bool, true, false, cond}
 use mathlib.Core.List.{List, [], _∷_, _++_}
 use lib.Dec.{leb, ltb}
-use lib.ListN.{length, getD, drop}
+use lib.ListN.{length, getD}
 use Rattle.sets.specs.Below.{select}
 use Rattle.image.specs.Image.{handsetCount, edgeCount}
 use Rattle.image.specs.Questions.{openOf}
-use Rattle.image.specs.Answers.{Answer, refused, given, Injective}
+use Rattle.image.specs.Answers.{Answer, refused, refusal, given, Injective}
 use Rattle.image.specs.declared.Refusal.{Refusal}
 use Rattle.image.specs.declared.Opened.{Opened}
 use Rattle.image.specs.declared.Opened.the-variants as O
@@ -29,6 +29,7 @@ use Rattle.community.specs.Tables.{memberTable}
 use Rattle.community.specs.Site.{network}
 use Rattle.community.specs.declared.Role.{Role}
 use Rattle.community.specs.declared.Role.the-variants.{Core, Border, Outlier}
+use Rattle.tables.specs.Plan.{over}
 use Rattle.scores.specs.declared.Score.{Score}
 use Rattle.scores.specs.declared.Score.the-variants.{Ratio, Nothing}
 use Rattle.scores.specs.declared.Scores.{Scores}
@@ -135,16 +136,13 @@ reportText s = reportWith s (communities (network s))
 
 -- ---- the call's answer
 
-abbrev pub refusal16 : Refusal
-refusal16 = record { number = 16; place = 0 }
-
 -- for a text and a buffer of room bytes
 unfoldable pub writtenOf : List ℕ → ℕ → Reported
-writtenOf t room = cond (leb (length t) room) (R.Written (length t)) (R.Refused refusal16)
+writtenOf t room = cond (leb (length t) room) (R.Written (length t)) (R.Refused (refusal 16))
 
 -- a buffer that begins with the text and past it holds what it held; as before where the text does not fit
 unfoldable pub writtenIn : List ℕ → List ℕ → List ℕ
-writtenIn t buffer = cond (leb (length t) (length buffer)) (t ++ drop (length t) buffer) buffer
+writtenIn t buffer = cond (leb (length t) (length buffer)) (over t buffer) buffer
 
 abbrev pub reportFor : List ℕ → Opened → ℕ → Reported
 reportFor s (O.Site h) room = writtenOf (reportText s) room
@@ -176,16 +174,13 @@ pub record ReportCall (s l : List ℕ) (r : Reported) (l′ : List ℕ) : Type 0
 unfoldable pub refusedText : Refusal → List ℕ
 refusedText r = refusedWord ++ (decimal (r .number) ++ (32 ∷ (decimal (r .place) ++ newline)))
 
-abbrev pub refusal15 : Refusal
-refusal15 = record { number = 15; place = 0 }
-
 abbrev pub printed : List ℕ → Reported → List ℕ
 printed s (R.Written k) = reportText s
 printed s (R.Refused r) = refusedText r
 
 -- 15 for an input that does not end within 65,536 bytes
 unfoldable pub programText : List ℕ → ℕ → List ℕ
-programText s room = cond (ltb 65536 (length s)) (refusedText refusal15) (printed s (reportOf s room))
+programText s room = cond (ltb 65536 (length s)) (refusedText (refusal 15)) (printed s (reportOf s room))
 
 pub record OneAnswer : Type 0 where
   pub reported : Injective reportAnswer

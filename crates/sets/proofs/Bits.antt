@@ -1,8 +1,9 @@
 -- Bits of words and of lists of words: how `and`, `or` and `xor` act on them, one bit set or cleared, and the ones of a word as a sum of bits.
 --
 --     bitOf-and, bitOf-or, bitOf-xor      an operation on words works bit by bit; bitOf-none: 0 has no bit set
---     bitAt-set-same, bitAt-set-other     the words with bit i set; shl-one: how the code makes 2 ^ k
+--     bitAt-set-same, bitAt-set-other     the words with bit i set
 --     bitAt-clear-same, bitAt-clear-other the words with bit i cleared
+--     shl-one                             how the code makes 2 ^ k; stored-with, stored-without: how it sets and clears bit i
 --     ones-sum, ones-and                  the ones of a word, and of the `and` of two
 --     word-bit, cell-word                 a bit by its word
 use mathlib.Core.Path.{_≡_, refl, sym, ap, ap₂, _∙_, subst}
@@ -165,6 +166,15 @@ length-withBit m i = simp length-set
 pub length-withoutBit : (m : List ℕ) (i : ℕ) → length (withoutBit m i) ≡ length m
 unfolding withoutBit
 length-withoutBit m i = simp length-set
+
+pub stored-with : (m : List ℕ) (i : ℕ) → set m (i / 64) (bitOr (getD m (i / 64) 0) (1 * 2 ^ (i % 64) % 2 ^ 64)) ≡ withBit m i
+unfolding withBit
+stored-with m i = rw (shl-one (i % 64) (omega arith))
+
+pub stored-without : (m : List ℕ) (i : ℕ)
+    → set m (i / 64) (bitXor (getD m (i / 64) 0) (bitAnd (getD m (i / 64) 0) (1 * 2 ^ (i % 64) % 2 ^ 64))) ≡ withoutBit m i
+unfolding withoutBit
+stored-without m i = rw (shl-one (i % 64) (omega arith))
 
 pub sum-first : (n : ℕ) (f : ℕ → ℕ) → sum (suc n) f ≡ f 0 + sum n (λ (k : ℕ). f (suc k))
 unfolding sum

@@ -2,11 +2,11 @@
 -- row, as the code writes it; and the outcome of a plan goes by the same two comparisons as the code.
 --
 --     select-none, select-lowest, select-split    what passes: nothing; the least and the others; below a bound and from it on
---     word-none, word-lowest                      of 0 there are no members; of another word the lowest bit's comes first
+--     wordMembers-none, wordMembers-lowest        of 0 there are no members; of another word the lowest bit's comes first
 --     inRow rows k v                              row k has v
 --     row-word, row-room                          a row's members up to a word, which are no more than all of them
 --     row-length, row-small                       how many members a row has
---     rows-more, rows-length, rows-at             the rows, one more at a time
+--     rows-next, rows-length, rows-at             the rows, one more at a time
 --     members-none, members-more, members-length  the member table, one row more
 --     members-room, members-small                 how long the member table of the first rows can be
 --     starts-none, starts-more, starts-length     the start table, one row more
@@ -80,13 +80,13 @@ select-split a (suc b) f =
 abbrev inWord : ℕ → ℕ → Bool
 inWord w k = eqb (bitOf w k) 1
 
-pub word-none : (base w : ℕ) → w ≡ 0 → wordMembers base w ≡ []
-word-none base w e =
+pub wordMembers-none : (base w : ℕ) → w ≡ 0 → wordMembers base w ≡ []
+wordMembers-none base w e =
     ap (map (λ (k : ℕ). base + k))
     (select-none 64 (inWord w) (λ k l. eqb-not (bitOf w k) 1 (λ q. omega (arith, bitOf-none k, ap (λ (x : ℕ). bitOf x k) e))))
 
-pub word-lowest : (base w t : ℕ) → t < 64 → Lowest w t → wordMembers base w ≡ (base + t) ∷ wordMembers base (cleared w)
-word-lowest base w t h l =
+pub wordMembers-lowest : (base w t : ℕ) → t < 64 → Lowest w t → wordMembers base w ≡ (base + t) ∷ wordMembers base (cleared w)
+wordMembers-lowest base w t h l =
     ap (map (λ (k : ℕ). base + k))
     (select-lowest t (inWord w) (inWord (cleared w))
     (eqb-of (bitOf w t) 1 (l .here))
@@ -139,9 +139,9 @@ unfolding rowMembers
 row-small rows k = omega (arith, length-select 512 (inRow rows k), count-le 512 (inRow rows k))
 
 -- ---- the rows, one more at a time
-pub rows-more : (rows : List ℕ) (k : ℕ) → rowsOf rows (k + 1) ≡ rowsOf rows k ++ (rowMembers rows k ∷ [])
+pub rows-next : (rows : List ℕ) (k : ℕ) → rowsOf rows (k + 1) ≡ rowsOf rows k ++ (rowMembers rows k ∷ [])
 unfolding rowsOf
-rows-more rows k = ap (rowsOf rows) (add-one k)
+rows-next rows k = ap (rowsOf rows) (add-one k)
 
 pub rows-length : (rows : List ℕ) (k : ℕ) → length (rowsOf rows k) ≡ k
 unfolding rowsOf
@@ -175,7 +175,7 @@ unfolding memberTable rowsOf
 members-none rows = refl
 
 pub members-more : (rows : List ℕ) (k : ℕ) → memberTable (rowsOf rows (k + 1)) ≡ memberTable (rowsOf rows k) ++ rowMembers rows k
-members-more rows k = ap memberTable (rows-more rows k) ∙ memberTable-snoc (rowsOf rows k) (rowMembers rows k)
+members-more rows k = ap memberTable (rows-next rows k) ∙ memberTable-snoc (rowsOf rows k) (rowMembers rows k)
 
 pub members-length : (rows : List ℕ) (k : ℕ)
     → length (memberTable (rowsOf rows (k + 1))) ≡ length (memberTable (rowsOf rows k)) + length (rowMembers rows k)
@@ -201,7 +201,7 @@ pub starts-more : (rows : List ℕ) (k : ℕ)
 unfolding startTable
 starts-more rows k =
     let e : 0 + length (memberTable (rowsOf rows k)) + length (rowMembers rows k) ≡ length (memberTable (rowsOf rows k)) + length (rowMembers rows k) = omega arith in
-    ap startTable (rows-more rows k) ∙ starts-snoc 0 (rowsOf rows k) (rowMembers rows k) ∙ ap (λ (n : ℕ). startsFrom 0 (rowsOf rows k) ++ (n ∷ [])) e
+    ap startTable (rows-next rows k) ∙ starts-snoc 0 (rowsOf rows k) (rowMembers rows k) ∙ ap (λ (n : ℕ). startsFrom 0 (rowsOf rows k) ++ (n ∷ [])) e
 
 pub starts-length : (rows : List ℕ) (k : ℕ) → length (startTable (rowsOf rows k)) ≡ k + 1
 starts-length rows k = omega (arith, length-startTable (rowsOf rows k), rows-length rows k)

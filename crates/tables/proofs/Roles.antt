@@ -3,7 +3,7 @@
 --
 --     contains-row, contains-past        a row contains v where its bit is set; it contains nothing from 512 on
 --     times-none, times-more             counting the rows that contain v
---     number-start, number-none          v is in none of the first rows, and not in the next
+--     number-start, number-next          v is in none of the first rows, and not in the next
 --     number-found                       the first row that contains v
 --     role-core, role-other              the role, by whether v is in the set of cores
 --     border-some                        a border's count is not 0
@@ -25,7 +25,7 @@ use Rattle.community.specs.Network.{contains, communityNumber, membershipCount,
 use Rattle.community.specs.declared.Role.the-variants.{Core, Border}
 use Rattle.community.proofs.Roles.{contains-mem, mem-contains}
 use Rattle.tables.specs.Plan.{rowMembers, rowsOf, roleFor}
-use Rattle.tables.proofs.Listing.{inRow, rows-more, rows-length}
+use Rattle.tables.proofs.Listing.{inRow, rows-next, rows-length}
 
 -- ---- what a row contains
 pub contains-row : (rows : List ℕ) (k v : ℕ) → v < 512 → contains v (rowMembers rows k) ≡ inRow rows k v
@@ -53,7 +53,7 @@ times-none rows v = refl
 
 pub times-more : (rows : List ℕ) (k v : ℕ)
     → membershipCount v (rowsOf rows (k + 1)) ≡ membershipCount v (rowsOf rows k) + bit (contains v (rowMembers rows k))
-times-more rows k v = ap (membershipCount v) (rows-more rows k) ∙ times-snoc v (rowsOf rows k) (rowMembers rows k)
+times-more rows k v = ap (membershipCount v) (rows-next rows k) ∙ times-snoc v (rowsOf rows k) (rowMembers rows k)
 
 -- ---- the first row that contains v
 -- one list more, where v is in none so far, and where it is in one
@@ -91,14 +91,14 @@ number-start rows v = refl
 number-more : (rows : List ℕ) (k v : ℕ) → communityNumber v (rowsOf rows k) ≡ k
     → communityNumber v (rowsOf rows (k + 1)) ≡ k + cond (contains v (rowMembers rows k)) 0 1
 number-more rows k v e =
-    ap (communityNumber v) (rows-more rows k)
+    ap (communityNumber v) (rows-next rows k)
     ∙ number-past v (rowsOf rows k) (rowMembers rows k) (e ∙ sym (rows-length rows k))
     ∙ ap (λ (n : ℕ). n + cond (contains v (rowMembers rows k)) 0 1) (rows-length rows k)
 
 -- a row without v
-pub number-none : (rows : List ℕ) (k v : ℕ) → communityNumber v (rowsOf rows k) ≡ k → contains v (rowMembers rows k) ≡ false
+pub number-next : (rows : List ℕ) (k v : ℕ) → communityNumber v (rowsOf rows k) ≡ k → contains v (rowMembers rows k) ≡ false
     → communityNumber v (rowsOf rows (k + 1)) ≡ k + 1
-number-none rows k v e n = number-more rows k v e ∙ ap (λ (b : Bool). k + cond b 0 1) n
+number-next rows k v e n = number-more rows k v e ∙ ap (λ (b : Bool). k + cond b 0 1) n
 
 -- the first row with v: the rows after it do not change its number
 pub number-found : (rows : List ℕ) (k v m : ℕ) → k < m → communityNumber v (rowsOf rows k) ≡ k → contains v (rowMembers rows k) ≡ true
@@ -108,7 +108,7 @@ number-found rows k v m l e y =
     (ap (λ (n : ℕ). communityNumber v (rowsOf rows n)) (sym (add-one k)) ∙ number-more rows k v e ∙ ap (λ (b : Bool). k + cond b 0 1) y ∙ add-zero k)
     (λ i q r.
     ap (λ (n : ℕ). communityNumber v (rowsOf rows n)) (sym (add-one i))
-    ∙ ap (communityNumber v) (rows-more rows i)
+    ∙ ap (communityNumber v) (rows-next rows i)
     ∙ number-stays v (rowsOf rows i) (rowMembers rows i) (omega (arith, r, rows-length rows i))
     ∙ r)
     m l

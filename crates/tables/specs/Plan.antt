@@ -3,7 +3,6 @@
 --
 --     rowMembers rows k      the members of row k, ascending; rowsOf rows k: those of the first k rows
 --     byRoom gs a b ..       an outcome by questions 11 and 12, for the communities gs, a start table of length a and a member table of length b
---     refusal k              the refusal with number k, which names no place
 --     made g c               the answer of a plan of g groups and c memberships
 --     askRoom g c a b        questions 11 and 12 for g groups and c memberships: the refusal, or the counts
 --     planned gs a b         the answer for the communities gs
@@ -11,7 +10,7 @@
 --     over new l             a table that begins with new entries, and past them holds what it held
 --     PlanWritten gs ..      the outcome for the communities gs: the answer and both tables
 --     roleFor cores rows k v the role of v, from the set of cores and the communities as the first k rows
---     OneAnswer              the theorem: the number, place and values leave nothing of the answer free (proved in proofs/Answers)
+--     OneAnswer              the theorem: the number, place and values leave nothing of the answer free, nor the values anything of a role (proved in proofs/Answers)
 use Prim.Native.Nat.{ℕ, zero, suc}
 use mathlib.Core.Path.{_≡_}
 use mathlib.Core.Bool.{cond}
@@ -20,9 +19,8 @@ use lib.Dec.{leb, ltb, eqb}
 use lib.ListN.{length, drop}
 use Rattle.sets.specs.Below.{select}
 use Rattle.sets.specs.Bits.{bitAt, cell}
-use Rattle.image.specs.declared.Refusal.{Refusal}
-use Rattle.image.specs.Answers.{Answer, refused, given, Injective}
-use Rattle.community.specs.Network.{communityNumber, membershipCount, borderOf}
+use Rattle.image.specs.Answers.{Answer, refused, refusal, given, Injective}
+use Rattle.community.specs.Network.{communityNumber, membershipCount, borderOf, roleValues}
 use Rattle.community.specs.Tables.{startTable, memberTable}
 use Rattle.community.specs.declared.Role.{Role}
 use Rattle.community.specs.declared.Role.the-variants.{Core}
@@ -40,9 +38,6 @@ rowsOf rows (suc k) = rowsOf rows k ++ (rowMembers rows k ∷ [])
 
 abbrev pub byRoom : {X : Type 0} → List (List ℕ) → ℕ → ℕ → X → X → X → X
 byRoom gs a b short11 short12 made = cond (ltb (length gs) a) (cond (leb (length (memberTable gs)) b) made short12) short11
-
-abbrev pub refusal : ℕ → Refusal
-refusal k = record { number = k; place = 0 }
 
 -- a plan that was made, with its counts
 abbrev pub made : ℕ → ℕ → Planned
@@ -75,3 +70,4 @@ roleFor cores rows k v =
 
 pub record OneAnswer : Type 0 where
   pub plan : Injective planAnswer
+  pub role : Injective roleValues

@@ -8,7 +8,7 @@ ghost use mathlib.Core.Path.{_≡_};
 ghost use Prim.Native.Nat.{_+_, _≤_, _<_, min};
 ghost use lib.ListN.{length, getD};
 ghost use lib.Seq.{sets};
-ghost use Rattle.community.specs.Network.{contains, communityNumber, membershipCount};
+ghost use Rattle.community.specs.Network.{contains, communityNumber, membershipCount, roleValues};
 ghost use Rattle.community.specs.Tables.{startTable, memberTable};
 ghost use Rattle.tables.specs.Held.{wordMembers};
 ghost use Rattle.tables.specs.Plan.{askRoom, byRoom, rowMembers, rowsOf, over, PlanWritten, roleFor};
@@ -211,7 +211,7 @@ fn first_containing(rows: &[u64], count: usize, v: usize) -> usize
 
 // The role of v, from the set of cores and the communities as the first `count` rows.
 pub fn role_in(cores: &[u64], rows: &[u64], count: usize, v: usize) -> Role
-    ensures { λ r. ⌜ r ≡ roleFor (now (cores .entry)) (now (rows .entry)) (min count 512) v ⌝ }
+    ensures { λ r. ⌜ roleValues r ≡ roleValues (roleFor (now (cores .entry)) (now (rows .entry)) (min count 512) v) ⌝ }
 {
     let groups = at_most_512(count);
     if sets::has(cores, v) {

@@ -4,7 +4,8 @@ use native.Mathlib.Omega.{arith}
 use mathlib.Core.Path.{_≡_, sym, ap, _∙_}
 use mathlib.Core.Bool.{Bool, cond}
 use denote.Ref.{now}
-use Rattle.lookup.specs.Lookup.{lookedOf, refusal14}
+use Rattle.image.specs.Answers.{refusal}
+use Rattle.lookup.specs.Lookup.{lookedOf}
 use Rattle.lookup.specs.Answers.{lookAnswer}
 use Rattle.lookup.specs.declared.Looked.the-variants.{Found, Refused}
 use Rattle.lookup.proofs.Agreement.{looked-span}
@@ -14,12 +15,12 @@ use Rattle.lookup.proofs.find_group.Tie as tie
 -- the answer from the span, by whether it is found
 told : (c : tie.After-find-span) (b : Bool) → c .find-span .result .found ≡ b
     → (let a = c .before .before .before .args in let r = c .find-span .result in
-    cond b (Found (r .past - r .first)) (Refused refusal14) ≡ lookedOf (now (a .starts)) (now (a .table)) (a .k))
+    cond b (Found (r .past - r .first)) (Refused (refusal 14)) ≡ lookedOf (now (a .starts)) (now (a .table)) (a .k))
 told c b e =
     let a = c .before .before .before .args in
     let r = c .find-span .result in
     let f = c .find-span .ensures in
-    ap (λ (x : Bool). cond x (Found (r .past - r .first)) (Refused refusal14)) (sym e)
+    ap (λ (x : Bool). cond x (Found (r .past - r .first)) (Refused (refusal 14))) (sym e)
     ∙ sym (looked-span (now (a .starts)) (now (a .table)) (a .k) r (f .0) (f .1 .1))
 
 find-span-requires : tie.Need-find-span-requires

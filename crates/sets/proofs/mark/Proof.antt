@@ -1,11 +1,11 @@
 -- `sets::mark` meets its contract: where the word is there the store is that of `withBit`, and past the last word a store is none.
 use mathlib.Core.Path.{sym}
-use Prim.Native.Nat.{_/_, _%_}
+use Prim.Native.Nat.{_/_}
 use native.Mathlib.Omega.{arith}
 use borrow.Author.Needs.{needs}
 use lib.Seq.{set-out}
 use Rattle.sets.specs.Bits.{withBit}
-use Rattle.sets.proofs.Bits.{shl-one}
+use Rattle.sets.proofs.Bits.{stored-with}
 use Rattle.sets.proofs.mark.Statement.{statement}
 use Rattle.sets.proofs.mark.Tie as tie
 
@@ -28,8 +28,7 @@ same-length : tie.Need-same-length
 same-length c = search needs
 
 returns : tie.Need-returns
-unfolding withBit
-returns c = rw (shl-one (c .before .before .args .i % 64) (omega arith))
+returns c = let a = c .before .before .args in stored-with (a .words .now) (a .i)
 
 returns-2 : tie.Need-returns-2
 unfolding withBit

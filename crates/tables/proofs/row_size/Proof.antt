@@ -3,6 +3,7 @@
 use mathlib.Core.Path.{_≡_, refl, sym, ap, _∙_}
 use Prim.Native.Nat.{ℕ, _+_, _*_, _-_, _^_, _≤_, _<_}
 use native.Mathlib.Omega.{arith}
+use borrow.Author.Needs.{needs}
 use lib.Count.{ones, ones-le}
 use Rattle.sets.specs.Below.{sum}
 use Rattle.sets.specs.Bits.{bitOf, cell}
@@ -29,13 +30,13 @@ unfolding sum
 loop-holds c = (omega arith, omega arith, refl)
 
 mul-word-at : tie.Need-mul-word-at Inv-loop μ-loop
-mul-word-at c = omega (arith, start (c .before) .pre)
+mul-word-at c = search needs
 
 add-word-at : tie.Need-add-word-at Inv-loop μ-loop
-add-word-at c = omega (arith, start (c .before) .pre)
+add-word-at c = search needs
 
 word-at-requires : tie.Need-word-at-requires Inv-loop μ-loop
-word-at-requires c κs = tt
+word-at-requires c κs = search needs
 
 -- one word more
 next : (c : tie.After-word-at Inv-loop μ-loop) → (let a = start (loop c) .args in let j = loop c .loop .j in let w = c .word-at .result in
@@ -51,10 +52,10 @@ add-n : tie.Need-add-n Inv-loop μ-loop
 add-n c = omega (arith, next c .0)
 
 add-j : tie.Need-add-j Inv-loop μ-loop
-add-j c = omega arith
+add-j c = search needs
 
 loop-less : tie.Need-loop-less Inv-loop μ-loop
-loop-less c = omega arith
+loop-less c = search needs
 
 loop-again : tie.Need-loop-again Inv-loop μ-loop
 loop-again c = (omega arith, omega (arith, next c .0), omega (arith, next c .1))

@@ -1,9 +1,8 @@
 -- `tables::write_plan` meets its contract: the memberships are counted first, the tables are written where they fit, and the answer is that of the questions
 -- for the two counts.
-use Prim.Native.Nat.{ℕ, min}
+use Prim.Native.Nat.{ℕ}
 use mathlib.Core.Path.{_≡_, sym, ap, _∙_, subst}
 use mathlib.Core.List.{List}
-use native.Mathlib.Omega.{arith}
 use lib.ListN.{length}
 use borrow.Author.Needs.{needs}
 use Rattle.community.specs.Tables.{memberTable}
@@ -12,27 +11,17 @@ use Rattle.tables.proofs.Listing.{rows-length}
 use Rattle.tables.proofs.write_plan.Statement.{statement}
 use Rattle.tables.proofs.write_plan.Tie as tie
 
--- the places that the answers speak of
-abbrev wrote : tie.After-ask-room → tie.After-write-where-it-fits
-wrote c = c .before .before .before .before .before
-
-abbrev counted : tie.After-write-where-it-fits → tie.After-count-members
-counted c = c .before .before .before
-
-abbrev start : tie.After-count-members → tie.Start
-start c = c .before .before .before .before .before
-
 at-most-512-requires : tie.Need-at-most-512-requires
-at-most-512-requires c κs = tt
+at-most-512-requires c κs = search needs
 
 count-members-requires : tie.Need-count-members-requires
-count-members-requires c κs = omega arith
+count-members-requires c κs = search needs
 
 write-where-it-fits-requires : tie.Need-write-where-it-fits-requires
 write-where-it-fits-requires c κs = search needs
 
 ask-room-requires : tie.Need-ask-room-requires
-ask-room-requires c κs = tt
+ask-room-requires c κs = search needs
 
 same-length : tie.Need-same-length
 same-length c = search needs
@@ -42,9 +31,11 @@ same-length-2 c = search needs
 
 returns : tie.Need-returns
 returns c =
-    let w = wrote c .write-where-it-fits in
-    let k = counted (wrote c) in
-    let a = start k .args in
+    let written = c .before .before .before .before .before in
+    let k = written .before .before .before in
+    let start = k .before .before .before .before .before in
+    let w = written .write-where-it-fits in
+    let a = start .args in
     let gs : List (List ℕ) = rowsOf (a .rows .now) (k .before .at-most-512 .result) in
     let n : k .before .at-most-512 .result ≡ length gs = sym (rows-length (a .rows .now) (k .before .at-most-512 .result)) in
     let room : c .ask-room .result ≡ askRoom (length gs) (length (memberTable gs)) (length (a .starts .now)) (length (a .members .now)) =

@@ -6,6 +6,7 @@ use mathlib.Core.Path.{_≡_, refl, ap, _∙_}
 use lib.Bits.{bitAnd, and-lt}
 use lib.Count.{ones, ones-le}
 use lib.ListN.{getD}
+use borrow.Author.Needs.{needs}
 use Rattle.sets.specs.Below.{sum}
 use Rattle.sets.specs.Bits.{cell}
 use Rattle.planner.proofs.Rows.{common-more}
@@ -27,28 +28,28 @@ unfolding sum
 loop-holds c = (omega arith, omega arith, refl)
 
 mul-n : tie.Need-mul-n Inv-loop μ-loop
-mul-n c = omega arith
+mul-n c = search needs
 
 add-n : tie.Need-add-n Inv-loop μ-loop
-add-n c = omega arith
+add-n c = search needs
 
 mul-n-2 : tie.Need-mul-n-2 Inv-loop μ-loop
-mul-n-2 c = omega arith
+mul-n-2 c = search needs
 
 shared-slice-read-n : tie.Need-shared-slice-read-n Inv-loop μ-loop
-shared-slice-read-n c = omega arith
+shared-slice-read-n c = search needs
 
 mul-n-3 : tie.Need-mul-n-3 Inv-loop μ-loop
-mul-n-3 c = omega arith
+mul-n-3 c = search needs
 
 add-n-2 : tie.Need-add-n-2 Inv-loop μ-loop
-add-n-2 c = omega arith
+add-n-2 c = search needs
 
 mul-n-4 : tie.Need-mul-n-4 Inv-loop μ-loop
-mul-n-4 c = omega arith
+mul-n-4 c = search needs
 
 shared-slice-read-n-2 : tie.Need-shared-slice-read-n-2 Inv-loop μ-loop
-shared-slice-read-n-2 c = omega arith
+shared-slice-read-n-2 c = search needs
 
 -- one word more counts its ones more
 next : (c : tie.After-shared-slice-known2 Inv-loop μ-loop)
@@ -66,10 +67,10 @@ add-n-3 : tie.Need-add-n-3 Inv-loop μ-loop
 add-n-3 c = omega (arith, next c .0)
 
 add-j : tie.Need-add-j Inv-loop μ-loop
-add-j c = omega arith
+add-j c = search needs
 
 loop-less : tie.Need-loop-less Inv-loop μ-loop
-loop-less c = omega arith
+loop-less c = search needs
 
 loop-again : tie.Need-loop-again Inv-loop μ-loop
 loop-again c = let i = loop c .loop .inv in (omega arith, omega (arith, next c .0, i .1), omega (arith, next c .1, i .2))

@@ -9,6 +9,7 @@ use mathlib.Core.Bool.{Bool, _&&_, not}
 use lib.Bits.{bitXor, xor-lt}
 use lib.Dec.{T, ltb, lt→ltb, ltb→lt}
 use lib.ListN.{length, length-replicate}
+use borrow.Author.Needs.{needs}
 use Rattle.sets.specs.Rows.{WordOf, Counted}
 use Rattle.sets.proofs.Tests.{and-left, T-ext}
 use Rattle.image.specs.Rows.{Room}
@@ -62,22 +63,22 @@ loop-holds c =
     )
 
 mul-loop : tie.Need-mul-loop Inv-loop μ-loop
-mul-loop c = omega (arith, c .loop .inv .0)
+mul-loop c = search needs
 
 low : (c : tie.In-loop Inv-loop μ-loop) → c .before .loop .j < 64
-low c = omega (arith, c .loop-test .taken, start (c .before) .pre .0)
+low c = search needs
 
 mul-if1 : tie.Need-mul-if1 Inv-loop μ-loop
-mul-if1 c = omega (arith, low c)
+mul-if1 c = search needs
 
 sub-if1 : tie.Need-sub-if1 Inv-loop μ-loop
-sub-if1 c = omega (arith, c .loop-test .taken)
+sub-if1 c = search needs
 
 mul-count : tie.Need-mul-count Inv-loop μ-loop
-mul-count c = omega (arith, low (c .before))
+mul-count c = search needs
 
 sub-count : tie.Need-sub-count Inv-loop μ-loop
-sub-count c = omega (arith, c .before .loop-test .taken)
+sub-count c = search needs
 
 -- ---- the count ends at m or at the word's end
 last : (c : tie.Joined1 Inv-loop μ-loop) → (1 ≤ c .if1 .count) × (c .if1 .count ≤ 64) × (64 * loop c .loop .j + c .if1 .count ≤ start (loop c) .args .m)
@@ -97,7 +98,7 @@ same c i h =
     (λ t. lt→ltb i (c .if1 .count) (⊎-elim (λ w. omega (arith, ltb→lt (b + i) m t, w .1)) (λ w. omega (arith, h, w .1)) (c .if1 .came)))
 
 mul-short-word : tie.Need-mul-short-word Inv-loop μ-loop
-mul-short-word c = omega (arith, low (c .before))
+mul-short-word c = search needs
 
 short-word-requires : tie.Need-short-word-requires Inv-loop μ-loop
 short-word-requires c κs =
@@ -111,7 +112,7 @@ shr-all : tie.Need-shr-all Inv-loop μ-loop
 shr-all c = omega (arith, last (counted c) .0)
 
 mul-drop-edges : tie.Need-mul-drop-edges Inv-loop μ-loop
-mul-drop-edges c = omega (arith, low (counted c .before))
+mul-drop-edges c = search needs
 
 -- ---- the two words: the edges that are near, and those that are not
 short-word : (c : tie.After-row-known Inv-loop μ-loop)
@@ -149,16 +150,16 @@ drop-edges-requires c κs =
     )
 
 mul-short : tie.Need-mul-short Inv-loop μ-loop
-mul-short c = omega (arith, low (counted (made (done c .before)) .before))
+mul-short c = search needs
 
 slice-write-short : tie.Need-slice-write-short Inv-loop μ-loop
 slice-write-short c = let m = counted (made (done c .before)) in omega (arith, low (m .before), loop m .loop .inv .1 .size)
 
 add-j : tie.Need-add-j Inv-loop μ-loop
-add-j c = omega (arith, low (counted (made (done c .before)) .before))
+add-j c = search needs
 
 loop-less : tie.Need-loop-less Inv-loop μ-loop
-loop-less c = omega (arith, low (counted (made (done c .before)) .before))
+loop-less c = search needs
 
 loop-again : tie.Need-loop-again Inv-loop μ-loop
 loop-again c =

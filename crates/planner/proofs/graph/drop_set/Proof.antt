@@ -6,6 +6,7 @@ use mathlib.Core.Path.{_≡_, sym, ap, _∙_}
 use mathlib.Core.Bool.{Bool, _&&_}
 use lib.Dec.{T, ltb, eqb, eqb→eq}
 use lib.ListN.{getD}
+use borrow.Author.Needs.{needs}
 use Rattle.sets.specs.Bits.{bitAt}
 use Rattle.sets.specs.Rows.{WordOf, Counted}
 use Rattle.sets.proofs.Bits.{bitAt-lt}
@@ -47,19 +48,19 @@ loop-holds c =
     (omega arith, dropped-start (s .args .edges .now) (s .args .table .now) (λ k. eqb (bitAt (s .args .set .now) k) 1), s .pre .2, s .pre .3)
 
 mul-loop : tie.Need-mul-loop Inv-loop μ-loop
-mul-loop c = omega (arith, c .loop .inv .0)
+mul-loop c = search needs
 
 low : (c : tie.In-loop Inv-loop μ-loop) → c .before .loop .j < 64
-low c = omega (arith, c .loop-test .taken, start (c .before) .pre .0)
+low c = search needs
 
 mul-drop-edges : tie.Need-mul-drop-edges Inv-loop μ-loop
-mul-drop-edges c = omega (arith, low c)
+mul-drop-edges c = search needs
 
 shared-slice-read-drop-edges : tie.Need-shared-slice-read-drop-edges Inv-loop μ-loop
-shared-slice-read-drop-edges c = omega (arith, low (c .before), start (loop c) .pre .1)
+shared-slice-read-drop-edges c = search needs
 
 mul-drop-edges-2 : tie.Need-mul-drop-edges-2 Inv-loop μ-loop
-mul-drop-edges-2 c = omega (arith, low (c .before))
+mul-drop-edges-2 c = search needs
 
 -- the word that is read has the edges of the set from 64 j on
 word : (c : tie.After-shared-slice-known3 Inv-loop μ-loop)
@@ -84,10 +85,10 @@ drop-edges-requires c κs =
     )
 
 add-j : tie.Need-add-j Inv-loop μ-loop
-add-j c = omega (arith, low (read (done c) .before))
+add-j c = search needs
 
 loop-less : tie.Need-loop-less Inv-loop μ-loop
-loop-less c = omega (arith, low (read (done c) .before))
+loop-less c = search needs
 
 loop-again : tie.Need-loop-again Inv-loop μ-loop
 loop-again c =

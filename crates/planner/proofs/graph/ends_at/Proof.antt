@@ -1,28 +1,28 @@
 -- `planner::graph::ends_at` meets its contract: the two numbers of a record are those at its place in the part.
-use native.Mathlib.Omega.{arith}
 use mathlib.Core.Path.{ap, _∙_}
+use borrow.Author.Needs.{needs}
 use Rattle.fields.specs.declared.Ends.{Ends}
 use Rattle.image.proofs.Records.{ends-part}
 use Rattle.planner.proofs.graph.ends_at.Statement.{statement}
 use Rattle.planner.proofs.graph.ends_at.Tie as tie
 
 mul-at : tie.Need-mul-at
-mul-at c = omega arith
+mul-at c = search needs
 
 add-past : tie.Need-add-past
-add-past c = omega arith
+add-past c = search needs
 
 sub-read-ends : tie.Need-sub-read-ends
-sub-read-ends c = omega arith
+sub-read-ends c = search needs
 
 part-read-ends-start : tie.Need-part-read-ends-start
-part-read-ends-start c = omega arith
+part-read-ends-start c = search needs
 
 part-read-ends-end : tie.Need-part-read-ends-end
-part-read-ends-end c = omega arith
+part-read-ends-end c = search needs
 
 read-ends-requires : tie.Need-read-ends-requires
-read-ends-requires c κs = tt
+read-ends-requires c κs = search needs
 
 returns : tie.Need-returns
 returns c =

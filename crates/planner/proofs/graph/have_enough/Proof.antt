@@ -1,10 +1,11 @@
 -- `planner::graph::have_enough` meets its contract: the marks that the two rows have in common are tested against their sizes, none of which is above 512.
-use Prim.Native.Nat.{ℕ, _*_, _≤_}
+use Prim.Native.Nat.{ℕ, _≤_}
 use native.Mathlib.Omega.{arith}
 use mathlib.Core.Path.{_∙_, ap}
-use lib.Dec.{leb}
 use lib.ListN.{getD}
+use borrow.Author.Needs.{needs}
 use Rattle.image.proofs.Rows.{row-most}
+use Rattle.community.specs.Network.{meetsEpsilon}
 use Rattle.planner.proofs.graph.have_enough.Statement.{statement}
 use Rattle.planner.proofs.graph.have_enough.Tie as tie
 
@@ -19,22 +20,22 @@ common-requires : tie.Need-common-requires
 common-requires c κs = let s = c .before .before in (s .pre .0, s .pre .1, s .pre .2 .0)
 
 cast-c : tie.Need-cast-c
-cast-c c = omega arith
+cast-c c = search needs
 
 mul-meets-epsilon : tie.Need-mul-meets-epsilon
-mul-meets-epsilon c = omega arith
+mul-meets-epsilon c = search needs
 
 shared-slice-read-meets-epsilon : tie.Need-shared-slice-read-meets-epsilon
-shared-slice-read-meets-epsilon c = omega arith
+shared-slice-read-meets-epsilon c = search needs
 
 cast-meets-epsilon : tie.Need-cast-meets-epsilon
 cast-meets-epsilon c = record { fits = omega (arith, sizes-fit (start c) .0) }
 
 mul-meets-epsilon-2 : tie.Need-mul-meets-epsilon-2
-mul-meets-epsilon-2 c = omega arith
+mul-meets-epsilon-2 c = search needs
 
 shared-slice-read-meets-epsilon-2 : tie.Need-shared-slice-read-meets-epsilon-2
-shared-slice-read-meets-epsilon-2 c = omega arith
+shared-slice-read-meets-epsilon-2 c = search needs
 
 cast-meets-epsilon-2 : tie.Need-cast-meets-epsilon-2
 cast-meets-epsilon-2 c = record { fits = omega (arith, sizes-fit (start (c .before)) .1) }
@@ -48,7 +49,7 @@ returns : tie.Need-returns
 returns c =
     let a = start (c .before .before) .args in
     c .meets-epsilon .ensures
-    ∙ ap (λ (x : ℕ). leb (a .p * a .p * (getD (a .sizes .now) (a .u) 0 * getD (a .sizes .now) (a .v) 0)) (x * x * (a .q * a .q)))
+    ∙ ap (λ (x : ℕ). meetsEpsilon (a .p) (a .q) x (getD (a .sizes .now) (a .u) 0) (getD (a .sizes .now) (a .v) 0))
     (c .before .before .before .common .ensures .0)
 
 pub have-enough-spec : {M : Type 1} → statement M

@@ -6,6 +6,7 @@ use mathlib.Core.Path.{_≡_, sym, ap, _∙_}
 use mathlib.Core.Bool.{Bool, not}
 use lib.Dec.{eqb, eqb→eq}
 use lib.ListN.{getD}
+use borrow.Author.Needs.{needs}
 use Rattle.sets.specs.Bits.{bitAt}
 use Rattle.sets.specs.Rows.{WordOf}
 use Rattle.sets.proofs.Tests.{and-left}
@@ -38,19 +39,19 @@ loop-holds : tie.Need-loop-holds Inv-loop μ-loop
 loop-holds c = let s = c .before .before .before .before in (omega arith, partly-start (s .args .set .now) _ (s .pre .1))
 
 mul-loop : tie.Need-mul-loop Inv-loop μ-loop
-mul-loop c = omega (arith, c .loop .inv .0)
+mul-loop c = search needs
 
 low : (c : tie.In-loop Inv-loop μ-loop) → c .before .loop .j < 64
-low c = omega (arith, c .loop-test .taken, start (c .before) .pre .0)
+low c = search needs
 
 mul-dissimilar-word : tie.Need-mul-dissimilar-word Inv-loop μ-loop
-mul-dissimilar-word c = omega (arith, low c)
+mul-dissimilar-word c = search needs
 
 slice-read-dissimilar-word : tie.Need-slice-read-dissimilar-word Inv-loop μ-loop
-slice-read-dissimilar-word c = omega (arith, low (c .before), loop c .loop .inv .1 .size)
+slice-read-dissimilar-word c = search needs
 
 mul-dissimilar-word-2 : tie.Need-mul-dissimilar-word-2 Inv-loop μ-loop
-mul-dissimilar-word-2 c = omega (arith, low (c .before))
+mul-dissimilar-word-2 c = search needs
 
 -- the word that is read has edges of the set
 word : (c : tie.After-slice-known2 Inv-loop μ-loop)
@@ -79,16 +80,16 @@ dissimilar-word-requires c κs =
     )
 
 mul-set : tie.Need-mul-set Inv-loop μ-loop
-mul-set c = omega (arith, low (c .before .before))
+mul-set c = search needs
 
 slice-write-set : tie.Need-slice-write-set Inv-loop μ-loop
-slice-write-set c = omega (arith, low (c .before .before), loop (c .before) .loop .inv .1 .size)
+slice-write-set c = search needs
 
 add-j : tie.Need-add-j Inv-loop μ-loop
-add-j c = omega (arith, low (c .before .before))
+add-j c = search needs
 
 loop-less : tie.Need-loop-less Inv-loop μ-loop
-loop-less c = omega (arith, low (c .before .before))
+loop-less c = search needs
 
 loop-again : tie.Need-loop-again Inv-loop μ-loop
 loop-again c =

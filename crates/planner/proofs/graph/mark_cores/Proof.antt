@@ -9,6 +9,7 @@ use mathlib.Core.Bool.{Bool, _&&_}
 use lib.Bits.{bitOr}
 use lib.Dec.{leb, ltb, le→leb, leb→le, not-T}
 use lib.ListN.{length, getD, length-set, length-replicate}
+use borrow.Author.Needs.{needs}
 use Rattle.sets.specs.Below.{bit}
 use Rattle.sets.specs.Bits.{bitAt}
 use Rattle.sets.specs.Rows.{WordOf, SetOf}
@@ -42,31 +43,31 @@ loop-holds c =
     )
 
 mul-if1 : tie.Need-mul-if1 Inv-loop μ-loop
-mul-if1 c = omega arith
+mul-if1 c = search needs
 
 shared-slice-read-if1 : tie.Need-shared-slice-read-if1 Inv-loop μ-loop
-shared-slice-read-if1 c = omega arith
+shared-slice-read-if1 c = search needs
 
 mul-cores : tie.Need-mul-cores Inv-loop μ-loop
-mul-cores c = omega arith
+mul-cores c = search needs
 
 slice-read-cores : tie.Need-slice-read-cores Inv-loop μ-loop
-slice-read-cores c = omega (arith, loop (c .before) .loop .inv .1 .size)
+slice-read-cores c = search needs
 
 shl-cores : tie.Need-shl-cores Inv-loop μ-loop
-shl-cores c = omega arith
+shl-cores c = search needs
 
 mul-cores-2 : tie.Need-mul-cores-2 Inv-loop μ-loop
-mul-cores-2 c = omega arith
+mul-cores-2 c = search needs
 
 slice-write-cores : tie.Need-slice-write-cores Inv-loop μ-loop
-slice-write-cores c = omega (arith, loop (made c) .loop .inv .1 .size)
+slice-write-cores c = search needs
 
 add-u : tie.Need-add-u Inv-loop μ-loop
-add-u c = omega arith
+add-u c = search needs
 
 loop-less : tie.Need-loop-less Inv-loop μ-loop
-loop-less c = omega arith
+loop-less c = search needs
 
 -- the bit is the test of the handset
 told : (c : tie.Joined1 Inv-loop μ-loop) → (let a = loop c .before .args in c .if1 .one ≡ bit (leb (a .mu) (getD (a .sizes .now) (loop c .loop .u) 0)))

@@ -1,7 +1,8 @@
 -- `planner::graph::meets_epsilon` meets its contract: with sizes up to 512 and p and q up to 1,000 no product wraps.
 use native.Mathlib.Nat.{mul-le-mul}
 use mir.Facts.{fits-le, fits-lit}
-use borrow.Author.Needs.{needs}
+use mathlib.Core.Path.{refl}
+use Rattle.community.specs.Network.{meetsEpsilon}
 use Rattle.planner.proofs.graph.meets_epsilon.Statement.{statement}
 use Rattle.planner.proofs.graph.meets_epsilon.Tie as tie
 
@@ -24,7 +25,8 @@ mul-result-6 : tie.Need-mul-result-6
 mul-result-6 c = fits-le (mul-le-mul (mul-le-mul (c .pre .0) (c .pre .0)) (mul-le-mul (c .pre .4) (c .pre .4))) (fits-lit tt)
 
 returns : tie.Need-returns
-returns c = search needs
+unfolding meetsEpsilon
+returns c = refl
 
 pub meets-epsilon-spec : {M : Type 1} → statement M
 meets-epsilon-spec =

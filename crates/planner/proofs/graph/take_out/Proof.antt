@@ -1,13 +1,8 @@
 -- `planner::graph::take_out` meets its contract: the word written is the one without the bit, and the row's size goes down by it.
-use Prim.Native.Nat.{ℕ, _*_, _+_, _/_, _%_, _^_}
-use mathlib.Core.Path.{_≡_, ap}
-use lib.Bits.{bitAnd, bitXor}
-use lib.ListN.{getD, set}
-use native.Mathlib.Nat.{mod-lt, zero-lt-suc}
-use native.Mathlib.Omega.{arith}
+use Prim.Native.Nat.{_*_, _+_}
 use borrow.Author.Needs.{needs}
-use Rattle.sets.specs.Bits.{bitOf, bitAt, withoutBit}
-use Rattle.sets.proofs.Bits.{shl-one}
+use Rattle.sets.specs.Bits.{bitOf, bitAt}
+use Rattle.sets.proofs.Bits.{stored-without}
 use Rattle.planner.proofs.Rows.{row-bit, counted-out}
 use Rattle.planner.proofs.graph.take_out.Statement.{statement}
 use Rattle.planner.proofs.graph.take_out.Tie as tie
@@ -17,43 +12,43 @@ abbrev start : tie.After-slice-known2 → tie.Start
 start c = c .before .before
 
 mul-i : tie.Need-mul-i
-mul-i c = omega arith
+mul-i c = search needs
 
 add-i : tie.Need-add-i
-add-i c = omega arith
+add-i c = search needs
 
 mul-k : tie.Need-mul-k
-mul-k c = omega arith
+mul-k c = search needs
 
 add-k : tie.Need-add-k
-add-k c = omega arith
+add-k c = search needs
 
 mul-w : tie.Need-mul-w
-mul-w c = omega arith
+mul-w c = search needs
 
 slice-read-w : tie.Need-slice-read-w
-slice-read-w c = omega arith
+slice-read-w c = search needs
 
 shl-table : tie.Need-shl-table
-shl-table c = omega arith
+shl-table c = search needs
 
 mul-table : tie.Need-mul-table
-mul-table c = omega arith
+mul-table c = search needs
 
 slice-write-table : tie.Need-slice-write-table
-slice-write-table c = omega arith
+slice-write-table c = search needs
 
 mul-sizes : tie.Need-mul-sizes
-mul-sizes c = omega arith
+mul-sizes c = search needs
 
 slice-read-sizes : tie.Need-slice-read-sizes
-slice-read-sizes c = omega arith
+slice-read-sizes c = search needs
 
 shr-sizes : tie.Need-shr-sizes
-shr-sizes c = omega arith
+shr-sizes c = search needs
 
 cast-sizes : tie.Need-cast-sizes
-cast-sizes c = omega arith
+cast-sizes c = search needs
 
 sub-sizes : tie.Need-sub-sizes
 unfolding bitAt bitOf
@@ -63,10 +58,10 @@ sub-sizes c =
     row-bit (a .table .now) (a .sizes .now) (a .u) (a .v) (s .pre .0) (s .pre .1) (s .pre .2) (s .pre .3)
 
 mul-sizes-2 : tie.Need-mul-sizes-2
-mul-sizes-2 c = omega arith
+mul-sizes-2 c = search needs
 
 slice-write-sizes : tie.Need-slice-write-sizes
-slice-write-sizes c = omega arith
+slice-write-sizes c = search needs
 
 same-length : tie.Need-same-length
 same-length c = search needs
@@ -75,15 +70,12 @@ same-length-2 : tie.Need-same-length-2
 same-length-2 c = search needs
 
 returns : tie.Need-returns
-unfolding withoutBit bitAt bitOf
+unfolding bitAt bitOf
 returns c =
     let s = start c in
     let a = s .args in
-    let t = a .table .now in
-    let i : ℕ = a .u * 512 + a .v in
-    let e : set t (i / 64) (bitXor (getD t (i / 64) 0) (bitAnd (getD t (i / 64) 0) (1 * 2 ^ (i % 64) % 2 ^ 64))) ≡ withoutBit t i =
-    ap (λ (x : ℕ). set t (i / 64) (bitXor (getD t (i / 64) 0) (bitAnd (getD t (i / 64) 0) x))) (shl-one (i % 64) (mod-lt i (zero-lt-suc 63))) in
-    (e, rw e (counted-out t (a .sizes .now) (a .u) (a .v) (s .pre .0) (s .pre .1) (s .pre .2) (s .pre .3)))
+    let e = stored-without (a .table .now) (a .u * 512 + a .v) in
+    (e, rw e (counted-out (a .table .now) (a .sizes .now) (a .u) (a .v) (s .pre .0) (s .pre .1) (s .pre .2) (s .pre .3)))
 
 pub take-out-spec : {M : Type 1} → statement M
 take-out-spec =
