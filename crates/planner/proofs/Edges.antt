@@ -22,7 +22,7 @@ use Rattle.sets.specs.Rows.{WordOf}
 use Rattle.sets.proofs.Tests.{and-make, and-left, and-right, decide, eqb-of}
 use Rattle.sets.proofs.Bits.{bitOf-lt, bitOf-none, bitAt-clear-same, bitAt-clear-other, length-withoutBit}
 use Rattle.sets.proofs.Counting.{bit-true}
-use Rattle.sets.proofs.Lowest.{cleared, cleared-lt, cleared-same, cleared-other, cleared-le}
+use Rattle.sets.proofs.Lowest.{Lowest, cleared, cleared-lt, cleared-same, cleared-other, cleared-le}
 use Rattle.image.specs.Image.{endA, endB, joins}
 use Rattle.image.proofs.Edges.{joins-cases, joins-one, joins-other}
 use Rattle.planner.specs.Held.{inWord, Dropped}
@@ -130,49 +130,49 @@ module _ (edges : List ℕ) (word base : ℕ) (before : List ℕ) where
   pub dropping-bit : {w : ℕ} {after : List ℕ} → Dropping edges word base before w after → (t : ℕ) → bitOf w t ≡ 1 → T (inWord word base (base + t))
   dropping-bit d t e = word-in-at word base t (omega (arith, d .sub t, e, bitOf-lt word t))
 
-  pub dropping-on : {w : ℕ} {after : List ℕ} (t : ℕ) → t < 64 → bitOf w t ≡ 1 → endA edges (base + t) < 512 → endB edges (base + t) < 512 → length after ≡ 4096
+  pub dropping-on : {w : ℕ} {after : List ℕ} (t : ℕ) → Lowest w t → endA edges (base + t) < 512 → endB edges (base + t) < 512 → length after ≡ 4096
       → Dropping edges word base before w after
-      → Dropping edges word base before (cleared w t)
+      → Dropping edges word base before (cleared w)
       (withoutBit (withoutBit after (endA edges (base + t) * 512 + endB edges (base + t))) (endB edges (base + t) * 512 + endA edges (base + t)))
-  dropping-on {w} {after} t h e ha hb long d = record {
-    fits = cleared-lt w t h (d .fits);
-    sub = λ i. omega (arith, cleared-le w t h i, d .sub i);
+  dropping-on {w} {after} t low ha hb long d = record {
+    fits = cleared-lt w (d .fits);
+    sub = λ i. omega (arith, cleared-le w i, d .sub i);
     dropped =
-        dropped-then (λ k. inWord word base k && not (inWord w base k)) (eqb (base + t)) (λ k. inWord word base k && not (inWord (cleared w t) base k))
+        dropped-then (λ k. inWord word base k && not (inWord w base k)) (eqb (base + t)) (λ k. inWord word base k && not (inWord (cleared w) base k))
         (d .dropped) (dropped-one edges after (base + t) ha hb long)
         (λ k x.
-        let y = and-left (inWord word base k) (not (inWord (cleared w t) base k)) x in
-        let n = and-right (inWord word base k) (not (inWord (cleared w t) base k)) x in
+        let y = and-left (inWord word base k) (not (inWord (cleared w) base k)) x in
+        let n = and-right (inWord word base k) (not (inWord (cleared w) base k)) x in
         split k y n (ℕ-discrete k (base + t)))
         (λ k x.
         let y = and-left (inWord word base k) (not (inWord w base k)) x in
         let n = and-right (inWord word base k) (not (inWord w base k)) x in
-        and-make (inWord word base k) (not (inWord (cleared w t) base k)) y
-        (not-T (inWord (cleared w t) base k) (λ z. T-not (inWord w base k) n (less k z))))
+        and-make (inWord word base k) (not (inWord (cleared w) base k)) y
+        (not-T (inWord (cleared w) base k) (λ z. T-not (inWord w base k) n (less k z))))
         (λ k x.
         let p : base + t ≡ k = eqb→eq (base + t) k x in
-        subst (λ (i : ℕ). T (inWord word base i && not (inWord (cleared w t) base i))) p
-        (and-make (inWord word base (base + t)) (not (inWord (cleared w t) base (base + t))) (dropping-bit d t e)
-        (not-T (inWord (cleared w t) base (base + t)) (λ z. none (in-word (cleared w t) base (base + t) z .1)))));
+        subst (λ (i : ℕ). T (inWord word base i && not (inWord (cleared w) base i))) p
+        (and-make (inWord word base (base + t)) (not (inWord (cleared w) base (base + t))) (dropping-bit d t (low .here))
+        (not-T (inWord (cleared w) base (base + t)) (λ z. none (in-word (cleared w) base (base + t) z .1)))));
   }
     where
-      less : (k : ℕ) → T (inWord (cleared w t) base k) → T (inWord w base k)
+      less : (k : ℕ) → T (inWord (cleared w) base k) → T (inWord w base k)
       less k z =
-          let p = in-word (cleared w t) base k z in
-          word-in w base k (p .0) (omega (arith, p .1, cleared-le w t h (k - base), bitOf-lt w (k - base)))
+          let p = in-word (cleared w) base k z in
+          word-in w base k (p .0) (omega (arith, p .1, cleared-le w (k - base), bitOf-lt w (k - base)))
 
-      none : bitOf (cleared w t) (base + t - base) ≡ 1 → ⊥
+      none : bitOf (cleared w) (base + t - base) ≡ 1 → ⊥
       none z =
           let p : base + t - base ≡ t = omega arith in
-          omega (arith, z, ap (bitOf (cleared w t)) p, cleared-same w t h)
+          omega (arith, z, ap (bitOf (cleared w)) p, cleared-same w t low)
 
-      split : (k : ℕ) → T (inWord word base k) → T (not (inWord (cleared w t) base k)) → Dec (k ≡ base + t) → T (inWord word base k && not (inWord w base k)) ⊎ T (eqb (base + t) k)
+      split : (k : ℕ) → T (inWord word base k) → T (not (inWord (cleared w) base k)) → Dec (k ≡ base + t) → T (inWord word base k && not (inWord w base k)) ⊎ T (eqb (base + t) k)
       split k y n (yes p) = inr (eqb-of (base + t) k (sym p))
       split k y n (no d) =
           inl (and-make (inWord word base k) (not (inWord w base k)) y (not-T (inWord w base k) (λ z.
           let p = in-word w base k z in
-          T-not (inWord (cleared w t) base k) n
-          (word-in (cleared w t) base k (p .0) (cleared-other w t h (k - base) (λ q. d (omega (arith, q, p .0))) ∙ p .1)))))
+          T-not (inWord (cleared w) base k) n
+          (word-in (cleared w) base k (p .0) (cleared-other w t low (k - base) (λ q. d (omega (arith, q, p .0))) ∙ p .1)))))
 
   pub dropping-end : {w : ℕ} {after : List ℕ} → w ≡ 0 → Dropping edges word base before w after → Dropped edges (inWord word base) before after
   dropping-end {w} z d =

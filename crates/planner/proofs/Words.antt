@@ -31,7 +31,7 @@ use Rattle.sets.specs.Rows.{WordOf}
 use Rattle.sets.proofs.Tests.{and-make, and-left, and-right, or-right, or-cases, decide, T-ext, T-true, T-false, eqb-of}
 use Rattle.sets.proofs.Counting.{bit-true, bit-false}
 use Rattle.sets.proofs.Bits.{bitOf-lt, bitOf-none, bitOf-set-same, bitOf-set-other, bitOf-xor, bitAt-lt, bitAt-past, bitAt-zeros, shl-one, word-bit, zeros}
-use Rattle.sets.proofs.Lowest.{cleared, cleared-lt, cleared-le, cleared-same, cleared-other}
+use Rattle.sets.proofs.Lowest.{Lowest, cleared, cleared-lt, cleared-le, cleared-same, cleared-other}
 use Rattle.planner.specs.Held.{EdgeSet}
 
 pub lt-or-le : (a b : ℕ) → (a < b) ⊎ (b ≤ a)
@@ -183,17 +183,17 @@ module _ (word : ℕ) (f : ℕ → Bool) where
       none true = refl
       none false = refl
 
-  pub filtering-on : {w made : ℕ} (t x : ℕ) → t < 64 → bitOf w t ≡ 1 → x ≡ bit (f t) → Filtering word f w made
-      → Filtering word f (cleared w t) (bitOr made (x * 2 ^ t % 2 ^ 64))
-  filtering-on {w} {made} t x h e told r = record {
-    fits = cleared-lt w t h (r .fits);
-    sub = λ i. omega (arith, cleared-le w t h i, r .sub i);
+  pub filtering-on : {w made : ℕ} (t x : ℕ) → t < 64 → Lowest w t → x ≡ bit (f t) * 2 ^ t % 2 ^ 64 → Filtering word f w made → Filtering word f (cleared w) (bitOr made x)
+  filtering-on {w} {made} t x h low told r = record {
+    fits = cleared-lt w (r .fits);
+    sub = λ i. omega (arith, cleared-le w i, r .sub i);
     passed =
-        word-put made t (λ i. gone w i && f i) (λ i. gone (cleared w t) i && f i) h
-        (subst (λ (b : Bool). T (not (b && f t))) (sym (not-gone w t e)) tt)
-        (λ i d. ap (λ (y : ℕ). (eqb (bitOf word i) 1 && not (eqb y 1)) && f i) (cleared-other w t h i d))
-        (r .passed) x
-        (told ∙ sym (ap (λ (b : Bool). bit (b && f t)) (is-gone (cleared w t) t (omega (arith, r .sub t, e, bitOf-lt word t)) (cleared-same w t h))));
+        rw told
+        (word-put made t (λ i. gone w i && f i) (λ i. gone (cleared w) i && f i) h
+        (subst (λ (b : Bool). T (not (b && f t))) (sym (not-gone w t (low .here))) tt)
+        (λ i d. ap (λ (y : ℕ). (eqb (bitOf word i) 1 && not (eqb y 1)) && f i) (cleared-other w t low i d))
+        (r .passed) (bit (f t))
+        (sym (ap (λ (b : Bool). bit (b && f t)) (is-gone (cleared w) t (omega (arith, r .sub t, low .here, bitOf-lt word t)) (cleared-same w t low)))));
   }
 
   pub filtering-end : {w made : ℕ} → w ≡ 0 → Filtering word f w made → WordOf made (λ i. eqb (bitOf word i) 1 && f i)

@@ -89,7 +89,7 @@ fn drop_edges(edges: &[u8], word: u64, base: usize, table: &mut [u64], sizes: &m
         let e = ends_at(edges, base + k as usize);
         take_out(table, sizes, e.a, e.b);
         take_out(table, sizes, e.b, e.a);
-        w = w ^ (w & (1u64 << k));
+        w = w & (w - 1);
     }
 }
 
@@ -167,14 +167,15 @@ fn dissimilar_word<'a>(
     let mut dissimilar: u64 = 0;
     while w != 0 {
         let k = u64::trailing_zeros(w);
+        let rest = w & (w - 1);
         let e = ends_at(edges, base + k as usize);
         let one = if have_enough(table, sizes, e.a, e.b, p, q) {
             0u64
         } else {
-            1u64
+            w ^ rest
         };
-        dissimilar = dissimilar | (one << k);
-        w = w ^ (w & (1u64 << k));
+        dissimilar = dissimilar | one;
+        w = rest;
     }
     dissimilar
 }

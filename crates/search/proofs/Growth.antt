@@ -21,7 +21,7 @@ use Rattle.sets.specs.Below.{sum}
 use Rattle.sets.specs.Bits.{bitOf, bitAt, cell, withoutBit}
 use Rattle.sets.proofs.Tests.{below}
 use Rattle.sets.proofs.Counting.{sum-le}
-use Rattle.sets.proofs.Bits.{bitOf-none, bitOf-lt, bitAt-lt, bitOf-and, bitOf-or, bitOf-xor, word-bit, cell-word, zeros, bitAt-zeros, bitAt-clear-same, bitAt-clear-other}
+use Rattle.sets.proofs.Bits.{bitOf-none, bitOf-lt, bitAt-lt, bitOf-and, bitOf-or, bitOf-xor, differ-self, differ-none, word-bit, cell-word, zeros, bitAt-zeros, bitAt-clear-same, bitAt-clear-other}
 use Rattle.sets.proofs.Lowest.{Lowest, cleared, cleared-lt, cleared-le, cleared-other}
 use Rattle.search.specs.Held.{FirstCommon, Joined, JoinedAll, Stored, Collected}
 
@@ -217,16 +217,6 @@ module _ (table : List ℕ) (word base : ℕ) (s₀ : List ℕ) where
 
 -- ---- the numbers of one word that are in both the set and left are taken out of left
 
--- a bit that differs from itself, and from 0
-differ-self : (x : ℕ) → x < 2 → differ x x ≡ 0
-differ-self zero h = refl
-differ-self (suc zero) h = refl
-differ-self (suc (suc x)) h = absurd (omega arith)
-
-differ-none : (x : ℕ) → x < 2 → differ x 0 ≡ x
-differ-none zero h = refl
-differ-none (suc x) h = refl
-
 abbrev pub shared : List ℕ → List ℕ → ℕ → ℕ
 shared s left j = bitAnd (getD s j 0) (getD left j 0)
 
@@ -267,7 +257,7 @@ module _ (s left : List ℕ) (j : ℕ) (h : j < length left) where
   here-out : (x : ℕ) → x / 64 ≡ j → bitAt s x ≡ 0 → bitAt (without s left j) x ≡ bitAt left x
   here-out x e p =
       let q : min (bitAt s x) (bitAt left x) ≡ 0 = omega arith in
-      here x e ∙ ap (differ (bitAt left x)) q ∙ differ-none (bitAt left x) (bitAt-lt left x)
+      here x e ∙ ap (differ (bitAt left x)) q ∙ differ-none (bitAt left x)
 
   without-le : (x : ℕ) → bitAt (without s left j) x ≤ bitAt left x
   without-le x = pick (ℕ-discrete (x / 64) j) (ℕ-discrete (bitAt s x) 1)

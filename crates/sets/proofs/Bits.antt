@@ -1,6 +1,7 @@
 -- Bits of words and of lists of words: how `and`, `or` and `xor` act on them, one bit set or cleared, and the ones of a word as a sum of bits.
 --
 --     bitOf-and, bitOf-or, bitOf-xor      an operation on words works bit by bit; bitOf-none: 0 has no bit set
+--     differ-self, differ-none            a bit's `xor` with itself and with 0
 --     bitAt-set-same, bitAt-set-other     the words with bit i set
 --     bitAt-clear-same, bitAt-clear-other the words with bit i cleared
 --     shl-one                             how the code makes 2 ^ k; stored-with, stored-without: how it sets and clears bit i
@@ -89,25 +90,24 @@ differ-small (suc (suc x)) (suc y) h l = absurd (omega arith)
 pub bitOf-xor : (a b k : ℕ) → bitOf (bitXor a b) k ≡ differ (bitOf a k) (bitOf b k)
 bitOf-xor = op-bit bitXor differ xor-step xor-shr differ-small
 
-differ-self : (x : ℕ) → x < 2 → differ x (min x 1) ≡ 0
+-- a bit differs not from itself, and from 0 if it is 1
+pub differ-self : (x : ℕ) → x < 2 → differ x x ≡ 0
 differ-self zero h = refl
 differ-self (suc zero) h = refl
 differ-self (suc (suc x)) h = absurd (omega arith)
 
-differ-none : (x : ℕ) → x < 2 → differ x (min x 0) ≡ x
-differ-none zero h = refl
-differ-none (suc zero) h = refl
-differ-none (suc (suc x)) h = absurd (omega arith)
+pub differ-none : (x : ℕ) → differ x 0 ≡ x
+differ-none zero = refl
+differ-none (suc x) = refl
 
 clear-bit : (w k j : ℕ) → bitOf (bitXor w (bitAnd w (2 ^ k))) j ≡ differ (bitOf w j) (min (bitOf w j) (bitOf (2 ^ k) j))
 clear-bit w k j = bitOf-xor w (bitAnd w (2 ^ k)) j ∙ ap (differ (bitOf w j)) (bitOf-and w (2 ^ k) j)
 
 pub bitOf-clear-same : (w k : ℕ) → bitOf (bitXor w (bitAnd w (2 ^ k))) k ≡ 0
-bitOf-clear-same w k = clear-bit w k k ∙ ap (λ (b : ℕ). differ (bitOf w k) (min (bitOf w k) b)) (bitOf-pow-same k) ∙ differ-self (bitOf w k) (bitOf-lt w k)
+bitOf-clear-same w k = clear-bit w k k ∙ ap (differ (bitOf w k)) (omega (arith, bitOf-pow-same k, bitOf-lt w k)) ∙ differ-self (bitOf w k) (bitOf-lt w k)
 
 pub bitOf-clear-other : (w k j : ℕ) → (j ≡ k → ⊥) → bitOf (bitXor w (bitAnd w (2 ^ k))) j ≡ bitOf w j
-bitOf-clear-other w k j n =
-    clear-bit w k j ∙ ap (λ (b : ℕ). differ (bitOf w j) (min (bitOf w j) b)) (bitOf-pow-other k j n) ∙ differ-none (bitOf w j) (bitOf-lt w j)
+bitOf-clear-other w k j n = clear-bit w k j ∙ ap (differ (bitOf w j)) (omega (arith, bitOf-pow-other k j n)) ∙ differ-none (bitOf w j)
 
 -- ---- one bit of a list of words is set or cleared
 pub shl-one : (k : ℕ) → k < 64 → 1 * 2 ^ k % 2 ^ 64 ≡ 2 ^ k

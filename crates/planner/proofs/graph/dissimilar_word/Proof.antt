@@ -1,15 +1,18 @@
 -- `planner::graph::dissimilar_word` meets its contract. The word made has the bits that are no longer in w and whose edges do not have enough: a turn looks at the
 -- edge of the lowest set bit and clears the bit. The measure is how many bits are left.
-use Prim.Native.Nat.{ℕ, _+_, _<_}
+use Prim.Native.Nat.{ℕ, _+_, _*_, _%_, _^_, _<_}
 use native.Mathlib.Omega.{arith}
+use native.Mathlib.Nat.{zero-mul}
+use borrow.Author.Needs.{needs}
 use mathlib.Core.Path.{_≡_, sym, ap, ap₂, _∙_}
 use mathlib.Core.Logic.{⊎-elim}
 use mathlib.Core.Bool.{Bool, not}
 use lib.Count.{trailingZeros}
 use Rattle.sets.specs.Below.{sum, bit}
 use Rattle.sets.specs.Bits.{bitOf}
-use Rattle.sets.proofs.Bits.{bitOf-lt}
+use Rattle.sets.proofs.Bits.{bitOf-lt, shl-one}
 use Rattle.sets.proofs.Lowest.{Lowest, lowest, cleared-falls}
+use Rattle.sets.proofs.Words.{lowest-alone}
 use Rattle.image.specs.Image.{endA, endB}
 use Rattle.planner.specs.Held.{HasEnds, enough}
 use Rattle.planner.proofs.Words.{Filtering, filtering-start, filtering-on, filtering-end}
@@ -54,6 +57,9 @@ edge c =
     s .pre .5 (a .base + low c)
     (word-in-at (a .word) (a .base) (low c) (omega (arith, c .before .loop .inv .sub (low c), first c .1 .here, bitOf-lt (a .word) (low c))))
 
+sub-rest : tie.Need-sub-rest Inv-loop μ-loop
+sub-rest c = search needs
+
 cast-ends-at : tie.Need-cast-ends-at Inv-loop μ-loop
 cast-ends-at c = omega (arith, first c .0)
 
@@ -70,37 +76,27 @@ have-enough-requires c κs =
     (omega (arith, e .2, c .ends-at .ensures .0), omega (arith, e .3, c .ends-at .ensures .1), s .pre .1, s .pre .2, s .pre .3, s .pre .4)
 
 -- the bit is the test of the edge
-told : (c : tie.Joined1 Inv-loop μ-loop) → c .if1 .one ≡ bit (test (turn c .before) (low (turn c)))
+told : (c : tie.Joined1 Inv-loop μ-loop) → c .if1 .one ≡ bit (test (turn c .before) (low (turn c))) * 2 ^ low (turn c) % 2 ^ 64
 told c =
-    let a = start (turn c .before) .args in
+    let i = turn c in
+    let a = start (i .before) .args in
     let r = c .before .before .ends-at .ensures in
     let e = c .before .have-enough .ensures ∙ ap₂ (enough (a .table .now) (a .sizes .now) (a .p) (a .q)) (r .0) (r .1) in
+    let put : Bool → ℕ = λ b. bit (not b) * 2 ^ low i % 2 ^ 64 in
     ⊎-elim
-    (λ w. w .1 ∙ ap (λ (b : Bool). bit (not b)) (sym (w .0 .taken) ∙ e))
-    (λ w. w .1 ∙ ap (λ (b : Bool). bit (not b)) (sym (w .0 .left) ∙ e))
+    (λ w. w .1 ∙ sym (ap (λ (x : ℕ). x % 2 ^ 64) (zero-mul (2 ^ low i))) ∙ ap put (sym (w .0 .taken) ∙ e))
+    (λ w. w .1 ∙ lowest-alone (i .before .loop .w) (low i) (i .before .loop .inv .fits) (first i .0) (first i .1) ∙ sym (shl-one (low i) (first i .0)) ∙ ap put (sym (w .0 .left) ∙ e))
     (c .if1 .came)
-
-cast-dissimilar : tie.Need-cast-dissimilar Inv-loop μ-loop
-cast-dissimilar c = omega (arith, first (turn c) .0)
-
-shl-dissimilar : tie.Need-shl-dissimilar Inv-loop μ-loop
-shl-dissimilar c = omega (arith, first (turn (c .before)) .0)
-
-cast-w : tie.Need-cast-w Inv-loop μ-loop
-cast-w c = omega (arith, first (turn (c .before)) .0)
-
-shl-w : tie.Need-shl-w Inv-loop μ-loop
-shl-w c = omega (arith, first (turn (c .before)) .0)
 
 loop-less : tie.Need-loop-less Inv-loop μ-loop
 loop-less c =
     let i = turn (c .before) in
-    cleared-falls (i .before .loop .w) (low i) (first i .0) (first i .1 .here)
+    cleared-falls (i .before .loop .w) (low i) (first i .1) (first i .0)
 
 loop-again : tie.Need-loop-again Inv-loop μ-loop
 loop-again c =
     let i = turn (c .before) in
-    filtering-on (start (i .before) .args .word) (test (i .before)) (low i) (c .before .if1 .one) (first i .0) (first i .1 .here) (told (c .before)) (i .before .loop .inv)
+    filtering-on (start (i .before) .args .word) (test (i .before)) (low i) (c .before .if1 .one) (first i .0) (first i .1) (told (c .before)) (i .before .loop .inv)
 
 returns : tie.Need-returns Inv-loop μ-loop
 returns c = filtering-end (start (c .before) .args .word) (test (c .before)) (omega (arith, c .loop-test .left)) (c .before .loop .inv)
@@ -112,14 +108,11 @@ dissimilar-word-spec =
     Inv-loop
     μ-loop
     loop-holds
+    sub-rest
     cast-ends-at
     add-ends-at
     ends-at-requires
     have-enough-requires
-    cast-dissimilar
-    shl-dissimilar
-    cast-w
-    shl-w
     loop-less
     loop-again
     returns)

@@ -2,6 +2,7 @@
 -- bit and clears the bit. The measure is how many bits are left.
 use Prim.Native.Nat.{ℕ, _+_, _*_, _<_}
 use native.Mathlib.Omega.{arith}
+use borrow.Author.Needs.{needs}
 use mathlib.Core.Path.{sym, ap, ap₂, _∙_, subst}
 use mathlib.Core.List.{List}
 use lib.Count.{trailingZeros}
@@ -81,16 +82,13 @@ take-out-requires-2 c κs =
     let i = turn d .before .loop .inv in
     (omega (arith, e), omega (arith, e), (d .take-out .kept .0 ∙ i .1 .0, d .take-out .kept .1 .0 ∙ i .1 .1), d .take-out .ensures .1)
 
-cast-w : tie.Need-cast-w Inv-loop μ-loop
-cast-w c = omega (arith, first (turn (once (both c .before))) .0)
-
-shl-w : tie.Need-shl-w Inv-loop μ-loop
-shl-w c = omega (arith, first (turn (once (both c .before))) .0)
+sub-w : tie.Need-sub-w Inv-loop μ-loop
+sub-w c = search needs
 
 loop-less : tie.Need-loop-less Inv-loop μ-loop
 loop-less c =
     let i = turn (once (both c .before)) in
-    cleared-falls (i .before .loop .w) (low i) (first i .0) (first i .1 .here)
+    cleared-falls (i .before .loop .w) (low i) (first i .1) (first i .0)
 
 loop-again : tie.Need-loop-again Inv-loop μ-loop
 loop-again c =
@@ -102,11 +100,11 @@ loop-again c =
     let r = o .before .before .before .ends-at in
     let e = edge i in
     let k : ℕ = a .base + low i in (
-      subst (λ (ws : List ℕ). Dropping (a .edges .now) (a .word) (a .base) (a .table .now) (cleared (l .w) (low i)) ws)
+      subst (λ (ws : List ℕ). Dropping (a .edges .now) (a .word) (a .base) (a .table .now) (cleared (l .w)) ws)
           (sym (d .take-out2 .ensures .0
           ∙ ap (λ (ws : List ℕ). withoutBit ws (r .result .b * 512 + r .result .a)) (o .take-out .ensures .0)
           ∙ ap₂ (λ (x y : ℕ). withoutBit (withoutBit (l .table) (x * 512 + y)) (y * 512 + x)) (r .ensures .0) (r .ensures .1)))
-          (dropping-on (a .edges .now) (a .word) (a .base) (a .table .now) (low i) (first i .0) (first i .1 .here) (e .2) (e .3) (l .inv .1 .0) (l .inv .0)),
+          (dropping-on (a .edges .now) (a .word) (a .base) (a .table .now) (low i) (first i .1) (e .2) (e .3) (l .inv .1 .0) (l .inv .0)),
       (d .take-out2 .kept .0 ∙ o .take-out .kept .0 ∙ l .inv .1 .0, d .take-out2 .kept .1 .0 ∙ o .take-out .kept .1 .0 ∙ l .inv .1 .1),
       d .take-out2 .ensures .1,
     )
@@ -135,8 +133,7 @@ drop-edges-spec =
     ends-at-requires
     take-out-requires
     take-out-requires-2
-    cast-w
-    shl-w
+    sub-w
     loop-less
     loop-again
     same-length
