@@ -13,11 +13,11 @@ ghost use Rattle.sets.specs.Below.{find};
 ghost use Rattle.sets.specs.Bits.{cell, withBit};
 ghost use Rattle.sets.specs.Rows.{Table, Counted};
 ghost use Rattle.fields.specs.Fields.{handsetBytes, edgeBytes};
-ghost use Rattle.image.specs.Image.{gap, distanceBetween};
-ghost use Rattle.image.specs.Questions.{headerOf, countsFit, thresholdsFit, tablesFit, inLimits, outOfLimits, ask, askEdges, askRecords, askHeader, openOf, refusalOf};
+ghost use Rattle.image.specs.Image.{headerOf, gap, distanceBetween};
+ghost use Rattle.image.specs.Questions.{countsFit, thresholdsFit, tablesFit, inLimits, outOfLimits, ask, askEdges, askRecords, askHeader, askImage, openOf, refusalOf};
 ghost use Rattle.image.specs.Answers.{openAnswer};
 ghost use Rattle.image.specs.Rows.{Room, Cleared, related, Held, Reading};
-ghost use Rattle.image.specs.Scan.{openHeader, badRecord, Stand, linked, Added};
+ghost use Rattle.image.specs.Scan.{badRecord, Stand, linked, Added};
 
 // How far from 0 a coordinate may be.
 const COORDINATE_LIMIT: u64 = 1000000;
@@ -319,7 +319,7 @@ fn ask_tables(image: &[u8], h: Header, rows: &mut [u64], sizes: &mut [u32]) -> O
 
 // Puts questions 1 to 6 to an image, in order, and stops at the first no: an image that gets a yes to all has both tables in it.
 fn open_header(image: &[u8]) -> Opened
-    ensures { λ r. ⌜ r ≡ openHeader (now (image .entry)) ⌝ }
+    ensures { λ r. ⌜ r ≡ askImage (now (image .entry)) (Opened.Site (headerOf (now (image .entry)))) ⌝ }
 {
     if image.len() < 32 {
         return refused(1, 0);
