@@ -14,7 +14,7 @@ use lib.Dec.{ltb, eqb}
 use lib.ListN.{length, replicate}
 use Rattle.sets.specs.Bits.{Words}
 use Rattle.sets.specs.Rows.{Table, Counted}
-use Rattle.image.specs.Image.{headerOf, handsetCount, adjacent}
+use Rattle.image.specs.Image.{handsetCount, adjacent}
 use Rattle.image.specs.Questions.{openOf}
 use Rattle.image.specs.Answers.{openAnswer}
 use Rattle.image.specs.declared.Header.{Header}
@@ -23,7 +23,7 @@ use Rattle.image.specs.declared.Opened.{Opened}
 use Rattle.image.specs.declared.Opened.the-variants.{Site, Refused}
 
 unfoldable pub related : List ℕ → ℕ → ℕ → Bool
-unfolding headerOf adjacent
+unfolding adjacent
 related s u v = (ltb u (handsetCount s) && eqb u v) || adjacent s u v
 
 abbrev pub Room : List ℕ → List ℕ → Type 0

@@ -144,7 +144,7 @@ fn out_of_limits(handset: &[u8]) -> bool
 }
 
 // The ends of edge k, whose record stands in the part.
-fn edge_ends(part: &[u8], k: usize) -> fields::Ends
+fn ends_at(part: &[u8], k: usize) -> fields::Ends
     requires { ⌜ edgeBytes * (k + 1) ≤ length (now part) ⌝ }
     ensures { λ r. ⌜ r ≡ record { a = endA (now (part .entry)) k; b = endB (now (part .entry)) k } ⌝ }
 {
@@ -163,7 +163,7 @@ fn is_bad_record(question: u32, part: &[u8], n: usize, k: usize) -> bool
         let past = at + fields::HANDSET_BYTES;
         return out_of_limits(&part[at..past]);
     }
-    let e = edge_ends(part, k);
+    let e = ends_at(part, k);
     if question == 8 {
         return !((e.a < n) & (e.b < n));
     }
@@ -229,7 +229,8 @@ fn add(rows: &mut [u64], sizes: &mut [u32], u: usize, v: usize)
     ensures counted { λ _. ⌜ Counted (now (rows .exit)) (now (sizes .exit)) ⌝ }
 {
     sizes[u] = sizes[u] + 1;
-    rows[(u * 512 + v) / 64] = rows[(u * 512 + v) / 64] | (1u64 << ((u * 512 + v) % 64));
+    let i = u * 512 + v;
+    rows[i / 64] = rows[i / 64] | (1u64 << (i % 64));
 }
 
 // Adds each of the first n handsets to its own row of a cleared table.
@@ -253,7 +254,7 @@ fn add_edges(part: &[u8], m: usize, n: usize, rows: &mut [u64], sizes: &mut [u32
 {
     let mut k: usize = 0;
     while k < m {
-        let e = edge_ends(part, k);
+        let e = ends_at(part, k);
         if !((e.a < n) & (e.b < n)) {
             return k;
         }

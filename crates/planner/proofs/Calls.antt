@@ -20,8 +20,8 @@ use Rattle.sets.proofs.Tests.{T-true, T-false}
 use Rattle.sets.proofs.Bits.{zeros, bitAt-zeros}
 use Rattle.sets.proofs.Counting.{count-le}
 use Rattle.sets.proofs.Selecting.{length-select}
-use Rattle.image.specs.Image.{handsetCount}
-use Rattle.image.specs.Questions.{Accepted, openOf, headerOf, refusalOf}
+use Rattle.image.specs.Image.{headerOf, handsetCount}
+use Rattle.image.specs.Questions.{Accepted, openOf, refusalOf}
 use Rattle.image.specs.Rows.{Room, related, Reading}
 use Rattle.image.specs.declared.Header.{Header}
 use Rattle.image.specs.declared.Refusal.{Refusal}
@@ -54,7 +54,6 @@ pub record Ready (s : List ℕ) (h : Header) (rows sizes : List ℕ) : Type 0 wh
   pub counted : Counted rows sizes
 
 pub ready-count : {s : List ℕ} {h : Header} {rows sizes : List ℕ} → Ready s h rows sizes → h .n ≡ handsetCount s
-unfolding headerOf
 ready-count r = ap (λ (x : Header). x .n) (r .header)
 
 module _ {s : List ℕ} {a : Opened} {rows sizes : List ℕ} (r : Reading s a rows sizes) where
@@ -89,7 +88,6 @@ module _ (s : List ℕ) (r : Refusal) (e : openOf s ≡ O.Refused r) where
 -- ---- an accepted image
 module _ (s : List ℕ) (ok : Accepted s) where
   pub handsets-most : network s .n ≤ 512
-  unfolding headerOf
   handsets-most = accepted-fits s ok .n-limit
 
   pub groups-most : {rows : List ℕ} {k : ℕ} → Grouped (network s) rows k → k ≤ 512
@@ -118,11 +116,11 @@ module _ (s : List ℕ) (ok : Accepted s) where
       }
 
   pub cores-found : {ws : List ℕ} → SetOf ws (coreIn (network s)) → CoreWords s ws
-  unfolding coreIn headerOf
+  unfolding coreIn
   cores-found c = record { size = c .size; bits = λ v h. c .bits v h ∙ sym (ap (λ (o : Opened). bit (coreFor s o v)) (opened s ok)) }
 
   pub known-past : (v : ℕ) → handsetCount s ≤ v → K.Refused (refusal 13) ≡ knownOf s v
-  unfolding knownOf headerOf
+  unfolding knownOf
   known-past v h =
       sym (ap (λ (o : Opened). knownFor s o v) (opened s ok)
       ∙ ap (λ (b : Bool). cond b (K.Handset (standing s v)) (K.Refused (refusal 13)))
@@ -148,7 +146,7 @@ module _ (s : List ℕ) (ok : Accepted s) where
 
   pub known-found : (v : ℕ) → v < handsetCount s → (x : Standing) → x .neighbours ≡ neighbourhoodSize (network s) v → x .role ≡ role (network s) v
       → K.Handset x ≡ knownOf s v
-  unfolding knownOf standing headerOf
+  unfolding knownOf standing
   known-found v h x p q =
       (λ i. K.Handset (record { neighbours = p i; role = q i }))
       ∙ sym (ap (λ (o : Opened). knownFor s o v) (opened s ok)

@@ -34,11 +34,11 @@ abbrev start : tie.At-loop Inv-loop μ-loop → tie.Start Inv-loop μ-loop
 start c = c .before .before .before .before
 
 -- the ends are read
-abbrev loop : tie.After-edge-ends Inv-loop μ-loop → tie.At-loop Inv-loop μ-loop
+abbrev loop : tie.After-ends-at Inv-loop μ-loop → tie.At-loop Inv-loop μ-loop
 loop c = c .before .before
 
 -- both are handsets; the edge is at no fault; the first cell is set; the second is; the table is back
-abbrev read : tie.Else1 Inv-loop μ-loop → tie.After-edge-ends Inv-loop μ-loop
+abbrev read : tie.Else1 Inv-loop μ-loop → tie.After-ends-at Inv-loop μ-loop
 read c = c .before .before .before
 
 abbrev good : tie.Else2 Inv-loop μ-loop → tie.Else1 Inv-loop μ-loop
@@ -54,24 +54,24 @@ abbrev both : tie.After-slice-known6 Inv-loop μ-loop → tie.After-add2 Inv-loo
 both c = c .before .before .before .before
 
 -- ---- their parts
-abbrev edges : tie.After-edge-ends Inv-loop μ-loop → List ℕ
+abbrev edges : tie.After-ends-at Inv-loop μ-loop → List ℕ
 edges c = start (loop c) .args .part .now
 
-abbrev count : tie.After-edge-ends Inv-loop μ-loop → ℕ
+abbrev count : tie.After-ends-at Inv-loop μ-loop → ℕ
 count c = start (loop c) .args .n
 
-abbrev u-of : tie.After-edge-ends Inv-loop μ-loop → ℕ
-u-of c = c .edge-ends .result .a
+abbrev u-of : tie.After-ends-at Inv-loop μ-loop → ℕ
+u-of c = c .ends-at .result .a
 
-abbrev v-of : tie.After-edge-ends Inv-loop μ-loop → ℕ
-v-of c = c .edge-ends .result .b
+abbrev v-of : tie.After-ends-at Inv-loop μ-loop → ℕ
+v-of c = c .ends-at .result .b
 
 -- ---- the ends of the edge
-u-is : (c : tie.After-edge-ends Inv-loop μ-loop) → u-of c ≡ endA (edges c) (loop c .loop .k)
-u-is c = ap (λ (e : Ends). e .a) (c .edge-ends .ensures)
+u-is : (c : tie.After-ends-at Inv-loop μ-loop) → u-of c ≡ endA (edges c) (loop c .loop .k)
+u-is c = ap (λ (e : Ends). e .a) (c .ends-at .ensures)
 
-v-is : (c : tie.After-edge-ends Inv-loop μ-loop) → v-of c ≡ endB (edges c) (loop c .loop .k)
-v-is c = ap (λ (e : Ends). e .b) (c .edge-ends .ensures)
+v-is : (c : tie.After-ends-at Inv-loop μ-loop) → v-of c ≡ endB (edges c) (loop c .loop .k)
+v-is c = ap (λ (e : Ends). e .b) (c .ends-at .ensures)
 
 good-end : (c : tie.Else1 Inv-loop μ-loop) → badEnd (edges (read c)) (count (read c)) (loop (read c) .loop .k) ≡ false
 good-end c =
@@ -105,8 +105,8 @@ empty c = zero-is _ (bitAt-lt (loop (read (good c)) .loop .rows) _) (sym (c .bef
 loop-holds : tie.Need-loop-holds Inv-loop μ-loop
 loop-holds c = let s = c .before .before .before in (omega arith, scan-none _, s .pre .2, linked-none (s .args .n) (s .args .part .now) (s .pre .3), s .pre .4)
 
-edge-ends-requires : tie.Need-edge-ends-requires Inv-loop μ-loop
-edge-ends-requires c κs = omega (arith, start (c .before) .pre .1, c .loop-test .taken)
+ends-at-requires : tie.Need-ends-at-requires Inv-loop μ-loop
+ends-at-requires c κs = omega (arith, start (c .before) .pre .1, c .loop-test .taken)
 
 same-length : tie.Need-same-length Inv-loop μ-loop
 same-length c = let at = loop (c .before .before .before) in at .loop .inv .2 .0 ∙ sym (start at .pre .2 .0)
@@ -200,7 +200,7 @@ add-edges-spec =
     Inv-loop
     μ-loop
     loop-holds
-    edge-ends-requires
+    ends-at-requires
     same-length
     same-length-2
     returns

@@ -18,7 +18,7 @@ use Rattle.image.proofs.is_bad_record.Tie as tie
 abbrev start : tie.After-shared-slice-known → tie.Start
 start c = c .before
 
-abbrev asked : tie.After-edge-ends → tie.After-shared-slice-known
+abbrev asked : tie.After-ends-at → tie.After-shared-slice-known
 asked c = c .before .before
 
 -- the record stands in the part
@@ -49,8 +49,8 @@ returns c =
     let a = start (t .before) .args in
     c .out-of-limits .ensures ∙ ap outOfLimits (handset-part (a .part .now) (a .k)) ∙ sym (bad-handset (a .question) (a .part .now) (a .n) (a .k) (t .if1 .taken))
 
-edge-ends-requires : tie.Need-edge-ends-requires
-edge-ends-requires c κs = start (c .before) .pre .edges (c .if1 .left)
+ends-at-requires : tie.Need-ends-at-requires
+ends-at-requires c κs = start (c .before) .pre .edges (c .if1 .left)
 
 returns-2 : tie.Need-returns-2
 unfolding badEnd
@@ -58,7 +58,7 @@ returns-2 c =
     let t = c .before .before in
     let r = t .before in
     let a = start (asked r) .args in
-    ap (λ (e : Ends). not (ltb (e .a) (a .n) && ltb (e .b) (a .n))) (r .edge-ends .ensures) ∙ sym (bad-end (a .question) (a .part .now) (a .n) (a .k) (t .if2 .taken))
+    ap (λ (e : Ends). not (ltb (e .a) (a .n) && ltb (e .b) (a .n))) (r .ends-at .ensures) ∙ sym (bad-end (a .question) (a .part .now) (a .n) (a .k) (t .if2 .taken))
 
 returns-3 : tie.Need-returns-3
 unfolding isLoop
@@ -66,7 +66,7 @@ returns-3 c =
     let t = c .before in
     let r = t .before in
     let a = start (asked r) .args in
-    ap (λ (e : Ends). eqb (e .a) (e .b)) (r .edge-ends .ensures) ∙ sym (bad-loop (a .question) (a .part .now) (a .n) (a .k) (r .before .if1 .left) (t .if2 .left))
+    ap (λ (e : Ends). eqb (e .a) (e .b)) (r .ends-at .ensures) ∙ sym (bad-loop (a .question) (a .part .now) (a .n) (a .k) (r .before .if1 .left) (t .if2 .left))
 
 pub is-bad-record-spec : {M : Type 1} → statement M
 is-bad-record-spec =
@@ -79,6 +79,6 @@ is-bad-record-spec =
     part-out-of-limits-end
     out-of-limits-requires
     returns
-    edge-ends-requires
+    ends-at-requires
     returns-2
     returns-3)

@@ -1,7 +1,7 @@
 -- `planner::graph::keep_neighbours` meets its contract. The parts handed on are the records of the image, so the edges dropped are just those whose ends are not
 -- within gamma; without them the table of all edges is that of the neighbour relation.
 use native.Mathlib.Omega.{arith}
-use Rattle.planner.proofs.GraphLaws.{Read, header-is, checked-of, handsetPart-length, edges-ready, handsets-there, neighbours-kept}
+use Rattle.planner.proofs.GraphLaws.{Read, header-is, handsetPart-length, edges-ready, handsets-there, neighbours-kept}
 use Rattle.planner.proofs.graph.keep_neighbours.Statement.{statement}
 use Rattle.planner.proofs.graph.keep_neighbours.Tie as tie
 
@@ -19,7 +19,7 @@ abbrev done : tie.After-slice-known6 → tie.After-drop-long
 done c = c .before .before .before .before .before .before
 
 facts : (c : tie.Start) → Read (c .args .image .now) (c .args .h)
-facts c = header-is (c .args .image .now) (c .args .h) (checked-of (c .pre .0)) (c .pre .1)
+facts c = header-is (c .args .image .now) (c .args .h) (c .pre .0) (c .pre .1)
 
 cast-m : tie.Need-cast-m
 cast-m c = omega arith

@@ -1,7 +1,7 @@
 -- `planner::graph::keep_similar` meets its contract. The edges dropped are just those of the neighbour table whose ends are not similar; without them the table
 -- is that of the similarity relation, and its sizes tell the cores.
 use native.Mathlib.Omega.{arith}
-use Rattle.planner.proofs.GraphLaws.{Read, header-is, checked-of, short-ready, dissimilar-ready, surveyed}
+use Rattle.planner.proofs.GraphLaws.{Read, header-is, short-ready, dissimilar-ready, surveyed}
 use Rattle.planner.proofs.graph.keep_similar.Statement.{statement}
 use Rattle.planner.proofs.graph.keep_similar.Tie as tie
 
@@ -25,7 +25,7 @@ abbrev sized : tie.After-mark-cores-arg2 → tie.After-struct-known3
 sized c = c .before .before
 
 facts : (c : tie.Start) → Read (c .args .image .now) (c .args .h)
-facts c = header-is (c .args .image .now) (c .args .h) (checked-of (c .pre .0)) (c .pre .1)
+facts c = header-is (c .args .image .now) (c .args .h) (c .pre .0) (c .pre .1)
 
 cast-m : tie.Need-cast-m
 cast-m c = omega arith

@@ -1,10 +1,10 @@
--- `image::edge_ends` meets its contract: the two numbers of a record are those at its place in the part.
+-- `image::ends_at` meets its contract: the two numbers of a record are those at its place in the part.
 use mathlib.Core.Path.{_∙_}
 use native.Mathlib.Omega.{arith}
 use borrow.Author.Needs.{needs}
 use Rattle.image.proofs.Records.{ends-part}
-use Rattle.image.proofs.edge_ends.Statement.{statement}
-use Rattle.image.proofs.edge_ends.Tie as tie
+use Rattle.image.proofs.ends_at.Statement.{statement}
+use Rattle.image.proofs.ends_at.Tie as tie
 
 mul-at : tie.Need-mul-at
 mul-at c = search needs
@@ -27,8 +27,8 @@ read-ends-requires c κs = search needs
 returns : tie.Need-returns
 returns c = let s = c .before .before .before in c .read-ends .ensures ∙ ends-part (s .args .part .now) (s .args .k) (omega (arith, s .pre))
 
-pub edge-ends-spec : {M : Type 1} → statement M
-edge-ends-spec =
+pub ends-at-spec : {M : Type 1} → statement M
+ends-at-spec =
     tie.close
     (tie.spec
     mul-at
