@@ -1,13 +1,13 @@
 -- The examples of paper 01: the definitions compute to what the paper says.
 use mathlib.Core.Path.{refl}
-use Rattle.image.specs.Image.{neighbour, handsetCount, epsilonNum, epsilonDen, mu}
-use Rattle.image.specs.Questions.{openOf, headerOf}
+use Rattle.image.specs.Image.{headerOf, neighbour, mu}
+use Rattle.image.specs.Questions.{openOf}
 use Rattle.community.specs.Network.{neighbourhoodSize, commonNeighbours, similar, cores, communities, role}
 use Rattle.community.specs.Tables.{startTable}
 use Rattle.community.specs.Examples.{Examples}
 
 pub examples : Examples
-unfolding openOf headerOf neighbour handsetCount epsilonNum epsilonDen mu neighbourhoodSize commonNeighbours similar cores communities role startTable
+unfolding openOf headerOf neighbour mu neighbourhoodSize commonNeighbours similar cores communities role startTable
 examples = record {
   accepted-S = refl;
   cores-mu4 = refl;

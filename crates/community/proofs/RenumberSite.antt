@@ -22,10 +22,10 @@ use Rattle.sets.proofs.Counting.{to-apart, inverse, count-le, sum-across}
 use Rattle.fields.specs.Bytes.{number}
 use Rattle.fields.specs.Fields.{handsetBytes, coreSize}
 use Rattle.fields.proofs.Bytes.{number-cong}
-use Rattle.image.specs.Image.{handsetCount, edgeCount, handsetOffset, edgeOffset, imageLength, limitSquared, epsilonNum, epsilonDen, muField, mu, reserved, handsetRecords, edgeRecords, handsetRecord, distanceSquared, endA, endB, joins, adjacent, within, neighbour}
-use Rattle.image.specs.Questions.{reservedValue, headerOf, outOfLimits, badEnd, isLoop, repeatsEarlier, Accepted}
+use Rattle.image.specs.Image.{headerOf, handsetCount, edgeCount, limitSquared, epsilonNum, epsilonDen, mu, handsetRecords, edgeRecords, handsetRecord, distanceSquared, endA, endB, joins, adjacent, within, neighbour}
+use Rattle.image.specs.Questions.{outOfLimits, badEnd, isLoop, repeatsEarlier, HeaderAccepted, Accepted}
 use Rattle.image.specs.declared.Header.{Header}
-use Rattle.image.proofs.Acceptance.{Fits, accepted-fits, length-is, handsets-length, ends-below}
+use Rattle.image.proofs.Acceptance.{handsets-length, ends-below}
 use Rattle.community.specs.Network.{Network, IsCommunity, isLeader, reachable, communities, role, neighbourhoodSize}
 use Rattle.community.specs.Tables.{memberTable}
 use Rattle.community.specs.Site.{network}
@@ -39,14 +39,14 @@ use Rattle.community.proofs.Roles.{role-moved}
 
 module _ (s t : List ℕ) (r : Renumbered s t) (ok : Accepted s) where
   long : 32 ≤ length s
-  long = leb→le 32 (length s) (ok .q1)
+  long = leb→le 32 (length s) (ok .header .q1)
 
   -- ---- the header's numbers
   head : (w a : ℕ) → a + w ≤ 32 → number w t a ≡ number w s a
   head w a h = number-cong w s t a a (omega (arith, long)) (omega (arith, long, r .same-length)) (λ i l. r .header (a + i) (omega arith))
 
   same-header : headerOf t ≡ headerOf s
-  unfolding headerOf handsetCount edgeCount handsetOffset edgeOffset imageLength limitSquared epsilonNum epsilonDen muField reserved
+  unfolding headerOf
   same-header = λ i. record {
     n = head 2 0 (omega arith) i;
     m = head 2 2 (omega arith) i;
@@ -61,28 +61,25 @@ module _ (s t : List ℕ) (r : Renumbered s t) (ok : Accepted s) where
   }
 
   pub same-handsets : handsetCount t ≡ handsetCount s
-  unfolding headerOf
   same-handsets = ap (λ (h : Header). h .n) same-header
 
   same-edges : edgeCount t ≡ edgeCount s
-  unfolding headerOf
   same-edges = ap (λ (h : Header). h .m) same-header
 
   same-limit : limitSquared t ≡ limitSquared s
-  unfolding headerOf
   same-limit = ap (λ (h : Header). h .limit) same-header
 
+  header-t : HeaderAccepted t
+  header-t = record {
+    q1 = rw (r .same-length) (ok .header .q1);
+    q2 = rw (same-header, r .same-length) (ok .header .q2);
+    q3 = rw same-header (ok .header .q3);
+    q4 = rw same-header (ok .header .q4);
+    q5 = rw same-header (ok .header .q5);
+    q6 = rw same-header (ok .header .q6);
+  }
+
   -- ---- handset records
-  fits : Fits (headerOf s)
-  fits = accepted-fits s ok
-
-  fits-t : Fits (headerOf t)
-  fits-t = subst Fits (sym same-header) fits
-
-  length-t : imageLength t ≡ length t
-  unfolding headerOf
-  length-t = ap (λ (h : Header). h .len) same-header ∙ length-is s ok ∙ sym (r .same-length)
-
   record-long : (part : List ℕ) (v : ℕ) → length part ≡ handsetBytes * handsetCount s → v < handsetCount s → length (handsetRecord part v) ≡ handsetBytes
   unfolding handsetRecord
   record-long part v e h = simp (length-take, length-drop) (omega arith)
@@ -94,8 +91,8 @@ module _ (s t : List ℕ) (r : Renumbered s t) (ok : Accepted s) where
   record-moved : (v : ℕ) → v < handsetCount s → handsetRecord (handsetRecords t) (r .map .to v) ≡ handsetRecord (handsetRecords s) v
   record-moved v h =
       let to = r .map .to v in
-      let long-t = record-long (handsetRecords t) to (handsets-length t fits-t length-t ∙ ap (λ (n : ℕ). handsetBytes * n) same-handsets) (r .map .to-below v h) in
-      let long-s = record-long (handsetRecords s) v (handsets-length s fits (length-is s ok)) h in
+      let long-t = record-long (handsetRecords t) to (handsets-length t header-t ∙ ap (λ (n : ℕ). handsetBytes * n) same-handsets) (r .map .to-below v h) in
+      let long-s = record-long (handsetRecords s) v (handsets-length s (ok .header)) h in
       ext-getD 0 (handsetRecord (handsetRecords t) to) (handsetRecord (handsetRecords s) v) (long-t ∙ sym long-s)
       (λ i l. let k : i < handsetBytes = omega (arith, long-t, l) in
       record-at (handsetRecords t) to i k ∙ r .records v i h k ∙ sym (record-at (handsetRecords s) v i k))
@@ -164,12 +161,11 @@ module _ (s t : List ℕ) (r : Renumbered s t) (ok : Accepted s) where
       (within-moved u v hu hv))
 
   pub network-moved : network t ≡ withNeighbour (network s) (neighbour t)
-  unfolding headerOf mu
+  unfolding mu
   network-moved = ap (λ (h : Header). record { n = h .n; neighbour = neighbour t; p = h .p; q = h .q; mu = coreSize (h .mu) }) same-header
 
   sound-t : Sound (withNeighbour (network s) (neighbour t))
-  unfolding headerOf
-  sound-t = subst Sound network-moved (network-sound t (fits-t .p-q))
+  sound-t = subst Sound network-moved (network-sound t (subst (λ (h : Header). h .p ≤ h .q) (sym same-header) (accepted-sound s ok .at-most-one)))
 
   -- ---- questions 7 to 10
   not-not : (b : Bool) → (T (not b) → ⊥) → T b
@@ -254,14 +250,8 @@ module _ (s t : List ℕ) (r : Renumbered s t) (ok : Accepted s) where
       differ i k l e = omega arith
 
   pub accepted-too : Accepted t
-  unfolding headerOf
   accepted-too = record {
-    q1 = rw (r .same-length) (ok .q1);
-    q2 = subst T (ap₂ eqb (sym (ap (λ (h : Header). h .len) same-header)) (sym (r .same-length))) (ok .q2);
-    q3 = rw same-header (ok .q3);
-    q4 = subst T (ap (λ (x : ℕ). eqb x reservedValue) (sym (ap (λ (h : Header). h .reserved) same-header))) (ok .q4);
-    q5 = rw same-header (ok .q5);
-    q6 = rw same-header (ok .q6);
+    header = header-t;
     q7 = limits;
     q8 = good-ends;
     q9 = no-loop;

@@ -8,8 +8,8 @@ use lib.Dec.{T, leb, eqb, eqb-refl}
 use Rattle.sets.proofs.Tests.{or-left, eqb-comm, any-cong}
 use Rattle.sets.proofs.Counting.{sum-cong}
 use Rattle.fields.specs.Fields.{coordinateCount, coreSize}
-use Rattle.image.specs.Image.{gap, gapSquared, coordinateOf, distanceBetween, distanceSquared, handsetRecords, handsetRecord, edgeRecords, joins, adjacent, within, edgeCount, neighbour, limitSquared, epsilonNum, epsilonDen, mu, muField}
-use Rattle.image.specs.Questions.{Accepted, headerOf}
+use Rattle.image.specs.Image.{headerOf, gap, gapSquared, coordinateOf, distanceBetween, distanceSquared, handsetRecords, handsetRecord, edgeRecords, joins, adjacent, within, edgeCount, neighbour, limitSquared, epsilonNum, epsilonDen, mu}
+use Rattle.image.specs.Questions.{Accepted}
 use Rattle.image.proofs.Edges.{joins-comm}
 use Rattle.image.proofs.Acceptance.{accepted-fits}
 use Rattle.community.specs.Site.{network}
@@ -47,8 +47,7 @@ core-size-some (suc m) = omega arith
 pub network-sound : (s : List ℕ) → epsilonNum s ≤ epsilonDen s → Sound (network s)
 unfolding mu
 network-sound s h =
-    record { neighbour-self = λ u v t. neighbour-self s u; neighbour-sym = neighbour-comm s; at-most-one = h; mu-some = core-size-some (muField s) }
+    record { neighbour-self = λ u v t. neighbour-self s u; neighbour-sym = neighbour-comm s; at-most-one = h; mu-some = core-size-some (headerOf s .mu) }
 
 pub accepted-sound : (s : List ℕ) → Accepted s → Sound (network s)
-unfolding headerOf
 accepted-sound s a = network-sound s (accepted-fits s a .p-q)

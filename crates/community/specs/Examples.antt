@@ -3,8 +3,8 @@ use Prim.Native.Nat.{ℕ, _/_, _%_}
 use mathlib.Core.Path.{_≡_}
 use mathlib.Core.Bool.{true, false}
 use mathlib.Core.List.{List, [], _∷_}
-use Rattle.image.specs.Image.{neighbour}
-use Rattle.image.specs.Questions.{openOf, headerOf}
+use Rattle.image.specs.Image.{headerOf, neighbour}
+use Rattle.image.specs.Questions.{openOf}
 use Rattle.image.specs.declared.Opened.the-variants.{Site}
 use Rattle.community.specs.Network.{neighbourhoodSize, commonNeighbours, similar, cores, communities, role}
 use Rattle.community.specs.Tables.{startTable}

@@ -29,7 +29,7 @@ abbrev pub everyEdge : ℕ → Bool
 everyEdge k = true
 
 unfoldable pub joinedBy : List ℕ → (ℕ → Bool) → ℕ → ℕ → Bool
-unfolding any joins edgeCount edgeRecords
+unfolding any joins edgeRecords
 joinedBy s test u v = any (edgeCount s) (λ k. test k && joins (edgeRecords s) u v k)
 
 unfoldable pub joinedPairs : List ℕ → (ℕ → Bool) → List ℕ → ℕ
@@ -40,5 +40,5 @@ abbrev pub justOne : Bool → Bool → Bool
 justOne a b = (a && not b) || (b && not a)
 
 unfoldable pub leaving : List ℕ → (ℕ → Bool) → List ℕ → ℕ
-unfolding count contains edgeCount edgeRecords endA endB
+unfolding count contains edgeRecords endA endB
 leaving s test l = count (edgeCount s) (λ k. test k && justOne (contains (endA (edgeRecords s) k) l) (contains (endB (edgeRecords s) k) l))

@@ -12,7 +12,7 @@ use Rattle.sets.proofs.Tests.{T-true}
 use Rattle.sets.proofs.Counting.{inverse}
 use Rattle.image.specs.Image.{handsetCount}
 use Rattle.image.specs.Answers.{refusal}
-use Rattle.image.specs.Questions.{Accepted, headerOf}
+use Rattle.image.specs.Questions.{Accepted}
 use Rattle.image.specs.declared.Opened.{Opened}
 use Rattle.image.proofs.Acceptance.{opened}
 use Rattle.community.specs.Network.{isCore, IsCommunity}
@@ -156,7 +156,7 @@ room-of s ss ms ss′ ms′ g c ok call =
 -- ---- the role call
 
 known : (s : List ℕ) (v : ℕ) → Accepted s → v < handsetCount s → knownOf s v ≡ Handset (standing s v)
-unfolding knownOf headerOf
+unfolding knownOf
 known s v ok h =
     ap (λ (o : Opened). knownFor s o v) (opened s ok)
     ∙ ap (λ (b : Bool). cond b (Handset (standing s v)) (Refused (refusal 13))) (T-true (ltb v (handsetCount s)) (lt→ltb v (handsetCount s) h))

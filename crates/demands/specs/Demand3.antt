@@ -14,8 +14,8 @@ use mathlib.Core.List.{List, List·Memᴰ}
 use lib.Dec.{T}
 use lib.ListN.{length, getD}
 use lib.Seq.{slice}
-use Rattle.image.specs.Image.{handsetCount, edgeCount}
-use Rattle.image.specs.Questions.{Accepted, openOf, headerOf}
+use Rattle.image.specs.Image.{headerOf, handsetCount, edgeCount}
+use Rattle.image.specs.Questions.{Accepted, openOf}
 use Rattle.image.specs.declared.Opened.the-variants.{Site}
 use Rattle.community.specs.Network.{isCore, IsCommunity}
 use Rattle.community.specs.Tables.{memberTable}

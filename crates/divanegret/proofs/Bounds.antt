@@ -16,8 +16,8 @@ use lib.ListN.{length, getD, drop, length-take, length-drop}
 use Rattle.sets.specs.Below.{any, find, count}
 use Rattle.sets.proofs.Tests.{and-left, and-right, or-right, decide, find-law, find-none, not-any}
 use Rattle.sets.proofs.Counting.{count-le, sum-le, sum-const}
-use Rattle.image.specs.Image.{handsetCount, edgeCount, handsetRecords, edgeRecords, handsetRecord, endA, endB}
-use Rattle.image.specs.Questions.{headerOf, countsFit, thresholdsFit, tablesFit, outOfLimits, badEnd, isLoop, repeatsEarlier, ask, askEach, askEdges, askRecords, askHeader, openOf, Accepted}
+use Rattle.image.specs.Image.{headerOf, handsetCount, edgeCount, handsetRecords, edgeRecords, handsetRecord, endA, endB}
+use Rattle.image.specs.Questions.{countsFit, thresholdsFit, tablesFit, outOfLimits, badEnd, isLoop, repeatsEarlier, ask, askEach, askEdges, askRecords, askHeader, openOf, Accepted}
 use Rattle.image.specs.Answers.{refusal}
 use Rattle.image.specs.declared.Header.{Header}
 use Rattle.image.specs.declared.Refusal.{Refusal}
@@ -73,7 +73,7 @@ unfolding askEach
 each-small n bad k next some few near rest = ask-small (not (any n bad)) k (find n bad) next some few (omega (arith, find-le n bad)) (λ t. rest)
 
 pub open-small : (s : List ℕ) → OpenSmall (openOf s)
-unfolding openOf askHeader askRecords askEdges countsFit
+unfolding openOf askHeader askRecords askEdges
 open-small s =
     let h : Header = headerOf s in
     ask-small (leb 32 (length s)) 1 0 _ (omega arith) (omega arith) (omega arith)
@@ -103,11 +103,9 @@ PlanSmall (P.Refused r) = Small r
 
 module _ (s : List ℕ) (ok : Accepted s) where
   handsets-at-most : handsetCount s ≤ 512
-  unfolding headerOf
   handsets-at-most = accepted-fits s ok .n-limit
 
   edges-at-most : edgeCount s ≤ 4096
-  unfolding headerOf
   edges-at-most = accepted-fits s ok .m-limit
 
   communities-at-most : length (communities (network s)) ≤ 512

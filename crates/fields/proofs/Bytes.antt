@@ -2,15 +2,17 @@
 --
 --     le-cong, number-cong       equal bytes make equal numbers
 --     le-split                   a number of a + b bytes is made of two: how `four` makes four bytes of two, and `read8` eight of four
---     number-le, number-none     a number whose bytes are all there, and one that lacks some
+--     number-le                  a number whose bytes are all there
+--     number-there, number-none  the number, by a test of whether its bytes are there
 --     number-part                a number in a part of a list
 use Prim.Native.Nat.{ℕ, zero, suc, _+_, _*_, _^_, _≤_, _<_}
 use native.Mathlib.Omega.{arith}
 use native.Mathlib.Nat.{add-zero, zero-add, suc-add, mul-assoc, pow-succ'}
 use mathlib.Core.Path.{_≡_, refl, sym, ap, ap₂, _∙_}
-use mathlib.Core.Bool.{Bool, false, cond}
+use mathlib.Core.Bool.{Bool, true, false, cond}
 use mathlib.Core.List.{List}
 use lib.Dec.{leb, le→leb}
+use borrow.Author.Tests.{leb-true}
 use lib.ListN.{length, getD, take, drop, length-take, length-drop}
 use lib.Seq.{getD-take, getD-drop}
 use Rattle.sets.proofs.Tests.{T-true}
@@ -39,10 +41,14 @@ pub number-le : (w : ℕ) (s : List ℕ) (at : ℕ) → at + w ≤ length s → 
 unfolding number
 number-le w s at h = ap (λ (b : Bool). cond b (le w s at) 0) (T-true (leb (at + w) (length s)) (le→leb (at + w) (length s) h))
 
--- where some are not
-pub number-none : (w : ℕ) (s : List ℕ) (at : ℕ) → leb (at + w) (length s) ≡ false → number w s at ≡ 0
-unfolding number
-number-none w s at e = ap (λ (b : Bool). cond b (le w s at) 0) e
+-- by a test of whether they are
+module _ (w : ℕ) (s : List ℕ) (at : ℕ) {b : Bool} (e : b ≡ leb (at + w) (length s)) where
+  pub number-there : b ≡ true → number w s at ≡ le w s at
+  number-there t = number-le w s at (leb-true _ _ (sym e ∙ t))
+
+  pub number-none : b ≡ false → number w s at ≡ 0
+  unfolding number
+  number-none f = ap (λ (x : Bool). cond x (le w s at) 0) (sym e ∙ f)
 
 -- the same bytes at two places of two lists that both have them
 pub number-cong : (w : ℕ) (s t : List ℕ) (a b : ℕ) → a + w ≤ length s → b + w ≤ length t

@@ -5,7 +5,7 @@
 ghost use mathlib.Core.Path.{_≡_};
 ghost use Prim.Native.Nat.{_+_, _≤_, _<_};
 ghost use lib.Dec.{leb};
-ghost use lib.ListN.{length};
+ghost use lib.ListN.{length, getD};
 ghost use Rattle.fields.specs.Bytes.{le, number};
 ghost use Rattle.fields.specs.Fields.{coordinateBytes, coreSize, shifted, endsOf};
 
@@ -30,11 +30,12 @@ fn stands(len: usize, at: usize, w: usize) -> bool
     if len < w { false } else { at <= len - w }
 }
 
-// A byte, wide enough for the sums.
-fn wide(x: u8) -> u64
-    ensures { λ r. ⌜ (r ≡ x) × (r < 256) ⌝ }
+// The byte at a place, wide enough for the sums.
+fn byte_at(s: &[u8], at: usize) -> u64
+    requires { ⌜ at < length (now s) ⌝ }
+    ensures { λ r. ⌜ (r ≡ getD (now (s .entry)) at 0) × (r < 256) ⌝ }
 {
-    x as u64
+    s[at] as u64
 }
 
 // The number in two bytes, the lowest first.
@@ -42,7 +43,7 @@ fn two(s: &[u8], at: usize) -> u64
     requires { ⌜ at + 2 ≤ length (now s) ⌝ }
     ensures { λ r. ⌜ (r ≡ le 2 (now (s .entry)) at) × (r < 65536) ⌝ }
 {
-    wide(s[at]) + 256 * wide(s[at + 1])
+    byte_at(s, at) + 256 * byte_at(s, at + 1)
 }
 
 // The number in four bytes: its two halves, which the compiler reads as one word.

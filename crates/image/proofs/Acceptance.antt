@@ -4,8 +4,9 @@
 --     accepted            openOf s ≡ Site h gives Accepted s, and h is headerOf s
 --     opened              Accepted s gives openOf s ≡ Site (headerOf s)
 --     acceptance          the theorem of specs/Acceptance
+--     go-on-each          a question that gets a yes for each record goes on
 --     Fits, fits          what a header's numbers keep to, for the proofs of the calls
---     handsets-length, edges-length     both tables of records are whole
+--     header-fits, header-length, handsets-length, edges-length     what an image whose header is accepted keeps to: both tables of records are whole
 --     accepted-fits, length-is, ends-below, coordinate-limits     what an accepted image keeps to: its header, its length, its edges' ends, its coordinates
 --     header-short, header-other, header-on     how questions 1 and 2 go, with the header in hand
 --     header-no           where one of questions 1 to 6 gets a no, that is the answer; header-yes: where all get a yes, what that says of the image
@@ -21,10 +22,9 @@ use lib.ListN.{length, take, drop, length-take, length-drop}
 use Rattle.sets.specs.Below.{any}
 use Rattle.sets.proofs.Tests.{and-left, and-right, any-none, none-any, eqb-of}
 use Rattle.fields.specs.Fields.{coordinateCount, handsetBytes, edgeBytes}
-use Rattle.image.specs.Image.{handsetCount, edgeCount, imageLength, reserved, handsetRecords, edgeRecords, handsetRecord, coordinateOf, endA, endB}
-use Rattle.image.specs.Questions.{coordinateLimit, limitSquaredMost, reservedValue, headerOf, countsFit, thresholdsFit, tablesFit, inLimits, outOfLimits, badEnd, isLoop, repeatsEarlier, ask, askEach, askEdges, askRecords, askHeader, openOf, Accepted}
+use Rattle.image.specs.Image.{headerOf, handsetCount, edgeCount, handsetRecords, edgeRecords, handsetRecord, coordinateOf, endA, endB}
+use Rattle.image.specs.Questions.{coordinateLimit, limitSquaredMost, reservedValue, countsFit, thresholdsFit, tablesFit, inLimits, outOfLimits, badEnd, isLoop, repeatsEarlier, ask, askEach, askEdges, askRecords, askHeader, askImage, openOf, HeaderAccepted, Accepted}
 use Rattle.image.specs.Acceptance.{Acceptance}
-use Rattle.image.specs.Scan.{openHeader}
 use Rattle.image.specs.declared.Header.{Header}
 use Rattle.image.specs.declared.Refusal.{Refusal}
 use Rattle.image.specs.declared.Opened.{Opened}
@@ -35,59 +35,65 @@ unfolding ask
 pass true k p next e = (tt, e)
 pass false k p next e = let z : _≡_ {A = ℕ} 0 1 = cc in absurd (omega arith)
 
-pass-each : {h : Header} (n : ℕ) (bad : ℕ → Bool) (k : ℕ) (next : Opened) → askEach n bad k next ≡ Site h → T (not (any n bad)) × (next ≡ Site h)
-unfolding askEach
-pass-each n bad k next e = pass (not (any n bad)) k _ next e
-
 go-on : (b : Bool) (k p : ℕ) (next : Opened) → T b → ask b k p next ≡ next
 unfolding ask
 go-on true k p next t = refl
 go-on false k p next t = absurd t
 
+module _ (n : ℕ) (bad : ℕ → Bool) (k : ℕ) (next : Opened) where
+  pass-each : {h : Header} → askEach n bad k next ≡ Site h → ((i : ℕ) → i < n → T (not (bad i))) × (next ≡ Site h)
+  unfolding askEach
+  pass-each e = let a = pass (not (any n bad)) k _ next e in (any-none n bad (a .0), a .1)
+
+  pub go-on-each : ((i : ℕ) → i < n → T (not (bad i))) → askEach n bad k next ≡ next
+  unfolding askEach
+  go-on-each f = go-on (not (any n bad)) k _ next (none-any n bad f)
+
 same : {h g : Header} → Site g ≡ Site h → g ≡ h
 same e = cc
 
+module _ (s : List ℕ) (next : Opened) where
+  -- questions 1 to 6 got a yes, and the rest answered the header
+  pass-header : {h : Header} → askImage s next ≡ Site h → HeaderAccepted s × (next ≡ Site h)
+  unfolding askImage askHeader
+  pass-header e =
+      let a1 = pass (leb 32 (length s)) _ _ _ e in
+      let a2 = pass (eqb (headerOf s .len) (length s)) _ _ _ (a1 .1) in
+      let a3 = pass (countsFit (headerOf s)) _ _ _ (a2 .1) in
+      let a4 = pass (eqb (headerOf s .reserved) reservedValue) _ _ _ (a3 .1) in
+      let a5 = pass (thresholdsFit (headerOf s)) _ _ _ (a4 .1) in
+      let a6 = pass (tablesFit (headerOf s)) _ _ _ (a5 .1) in
+      (record { q1 = a1 .0; q2 = a2 .0; q3 = a3 .0; q4 = a4 .0; q5 = a5 .0; q6 = a6 .0 }, a6 .1)
+
+  -- where they get a yes, the rest is the answer
+  go-on-header : HeaderAccepted s → askImage s next ≡ next
+  unfolding askImage askHeader
+  go-on-header a =
+      go-on (leb 32 (length s)) _ _ _ (a .q1)
+      ∙ go-on (eqb (headerOf s .len) (length s)) _ _ _ (a .q2)
+      ∙ go-on (countsFit (headerOf s)) _ _ _ (a .q3)
+      ∙ go-on (eqb (headerOf s .reserved) reservedValue) _ _ _ (a .q4)
+      ∙ go-on (thresholdsFit (headerOf s)) _ _ _ (a .q5)
+      ∙ go-on (tablesFit (headerOf s)) _ _ _ (a .q6)
+
 pub accepted : (s : List ℕ) (h : Header) → openOf s ≡ Site h → Accepted s × (h ≡ headerOf s)
-unfolding openOf askHeader askRecords askEdges headerOf
+unfolding openOf askRecords askEdges
 accepted s h e =
-    let a1 = pass (leb 32 (length s)) _ _ _ e in
-    let a2 = pass (eqb (headerOf s .len) (length s)) _ _ _ (a1 .1) in
-    let a3 = pass (countsFit (headerOf s)) _ _ _ (a2 .1) in
-    let a4 = pass (eqb (headerOf s .reserved) reservedValue) _ _ _ (a3 .1) in
-    let a5 = pass (thresholdsFit (headerOf s)) _ _ _ (a4 .1) in
-    let a6 = pass (tablesFit (headerOf s)) _ _ _ (a5 .1) in
-    let a7 = pass-each (headerOf s .n) (λ v. outOfLimits (handsetRecord (handsetRecords s) v)) _ _ (a6 .1) in
-    let a8 = pass-each (headerOf s .m) (badEnd (edgeRecords s) (headerOf s .n)) _ _ (a7 .1) in
-    let a9 = pass-each (headerOf s .m) (isLoop (edgeRecords s)) _ _ (a8 .1) in
-    let a10 = pass-each (headerOf s .m) (repeatsEarlier (edgeRecords s)) _ _ (a9 .1) in (
-      record {
-        q1 = a1 .0;
-        q2 = a2 .0;
-        q3 = a3 .0;
-        q4 = a4 .0;
-        q5 = a5 .0;
-        q6 = a6 .0;
-        q7 = any-none (handsetCount s) (λ v. outOfLimits (handsetRecord (handsetRecords s) v)) (a7 .0);
-        q8 = any-none (edgeCount s) (badEnd (edgeRecords s) (handsetCount s)) (a8 .0);
-        q9 = any-none (edgeCount s) (isLoop (edgeRecords s)) (a9 .0);
-        q10 = any-none (edgeCount s) (repeatsEarlier (edgeRecords s)) (a10 .0);
-      },
-      sym (same (a10 .1)),
-    )
+    let a = pass-header s _ e in
+    let a7 = pass-each (handsetCount s) (λ v. outOfLimits (handsetRecord (handsetRecords s) v)) _ _ (a .1) in
+    let a8 = pass-each (edgeCount s) (badEnd (edgeRecords s) (handsetCount s)) _ _ (a7 .1) in
+    let a9 = pass-each (edgeCount s) (isLoop (edgeRecords s)) _ _ (a8 .1) in
+    let a10 = pass-each (edgeCount s) (repeatsEarlier (edgeRecords s)) _ _ (a9 .1) in
+    (record { header = a .0; q7 = a7 .0; q8 = a8 .0; q9 = a9 .0; q10 = a10 .0 }, sym (same (a10 .1)))
 
 pub opened : (s : List ℕ) → Accepted s → openOf s ≡ Site (headerOf s)
-unfolding openOf askHeader askRecords askEdges askEach headerOf
+unfolding openOf askRecords askEdges
 opened s a =
-    go-on (leb 32 (length s)) _ _ _ (a .q1)
-    ∙ go-on (eqb (headerOf s .len) (length s)) _ _ _ (a .q2)
-    ∙ go-on (countsFit (headerOf s)) _ _ _ (a .q3)
-    ∙ go-on (eqb (headerOf s .reserved) reservedValue) _ _ _ (a .q4)
-    ∙ go-on (thresholdsFit (headerOf s)) _ _ _ (a .q5)
-    ∙ go-on (tablesFit (headerOf s)) _ _ _ (a .q6)
-    ∙ go-on (not (any (handsetCount s) (λ v. outOfLimits (handsetRecord (handsetRecords s) v)))) _ _ _ (none-any (handsetCount s) (λ v. outOfLimits (handsetRecord (handsetRecords s) v)) (a .q7))
-    ∙ go-on (not (any (edgeCount s) (badEnd (edgeRecords s) (handsetCount s)))) _ _ _ (none-any (edgeCount s) (badEnd (edgeRecords s) (handsetCount s)) (a .q8))
-    ∙ go-on (not (any (edgeCount s) (isLoop (edgeRecords s)))) _ _ _ (none-any (edgeCount s) (isLoop (edgeRecords s)) (a .q9))
-    ∙ go-on (not (any (edgeCount s) (repeatsEarlier (edgeRecords s)))) _ _ _ (none-any (edgeCount s) (repeatsEarlier (edgeRecords s)) (a .q10))
+    go-on-header s _ (a .header)
+    ∙ go-on-each (handsetCount s) (λ v. outOfLimits (handsetRecord (handsetRecords s) v)) _ _ (a .q7)
+    ∙ go-on-each (edgeCount s) (badEnd (edgeRecords s) (handsetCount s)) _ _ (a .q8)
+    ∙ go-on-each (edgeCount s) (isLoop (edgeRecords s)) _ _ (a .q9)
+    ∙ go-on-each (edgeCount s) (repeatsEarlier (edgeRecords s)) _ _ (a .q10)
 
 pub acceptance : Acceptance
 acceptance = record { only-accepted = λ s h e. accepted s h e .0; the-header = λ s h e. accepted s h e .1; every-accepted = opened }
@@ -107,7 +113,6 @@ pub record Fits (h : Header) : Type 0 where
   pub edges-to : h .edges + edgeBytes * h .m ≤ h .len
 
 pub fits : (h : Header) → T (countsFit h) → T (thresholdsFit h) → T (tablesFit h) → Fits h
-unfolding countsFit thresholdsFit tablesFit
 fits h c t f =
     let t1 = and-right (leb (h .limit) limitSquaredMost) _ t in
     let t2 = and-right (leb 1 (h .p)) _ t1 in
@@ -147,19 +152,19 @@ unfolding ask
 refuse true k p next e = let z : _≡_ {A = ℕ} 0 1 = cc in absurd (omega arith)
 refuse false k p next e = refl
 
-pub header-short : (s : List ℕ) → length s < 32 → openHeader s ≡ Refused (record { number = 1; place = 0 })
-unfolding openHeader
-header-short s l = refuse (leb 32 (length s)) _ _ _ (lt-leb 32 (length s) l)
+pub header-short : (s : List ℕ) (next : Opened) → length s < 32 → askImage s next ≡ Refused (record { number = 1; place = 0 })
+unfolding askImage
+header-short s next l = refuse (leb 32 (length s)) _ _ _ (lt-leb 32 (length s) l)
 
 module _ (s : List ℕ) (l : 32 ≤ length s) where
-  pub header-other : (headerOf s .len ≡ length s → ⊥) → openHeader s ≡ Refused (record { number = 2; place = 0 })
-  unfolding openHeader
-  header-other d =
+  pub header-other : (next : Opened) → (headerOf s .len ≡ length s → ⊥) → askImage s next ≡ Refused (record { number = 2; place = 0 })
+  unfolding askImage
+  header-other next d =
       go-on (leb 32 (length s)) _ _ _ (le→leb 32 (length s) l)
       ∙ refuse (eqb (headerOf s .len) (length s)) _ _ _ (ne-eqb (headerOf s .len) (length s) d)
 
-  pub header-on : (h : Header) → h ≡ headerOf s → h .len ≡ length s → openHeader s ≡ askHeader h (Site h)
-  unfolding openHeader
+  pub header-on : (h : Header) → h ≡ headerOf s → h .len ≡ length s → askImage s (Site (headerOf s)) ≡ askHeader h (Site h)
+  unfolding askImage
   header-on h e d =
       go-on (leb 32 (length s)) _ _ _ (le→leb 32 (length s) l)
       ∙ go-on (eqb (headerOf s .len) (length s)) _ _ _ (eqb-of (headerOf s .len) (length s) (ap (λ (x : Header). x .len) (sym e) ∙ d))
@@ -171,8 +176,8 @@ stop true k p x y f e = f e
 stop false k p x y f e = e
 
 -- a no to one of questions 1 to 6 is the answer to all ten
-pub header-no : (s : List ℕ) (r : Refusal) → openHeader s ≡ Refused r → openOf s ≡ Refused r
-unfolding openHeader openOf askHeader
+pub header-no : (s : List ℕ) (r : Refusal) → askImage s (Site (headerOf s)) ≡ Refused r → openOf s ≡ Refused r
+unfolding openOf askImage askHeader
 header-no s r e =
     stop (leb 32 (length s)) _ _ _ _
     (stop (eqb (headerOf s .len) (length s)) _ _ _ _
@@ -181,65 +186,39 @@ header-no s r e =
     (stop (thresholdsFit (headerOf s)) _ _ _ _
     (stop (tablesFit (headerOf s)) _ _ (Site (headerOf s)) _ (λ z. let w : _≡_ {A = ℕ} 0 1 = cc in absurd (omega arith))))))) e
 
--- questions 1 to 6 got a yes
-pub record Checked (s : List ℕ) : Type 0 where
-  pub q1 : T (leb 32 (length s))
-  pub q2 : T (eqb (imageLength s) (length s))
-  pub q3 : T (countsFit (headerOf s))
-  pub q4 : T (eqb (reserved s) reservedValue)
-  pub q5 : T (thresholdsFit (headerOf s))
-  pub q6 : T (tablesFit (headerOf s))
+pub header-yes : (s : List ℕ) (h : Header) → askImage s (Site (headerOf s)) ≡ Site h → HeaderAccepted s × (h ≡ headerOf s)
+header-yes s h e = let a = pass-header s _ e in (a .0, sym (same (a .1)))
 
-pub header-yes : (s : List ℕ) (h : Header) → openHeader s ≡ Site h → Checked s × (h ≡ headerOf s)
-unfolding openHeader askHeader headerOf
-header-yes s h e =
-    let a1 = pass (leb 32 (length s)) _ _ _ e in
-    let a2 = pass (eqb (headerOf s .len) (length s)) _ _ _ (a1 .1) in
-    let a3 = pass (countsFit (headerOf s)) _ _ _ (a2 .1) in
-    let a4 = pass (eqb (headerOf s .reserved) reservedValue) _ _ _ (a3 .1) in
-    let a5 = pass (thresholdsFit (headerOf s)) _ _ _ (a4 .1) in
-    let a6 = pass (tablesFit (headerOf s)) _ _ _ (a5 .1) in
-    (record { q1 = a1 .0; q2 = a2 .0; q3 = a3 .0; q4 = a4 .0; q5 = a5 .0; q6 = a6 .0 }, sym (same (a6 .1)))
+module _ (s : List ℕ) (a : HeaderAccepted s) where
+  pub header-fits : Fits (headerOf s)
+  header-fits = fits (headerOf s) (a .q3) (a .q5) (a .q6)
 
-module _ (s : List ℕ) (c : Checked s) where
-  pub checked-fits : Fits (headerOf s)
-  checked-fits = fits (headerOf s) (c .q3) (c .q5) (c .q6)
+  pub header-length : headerOf s .len ≡ length s
+  header-length = eqb→eq (headerOf s .len) (length s) (a .q2)
 
-  -- the rest is what questions 7 to 10 answer
-  open-on : openOf s ≡ askRecords (handsetRecords s) (edgeRecords s) (headerOf s)
-  unfolding openOf askHeader headerOf
-  open-on =
-      go-on (leb 32 (length s)) _ _ _ (c .q1)
-      ∙ go-on (eqb (headerOf s .len) (length s)) _ _ _ (c .q2)
-      ∙ go-on (countsFit (headerOf s)) _ _ _ (c .q3)
-      ∙ go-on (eqb (headerOf s .reserved) reservedValue) _ _ _ (c .q4)
-      ∙ go-on (thresholdsFit (headerOf s)) _ _ _ (c .q5)
-      ∙ go-on (tablesFit (headerOf s)) _ _ _ (c .q6)
+  pub handsets-length : length (handsetRecords s) ≡ handsetBytes * handsetCount s
+  unfolding handsetRecords
+  handsets-length = simp (length-take, length-drop) (omega (arith, header-fits .handsets-to, header-length))
+
+  pub edges-length : length (edgeRecords s) ≡ edgeBytes * edgeCount s
+  unfolding edgeRecords
+  edges-length = simp (length-take, length-drop) (omega (arith, header-fits .edges-to, header-length))
 
 -- for the reader: with the header in hand, what its numbers keep to, and what is left to ask
-pub header-passed : (s : List ℕ) (h : Header) → openHeader s ≡ Site h
+pub header-passed : (s : List ℕ) (h : Header) → askImage s (Site (headerOf s)) ≡ Site h
     → Fits h × (h .len ≡ length s) × (openOf s ≡ askRecords (take (handsetBytes * h .n) (drop (h .handsets) s)) (take (edgeBytes * h .m) (drop (h .edges) s)) h)
-unfolding headerOf handsetRecords edgeRecords
+unfolding openOf handsetRecords edgeRecords
 header-passed s h e =
     let y = header-yes s h e in
     subst (λ (x : Header). Fits x × (x .len ≡ length s) × (openOf s ≡ askRecords (take (handsetBytes * x .n) (drop (x .handsets) s)) (take (edgeBytes * x .m) (drop (x .edges) s)) x)) (sym (y .1))
-    (checked-fits s (y .0), eqb→eq (imageLength s) (length s) (y .0 .q2), open-on s (y .0))
-
-module _ (s : List ℕ) (f : Fits (headerOf s)) (l : imageLength s ≡ length s) where
-  pub handsets-length : length (handsetRecords s) ≡ handsetBytes * handsetCount s
-  unfolding handsetRecords headerOf
-  handsets-length = simp (length-take, length-drop) (omega (arith, f .handsets-to, l))
-
-  pub edges-length : length (edgeRecords s) ≡ edgeBytes * edgeCount s
-  unfolding edgeRecords headerOf
-  edges-length = simp (length-take, length-drop) (omega (arith, f .edges-to, l))
+    (header-fits s (y .0), header-length s (y .0), go-on-header s _ (y .0))
 
 module _ (s : List ℕ) (a : Accepted s) where
   pub accepted-fits : Fits (headerOf s)
-  accepted-fits = fits (headerOf s) (a .q3) (a .q5) (a .q6)
+  accepted-fits = header-fits s (a .header)
 
-  pub length-is : imageLength s ≡ length s
-  length-is = eqb→eq (imageLength s) (length s) (a .q2)
+  pub length-is : headerOf s .len ≡ length s
+  length-is = header-length s (a .header)
 
   -- the ends of every edge are handsets
   pub ends-below : (k : ℕ) → k < edgeCount s → (endA (edgeRecords s) k < handsetCount s) × (endB (edgeRecords s) k < handsetCount s)

@@ -15,10 +15,10 @@ use mathlib.Core.List.{List}
 use lib.Dec.{T, T-not, not-T}
 use lib.ListN.{take, drop}
 use Rattle.fields.specs.Fields.{edgeBytes}
-use Rattle.sets.specs.Below.{any, find}
-use Rattle.sets.proofs.Tests.{or-left, or-right, any-cong, any-none, none-any, T-false}
-use Rattle.image.specs.Questions.{badEnd, isLoop, repeatsEarlier, ask, askEach, askEdges, headerOf, openOf}
-use Rattle.image.specs.Image.{handsetCount, edgeCount, edgeRecords, adjacent}
+use Rattle.sets.specs.Below.{find}
+use Rattle.sets.proofs.Tests.{or-left, or-right, any-cong, any-none, T-false}
+use Rattle.image.specs.Questions.{badEnd, isLoop, repeatsEarlier, askEdges, openOf}
+use Rattle.image.specs.Image.{headerOf, handsetCount, edgeCount, edgeRecords, adjacent}
 use Rattle.image.specs.Answers.{openAnswer}
 use Rattle.image.specs.Rows.{related, Held, Reading, Room, zeros}
 use Rattle.image.specs.Scan.{linked, faulty, Added}
@@ -27,6 +27,7 @@ use Rattle.image.specs.declared.Refusal.{Refusal}
 use Rattle.image.specs.declared.Opened.{Opened}
 use Rattle.image.specs.declared.Opened.the-variants.{Site, Refused}
 use Rattle.image.proofs.Rows.{cleared-room}
+use Rattle.image.proofs.Acceptance.{go-on-each}
 use Rattle.image.proofs.Scanning.{each-no, none-bad}
 
 pub find-cong : (n : ℕ) (f g : ℕ → Bool) → ((k : ℕ) → k < n → f k ≡ g k) → find n f ≡ find n g
@@ -58,25 +59,21 @@ module _ (edges : List ℕ) (n : ℕ) where
       → find m (faulty edges n) ≡ find m (repeatsEarlier edges)
   first-repeat m b l = find-cong m (faulty edges n) (repeatsEarlier edges) (λ k h. fault-repeat k (b k h) (l k h))
 
-each-none : (n : ℕ) (bad : ℕ → Bool) (number : ℕ) (next : Opened) → ((k : ℕ) → k < n → T (not (bad k))) → askEach n bad number next ≡ next
-unfolding askEach ask
-each-none n bad number next h = rw (T-false (any n bad) (none-any n bad h))
-
 module _ (edges : List ℕ) (h : Header) (found : ℕ) (first : found ≡ find (h .m) (faulty edges (h .n))) where
   pub edges-yes : h .m ≤ found → askEdges edges h ≡ Site h
   unfolding askEdges
   edges-yes l =
       let none = any-none (h .m) (faulty edges (h .n)) (none-bad (h .m) (faulty edges (h .n)) (omega arith)) in
-      each-none (h .m) (badEnd edges (h .n)) 8 _ (λ k q. no-bad edges (h .n) k (none k q))
-      ∙ each-none (h .m) (isLoop edges) 9 _ (λ k q. no-loop edges (h .n) k (none k q))
-      ∙ each-none (h .m) (repeatsEarlier edges) 10 _ (λ k q. no-repeat edges (h .n) k (none k q))
+      go-on-each (h .m) (badEnd edges (h .n)) 8 _ (λ k q. no-bad edges (h .n) k (none k q))
+      ∙ go-on-each (h .m) (isLoop edges) 9 _ (λ k q. no-loop edges (h .n) k (none k q))
+      ∙ go-on-each (h .m) (repeatsEarlier edges) 10 _ (λ k q. no-repeat edges (h .n) k (none k q))
 
   pub edges-repeat : found < h .m → ((k : ℕ) → k < h .m → T (not (badEnd edges (h .n) k))) → ((k : ℕ) → k < h .m → T (not (isLoop edges k)))
       → askEdges edges h ≡ Refused (record { number = 10; place = found })
   unfolding askEdges
   edges-repeat l b o =
-      each-none (h .m) (badEnd edges (h .n)) 8 _ b
-      ∙ each-none (h .m) (isLoop edges) 9 _ o
+      go-on-each (h .m) (badEnd edges (h .n)) 8 _ b
+      ∙ go-on-each (h .m) (isLoop edges) 9 _ o
       ∙ each-no (h .m) (repeatsEarlier edges) found (first ∙ first-repeat edges (h .n) (h .m) b o) 10 _ l
 
 -- ---- what is left behind
@@ -97,7 +94,7 @@ related-linked s u v = refl
 
 pub held-related : (s : List ℕ) (h : Header) → h ≡ headerOf s → {answer : Opened} {rows sizes : List ℕ}
     → Held (linked (h .n) (take (edgeBytes * h .m) (drop (h .edges) s)) (h .m)) answer rows sizes → Held (related s) answer rows sizes
-unfolding headerOf edgeRecords related linked adjacent
+unfolding edgeRecords related linked adjacent
 held-related s h e {answer} {rows} {sizes} l =
     subst (λ (x : Header). Held (linked (x .n) (take (edgeBytes * x .m) (drop (x .edges) s)) (x .m)) answer rows sizes) e l
 

@@ -4,7 +4,8 @@
 use Prim.Native.Nat.{ℕ}
 use mathlib.Core.Path.{_≡_}
 use mathlib.Core.List.{List}
-use Rattle.image.specs.Questions.{headerOf, openOf, Accepted}
+use Rattle.image.specs.Image.{headerOf}
+use Rattle.image.specs.Questions.{openOf, Accepted}
 use Rattle.image.specs.declared.Header.{Header}
 use Rattle.image.specs.declared.Opened.the-variants.{Site}
 

@@ -3,14 +3,15 @@
 --     coordinateLimit                    how far from 0 a coordinate may be
 --     limitSquaredMost                   the most that G may be
 --     reservedValue                      what the reserved bytes, 30 and 31, hold
---     headerOf s                         the header's numbers, as they stand
 --     countsFit, thresholdsFit, tablesFit            questions 3, 5 and 6, of a header
 --     outOfLimits, badEnd, isLoop, repeatsEarlier    where questions 7 to 10 get a no, of a record
 --     ask, askEach                       a question, and a question to each record: a yes goes on, a no is the refusal
---     askHeader, askRecords, askEdges    questions 3 to 6, 7 to 10 and 8 to 10, in their order
+--     askImage, askHeader                questions 1 to 6 and 3 to 6, in their order
+--     askRecords, askEdges               questions 7 to 10 and 8 to 10
 --     openOf s                           the questions in the paper's order, each of the whole image before the next: the header, or the number and
 --                                        place of the first no
 --     refusalOf o                        the number and place of an answer
+--     HeaderAccepted s                   questions 1 to 6 get a yes
 --     Accepted s                         every question gets a yes (specs/Acceptance: exactly when the reader answers the header)
 use Prim.Native.Nat.{ℕ, _+_, _*_, _-_, _<_}
 use mathlib.Core.Bool.{Bool, true, false, _&&_, _||_, not}
@@ -19,7 +20,7 @@ use lib.Dec.{T, leb, ltb, eqb}
 use lib.ListN.{length}
 use Rattle.sets.specs.Below.{any, find}
 use Rattle.fields.specs.Fields.{coordinateCount, handsetBytes, edgeBytes}
-use Rattle.image.specs.Image.{handsetCount, edgeCount, handsetOffset, edgeOffset, imageLength, limitSquared, epsilonNum, epsilonDen, muField, reserved, handsetRecords, edgeRecords, handsetRecord, coordinateOf, endA, endB, joins}
+use Rattle.image.specs.Image.{headerOf, handsetCount, edgeCount, handsetRecords, edgeRecords, handsetRecord, coordinateOf, endA, endB, joins}
 use Rattle.image.specs.declared.Header.{Header}
 use Rattle.image.specs.declared.Refusal.{Refusal}
 use Rattle.image.specs.declared.Opened.{Opened}
@@ -34,31 +35,16 @@ limitSquaredMost = 8000000000000
 abbrev pub reservedValue : ℕ
 reservedValue = 0
 
-unfoldable pub headerOf : List ℕ → Header
-unfolding handsetCount edgeCount handsetOffset edgeOffset imageLength limitSquared epsilonNum epsilonDen muField reserved
-headerOf s = record {
-  n = handsetCount s;
-  m = edgeCount s;
-  handsets = handsetOffset s;
-  edges = edgeOffset s;
-  len = imageLength s;
-  limit = limitSquared s;
-  p = epsilonNum s;
-  q = epsilonDen s;
-  mu = muField s;
-  reserved = reserved s;
-}
-
 -- question 3
-unfoldable pub countsFit : Header → Bool
+abbrev pub countsFit : Header → Bool
 countsFit h = leb (h .n) 512 && leb (h .m) 4096
 
 -- question 5
-unfoldable pub thresholdsFit : Header → Bool
+abbrev pub thresholdsFit : Header → Bool
 thresholdsFit h = leb (h .limit) limitSquaredMost && (leb 1 (h .p) && (leb (h .p) (h .q) && (leb (h .q) 1000 && leb (h .mu) 512)))
 
 -- question 6
-unfoldable pub tablesFit : Header → Bool
+abbrev pub tablesFit : Header → Bool
 tablesFit h =
     leb 32 (h .handsets) && (leb 32 (h .edges) && (leb (h .handsets + handsetBytes * h .n) (h .len) && (leb (h .edges + edgeBytes * h .m) (h .len)
     && (leb (h .handsets + handsetBytes * h .n) (h .edges) || leb (h .edges + edgeBytes * h .m) (h .handsets)))))
@@ -113,7 +99,7 @@ askRecords handsets edges h = askEach (h .n) (λ v. outOfLimits (handsetRecord h
 
 -- questions 3 to 6, of the header
 unfoldable pub askHeader : Header → Opened → Opened
-unfolding ask countsFit thresholdsFit tablesFit
+unfolding ask
 askHeader h next =
     ask (countsFit h) 3 0
     (ask (eqb (h .reserved) reservedValue) 4 0
@@ -121,26 +107,35 @@ askHeader h next =
     (ask (tablesFit h) 6 0
     next)))
 
-unfoldable pub openOf : List ℕ → Opened
-unfolding ask headerOf askHeader askRecords handsetRecords edgeRecords
-openOf s =
+-- questions 1 to 6, of the image's length and header
+unfoldable pub askImage : List ℕ → Opened → Opened
+unfolding ask headerOf askHeader
+askImage s next =
     ask (leb 32 (length s)) 1 0
     (ask (eqb (headerOf s .len) (length s)) 2 0
     (askHeader (headerOf s)
-    (askRecords (handsetRecords s) (edgeRecords s) (headerOf s))))
+    next))
+
+unfoldable pub openOf : List ℕ → Opened
+unfolding askImage headerOf askRecords handsetRecords edgeRecords
+openOf s = askImage s (askRecords (handsetRecords s) (edgeRecords s) (headerOf s))
 
 -- the paper's number and place for each case of the answer; 0 where the image is accepted
 abbrev pub refusalOf : Opened → Refusal
 refusalOf (Site h) = record { number = 0; place = 0 }
 refusalOf (Refused r) = r
 
-pub record Accepted (s : List ℕ) : Type 0 where
+-- questions 1 to 6 get a yes
+pub record HeaderAccepted (s : List ℕ) : Type 0 where
   pub q1 : T (leb 32 (length s))
-  pub q2 : T (eqb (imageLength s) (length s))
+  pub q2 : T (eqb (headerOf s .len) (length s))
   pub q3 : T (countsFit (headerOf s))
-  pub q4 : T (eqb (reserved s) reservedValue)
+  pub q4 : T (eqb (headerOf s .reserved) reservedValue)
   pub q5 : T (thresholdsFit (headerOf s))
   pub q6 : T (tablesFit (headerOf s))
+
+pub record Accepted (s : List ℕ) : Type 0 where
+  pub header : HeaderAccepted s
   pub q7 : (v : ℕ) → v < handsetCount s → T (not (outOfLimits (handsetRecord (handsetRecords s) v)))
   pub q8 : (k : ℕ) → k < edgeCount s → T (not (badEnd (edgeRecords s) (handsetCount s) k))
   pub q9 : (k : ℕ) → k < edgeCount s → T (not (isLoop (edgeRecords s) k))

@@ -23,7 +23,7 @@ use Rattle.image.specs.declared.Opened.{Opened}
 use Rattle.image.specs.declared.Opened.the-variants.{Site, Refused}
 
 unfoldable pub related : List ℕ → ℕ → ℕ → Bool
-unfolding handsetCount adjacent
+unfolding adjacent
 related s u v = (ltb u (handsetCount s) && eqb u v) || adjacent s u v
 
 abbrev pub Room : List ℕ → List ℕ → Type 0

@@ -1,7 +1,6 @@
 -- These definitions only serve the proofs; a caller need not believe them.
--- The reader's questions in the order of its code, what it looks for in the records, and what it has of the edges that it has passed.
+-- What the reader looks for in the records, and what it has of the edges that it has passed.
 --
---     openHeader s                   questions 1 to 6, of the header: the header, or the number of the first no
 --     badRecord question part n k    question 7, 8 or 9 gets a no for record k of the part: a handset's for 7, an edge's for 8 and 9
 --     Stand question part count      as many such records stand in the part
 --     linked n edges k               each of n handsets is related to itself, and the ends of each of the first k edges to each other
@@ -11,23 +10,13 @@ use Prim.Native.Nat.{ℕ, _*_, _≤_}
 use mathlib.Core.Path.{_≡_}
 use mathlib.Core.Bool.{Bool, _&&_, _||_, cond}
 use mathlib.Core.List.{List}
-use lib.Dec.{leb, ltb, eqb}
+use lib.Dec.{ltb, eqb}
 use lib.ListN.{length}
 use Rattle.sets.specs.Below.{any, find}
 use Rattle.sets.specs.Rows.{Table, Counted}
 use Rattle.fields.specs.Fields.{handsetBytes, edgeBytes}
 use Rattle.image.specs.Image.{handsetRecord, joins}
-use Rattle.image.specs.Questions.{headerOf, outOfLimits, badEnd, isLoop, repeatsEarlier, ask, askHeader}
-use Rattle.image.specs.declared.Opened.{Opened}
-use Rattle.image.specs.declared.Opened.the-variants.{Site}
-
-unfoldable pub openHeader : List ℕ → Opened
-unfolding ask headerOf askHeader
-openHeader s =
-    ask (leb 32 (length s)) 1 0
-    (ask (eqb (headerOf s .len) (length s)) 2 0
-    (askHeader (headerOf s)
-    (Site (headerOf s))))
+use Rattle.image.specs.Questions.{outOfLimits, badEnd, isLoop, repeatsEarlier}
 
 unfoldable pub badRecord : ℕ → List ℕ → ℕ → ℕ → Bool
 unfolding outOfLimits handsetRecord badEnd isLoop

@@ -13,11 +13,11 @@ ghost use Rattle.sets.specs.Below.{find};
 ghost use Rattle.sets.specs.Bits.{cell, withBit};
 ghost use Rattle.sets.specs.Rows.{Table, Counted};
 ghost use Rattle.fields.specs.Fields.{handsetBytes, edgeBytes};
-ghost use Rattle.image.specs.Image.{gap, distanceBetween};
-ghost use Rattle.image.specs.Questions.{headerOf, countsFit, thresholdsFit, tablesFit, inLimits, outOfLimits, ask, askEdges, askRecords, askHeader, openOf, refusalOf};
+ghost use Rattle.image.specs.Image.{headerOf, gap, distanceBetween, endA, endB};
+ghost use Rattle.image.specs.Questions.{countsFit, thresholdsFit, tablesFit, inLimits, outOfLimits, ask, askEdges, askRecords, askHeader, askImage, openOf, refusalOf};
 ghost use Rattle.image.specs.Answers.{openAnswer};
 ghost use Rattle.image.specs.Rows.{Room, Cleared, related, Held, Reading};
-ghost use Rattle.image.specs.Scan.{openHeader, badRecord, Stand, linked, Added};
+ghost use Rattle.image.specs.Scan.{badRecord, Stand, linked, Added};
 
 // How far from 0 a coordinate may be.
 const COORDINATE_LIMIT: u64 = 1000000;
@@ -143,8 +143,18 @@ fn out_of_limits(handset: &[u8]) -> bool
     bad
 }
 
+// The ends of edge k, whose record stands in the part.
+fn ends_at(part: &[u8], k: usize) -> fields::Ends
+    requires { ⌜ edgeBytes * (k + 1) ≤ length (now part) ⌝ }
+    ensures { λ r. ⌜ r ≡ record { a = endA (now (part .entry)) k; b = endB (now (part .entry)) k } ⌝ }
+{
+    let at = fields::EDGE_BYTES * k;
+    let past = at + fields::EDGE_BYTES;
+    fields::read_ends(&part[at..past])
+}
+
 // Whether question 7, 8 or 9 gets a no for record k of the part.
-fn is_bad(question: u32, part: &[u8], n: usize, k: usize) -> bool
+fn is_bad_record(question: u32, part: &[u8], n: usize, k: usize) -> bool
     requires { ⌜ Stand question (now part) (k + 1) ⌝ }
     ensures { λ r. ⌜ r ≡ badRecord question (now (part .entry)) n k ⌝ }
 {
@@ -153,9 +163,7 @@ fn is_bad(question: u32, part: &[u8], n: usize, k: usize) -> bool
         let past = at + fields::HANDSET_BYTES;
         return out_of_limits(&part[at..past]);
     }
-    let at = fields::EDGE_BYTES * k;
-    let past = at + fields::EDGE_BYTES;
-    let e = fields::read_ends(&part[at..past]);
+    let e = ends_at(part, k);
     if question == 8 {
         return !((e.a < n) & (e.b < n));
     }
@@ -169,7 +177,7 @@ fn first_bad(question: u32, part: &[u8], count: usize, n: usize) -> usize
 {
     let mut k: usize = 0;
     while k < count {
-        if is_bad(question, part, n, k) {
+        if is_bad_record(question, part, n, k) {
             return k;
         }
         k += 1;
@@ -206,7 +214,7 @@ pub fn within(a: &[u8], b: &[u8], limit: u64) -> bool
 }
 
 // Whether v is in row u.
-fn has(rows: &[u64], u: usize, v: usize) -> bool
+fn row_has(rows: &[u64], u: usize, v: usize) -> bool
     requires { ⌜ (u < 512) × (v < 512) × (length (now rows) ≡ 4096) ⌝ }
     ensures { λ r. ⌜ r ≡ eqb (cell (now (rows .entry)) u v) 1 ⌝ }
 {
@@ -221,7 +229,8 @@ fn add(rows: &mut [u64], sizes: &mut [u32], u: usize, v: usize)
     ensures counted { λ _. ⌜ Counted (now (rows .exit)) (now (sizes .exit)) ⌝ }
 {
     sizes[u] = sizes[u] + 1;
-    rows[(u * 512 + v) / 64] = rows[(u * 512 + v) / 64] | (1u64 << ((u * 512 + v) % 64));
+    let i = u * 512 + v;
+    rows[i / 64] = rows[i / 64] | (1u64 << (i % 64));
 }
 
 // Adds each of the first n handsets to its own row of a cleared table.
@@ -245,13 +254,11 @@ fn add_edges(part: &[u8], m: usize, n: usize, rows: &mut [u64], sizes: &mut [u32
 {
     let mut k: usize = 0;
     while k < m {
-        let at = fields::EDGE_BYTES * k;
-        let past = at + fields::EDGE_BYTES;
-        let e = fields::read_ends(&part[at..past]);
+        let e = ends_at(part, k);
         if !((e.a < n) & (e.b < n)) {
             return k;
         }
-        if has(rows, e.a, e.b) {
+        if row_has(rows, e.a, e.b) {
             return k;
         }
         add(rows, sizes, e.a, e.b);
@@ -319,7 +326,7 @@ fn ask_tables(image: &[u8], h: Header, rows: &mut [u64], sizes: &mut [u32]) -> O
 
 // Puts questions 1 to 6 to an image, in order, and stops at the first no: an image that gets a yes to all has both tables in it.
 fn open_header(image: &[u8]) -> Opened
-    ensures { λ r. ⌜ r ≡ openHeader (now (image .entry)) ⌝ }
+    ensures { λ r. ⌜ r ≡ askImage (now (image .entry)) (Opened.Site (headerOf (now (image .entry)))) ⌝ }
 {
     if image.len() < 32 {
         return refused(1, 0);

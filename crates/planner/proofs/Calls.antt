@@ -22,7 +22,7 @@ use Rattle.sets.proofs.Counting.{count-le}
 use Rattle.sets.proofs.Selecting.{length-select}
 use Rattle.image.specs.Image.{handsetCount}
 use Rattle.image.specs.Answers.{refusal, given}
-use Rattle.image.specs.Questions.{Accepted, openOf, headerOf, refusalOf}
+use Rattle.image.specs.Questions.{Accepted, openOf, refusalOf}
 use Rattle.image.specs.declared.Header.{Header}
 use Rattle.image.specs.declared.Refusal.{Refusal}
 use Rattle.image.specs.declared.Opened.{Opened}
@@ -44,7 +44,6 @@ use Rattle.planner.proofs.Listing.{grouped-rows}
 
 -- ---- what is told of an image
 pub ready-count : {s : List ℕ} {h : Header} {short rows sizes : List ℕ} → Ready s h short rows sizes → h .n ≡ handsetCount s
-unfolding headerOf
 ready-count r = ap (λ (x : Header). x .n) (r .header)
 
 pub told-no : {s : List ℕ} {a : Opened} {short rows sizes : List ℕ} → NeighboursRead s a short rows sizes
@@ -71,7 +70,6 @@ module _ (s : List ℕ) (r : Refusal) (e : openOf s ≡ O.Refused r) where
 -- ---- an accepted image
 module _ (s : List ℕ) (ok : Accepted s) where
   pub handsets-most : network s .n ≤ 512
-  unfolding headerOf
   handsets-most = accepted-fits s ok .n-limit
 
   pub groups-most : {rows : List ℕ} {k : ℕ} → Grouped (network s) rows k → k ≤ 512
@@ -100,11 +98,11 @@ module _ (s : List ℕ) (ok : Accepted s) where
       }
 
   pub cores-found : {ws : List ℕ} → SetOf ws (coreIn (network s)) → CoreWords s ws
-  unfolding coreIn headerOf
+  unfolding coreIn
   cores-found c = record { size = c .size; bits = λ v h. c .bits v h ∙ sym (ap (λ (o : Opened). bit (coreFor s o v)) (opened s ok)) }
 
   pub known-past : (v : ℕ) → handsetCount s ≤ v → K.Refused (refusal 13) ≡ knownOf s v
-  unfolding knownOf headerOf
+  unfolding knownOf
   known-past v h =
       sym (ap (λ (o : Opened). knownFor s o v) (opened s ok)
       ∙ ap (λ (b : Bool). cond b (K.Handset (standing s v)) (K.Refused (refusal 13)))
@@ -130,7 +128,7 @@ module _ (s : List ℕ) (ok : Accepted s) where
 
   pub known-found : (v : ℕ) → v < handsetCount s → (x : Standing) → x .neighbours ≡ neighbourhoodSize (network s) v
       → roleValues (x .role) ≡ roleValues (role (network s) v) → knownAnswer (K.Handset x) ≡ knownAnswer (knownOf s v)
-  unfolding knownOf standing headerOf
+  unfolding knownOf standing
   known-found v h x p q =
       ap₂ (λ (n : ℕ) (vs : List ℕ). given (n ∷ vs)) p q
       ∙ ap knownAnswer (sym (ap (λ (o : Opened). knownFor s o v) (opened s ok)

@@ -25,15 +25,15 @@ use Rattle.sets.specs.Rows.{SetOf, Table, Counted}
 use Rattle.sets.proofs.Tests.{and-make, and-left, and-right, or-left, or-right, or-cases, decide, T-true, T-false, T-ext, any-make, any-take, eqb-comm}
 use Rattle.sets.proofs.Counting.{bit-false, count-cong, count-sum, count-wide, count-at, sum-cong}
 use Rattle.fields.specs.Fields.{coreSize, handsetBytes, edgeBytes}
-use Rattle.image.specs.Image.{handsetCount, edgeCount, imageLength, limitSquared, epsilonNum, epsilonDen, muField, mu, handsetRecords, edgeRecords, endA, endB, joins, adjacent, within, neighbour}
-use Rattle.image.specs.Questions.{Accepted, headerOf, openOf, isLoop}
+use Rattle.image.specs.Image.{headerOf, handsetCount, edgeCount, limitSquared, epsilonNum, epsilonDen, mu, handsetRecords, edgeRecords, endA, endB, joins, adjacent, within, neighbour}
+use Rattle.image.specs.Questions.{Accepted, openOf, isLoop}
 use Rattle.image.specs.Answers.{openAnswer}
 use Rattle.image.specs.Rows.{Room, related, Reading}
 use Rattle.image.specs.declared.Header.{Header}
 use Rattle.image.specs.declared.Refusal.{Refusal}
 use Rattle.image.specs.declared.Opened.{Opened}
 use Rattle.image.specs.declared.Opened.the-variants as O
-use Rattle.image.proofs.Acceptance.{Fits, accepted-fits, accepted, ends-below}
+use Rattle.image.proofs.Acceptance.{Fits, accepted-fits, accepted, length-is, ends-below}
 use Rattle.image.proofs.Answers.{given-refused, open-same}
 use Rattle.image.proofs.Edges.{joins-cases, joins-one}
 use Rattle.image.proofs.Records.{part-is, within-records}
@@ -220,12 +220,11 @@ pub record Read (s : List ℕ) (h : Header) : Type 0 where
   pub limit-is : h .limit ≡ limitSquared s
   pub p-is : h .p ≡ epsilonNum s
   pub q-is : h .q ≡ epsilonDen s
-  pub mu-is : h .mu ≡ muField s
+  pub mu-is : h .mu ≡ headerOf s .mu
   pub length-of : h .len ≡ length s
   pub fits : Fits h
 
 pub header-is : (s : List ℕ) (h : Header) → Accepted s → h ≡ headerOf s → Read s h
-unfolding headerOf
 header-is s h ok e = record {
   n-is = ap (λ (x : Header). x .n) e;
   m-is = ap (λ (x : Header). x .m) e;
@@ -233,11 +232,11 @@ header-is s h ok e = record {
   p-is = ap (λ (x : Header). x .p) e;
   q-is = ap (λ (x : Header). x .q) e;
   mu-is = ap (λ (x : Header). x .mu) e;
-  length-of = ap (λ (x : Header). x .len) e ∙ eqb→eq (imageLength s) (length s) (ok .q2);
+  length-of = ap (λ (x : Header). x .len) e ∙ length-is s ok;
   fits = subst Fits (sym e) (accepted-fits s ok);
 }
 
-pub core-size-is : (s : List ℕ) (r m : ℕ) → r ≡ coreSize m → m ≡ muField s → r ≡ mu s
+pub core-size-is : (s : List ℕ) (r m : ℕ) → r ≡ coreSize m → m ≡ headerOf s .mu → r ≡ mu s
 unfolding mu
 core-size-is s r m e d = e ∙ ap coreSize d
 
@@ -250,11 +249,11 @@ handsetPart s h = take (h .handsets + handsetBytes * h .n - h .handsets) (drop (
 
 module _ (s : List ℕ) (h : Header) (e : h ≡ headerOf s) where
   pub edgePart-is : edgePart s h ≡ edgeRecords s
-  unfolding edgeRecords headerOf
+  unfolding edgeRecords
   edgePart-is = part-is s (h .edges) (edgeBytes * h .m) ∙ ap (λ (x : Header). take (edgeBytes * x .m) (drop (x .edges) s)) e
 
   pub handsetPart-is : handsetPart s h ≡ handsetRecords s
-  unfolding handsetRecords headerOf
+  unfolding handsetRecords
   handsetPart-is = part-is s (h .handsets) (handsetBytes * h .n) ∙ ap (λ (x : Header). take (handsetBytes * x .n) (drop (x .handsets) s)) e
 
 -- all of a part is there

@@ -20,8 +20,8 @@ use Rattle.sets.specs.Below.{bit, sum}
 use Rattle.sets.specs.Bits.{bitOf, bitAt, cell}
 use Rattle.sets.specs.Rows.{Table, Counted}
 use Rattle.fields.specs.Fields.{edgeBytes}
-use Rattle.image.specs.Image.{edgeCount, edgeRecords, endA, endB, joins, handsetRecord, distanceBetween, within}
-use Rattle.image.specs.Questions.{Accepted, headerOf, openOf}
+use Rattle.image.specs.Image.{headerOf, edgeCount, edgeRecords, endA, endB, joins, handsetRecord, distanceBetween, within}
+use Rattle.image.specs.Questions.{Accepted, openOf}
 use Rattle.image.specs.Rows.{Room}
 use Rattle.image.specs.declared.Header.{Header}
 use Rattle.image.specs.declared.Opened.{Opened}

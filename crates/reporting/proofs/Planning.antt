@@ -12,8 +12,8 @@ use lib.ListN.{length, replicate, length-replicate}
 use borrow.Author.Tests.{lt-ltb, le-leb}
 use Rattle.sets.specs.Below.{bit}
 use Rattle.sets.specs.Rows.{SetOf}
-use Rattle.image.specs.Image.{handsetCount}
-use Rattle.image.specs.Questions.{Accepted, headerOf}
+use Rattle.image.specs.Image.{headerOf, handsetCount}
+use Rattle.image.specs.Questions.{Accepted}
 use Rattle.image.specs.declared.Header.{Header}
 use Rattle.image.specs.declared.Refusal.{Refusal}
 use Rattle.image.specs.declared.Opened.{Opened}
@@ -42,11 +42,9 @@ blankMembers = replicate 8704 0
 
 module _ (s : List ℕ) (a : Accepted s) where
   few : length (communities (network s)) < length blankStarts
-  unfolding headerOf
   few = omega (arith, communities-few (network s), accepted-fits s a .n-limit, length-replicate {A = ℕ} 513 0)
 
   bound : length (memberTable (communities (network s))) ≤ length blankMembers
-  unfolding headerOf
   bound = omega (arith, memberships-bound s a, accepted-fits s a .n-limit, accepted-fits s a .m-limit, length-replicate {A = ℕ} 8704 0)
 
   plan-made : planOf s (length blankStarts) (length blankMembers) ≡ made (length (communities (network s))) (length (memberTable (communities (network s))))
@@ -66,13 +64,11 @@ module _ (s : List ℕ) (a : Accepted s) where
       ∙ in-room (communities (network s)) _ _ _ _ _ few bound
 
   cores-held : (ws : List ℕ) → CoreWords s ws → SetOf ws (λ v. ltb v (handsetCount s) && isCore (network s) v)
-  unfolding headerOf
   cores-held ws c = record { size = c .size; bits = λ v h. c .bits v h ∙ ap (λ (o : Opened). bit (coreFor s o v)) (opened s a) }
 
   pub plan-held : (h : Header) (counts : Counts) (answer : Planned) (starts table ws : List ℕ) → h ≡ headerOf s → answer ≡ P.Made counts
       → PlanCall s blankStarts blankMembers answer starts table → CoreWords s ws
       → PlanHeld s h (record { handsets = h .n; ties = h .m; counts = counts }) starts table ws
-  unfolding headerOf
   plan-held h counts answer starts table ws e d p c =
       let m : counts .groups ∷ (counts .memberships ∷ []) ≡ length (communities (network s)) ∷ (length (memberTable (communities (network s))) ∷ []) =
       ap (λ (x : Planned). planAnswer x .values) (sym d ∙ plan-same _ _ (p .answer) ∙ plan-made) in

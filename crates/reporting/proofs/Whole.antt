@@ -12,7 +12,7 @@ use mathlib.Core.Path.{_≡_, refl, sym, ap, ap₂, _∙_, subst}
 use mathlib.Core.Bool.{_&&_, not}
 use mathlib.Core.List.{List, [], _++_}
 use lib.Dec.{ltb}
-use lib.ListN.{length, getD, take, drop, replicate, length-append, length-take, length-drop}
+use lib.ListN.{length, getD, take, drop, replicate, length-append}
 use lib.Seq.{take-at, take-all}
 use Rattle.sets.specs.Below.{select, bit}
 use Rattle.sets.specs.Bits.{bitAt}
@@ -20,10 +20,10 @@ use Rattle.sets.specs.Rows.{SetOf}
 use Rattle.sets.proofs.Counting.{count-le}
 use Rattle.sets.proofs.Selecting.{length-select, select-ascends, select-cong}
 use Rattle.fields.specs.Fields.{edgeBytes}
-use Rattle.image.specs.Image.{handsetCount, edgeCount, edgeOffset, edgeRecords}
-use Rattle.image.specs.Questions.{headerOf}
+use Rattle.image.specs.Image.{headerOf, handsetCount, edgeCount, edgeRecords}
 use Rattle.image.specs.declared.Header.{Header}
-use Rattle.image.proofs.Acceptance.{accepted-fits, length-is, ends-below}
+use Rattle.image.proofs.Acceptance.{accepted-fits, length-is, edges-length, ends-below}
+use Rattle.image.proofs.Records as records
 use Rattle.community.specs.Network.{Network, isCore, isLeader, leaders, members, reachable, communities, cores, contains, role}
 use Rattle.community.specs.Scores.{pairs, everyEdge, joinedPairs, leaving}
 use Rattle.community.specs.Site.{network}
@@ -88,7 +88,6 @@ module _ {s : List ℕ} {h : Header} {head : Head} {starts table cores-set : Lis
   memberships-are = ap (λ (x : Head). x .counts .memberships) (held .head-is)
 
   pub groups-few : head .counts .groups ≤ 512
-  unfolding headerOf
   groups-few = omega (arith, groups-are, communities-few (network s), accepted-fits s (held .accepted) .n-limit)
 
   part-at : (k : ℕ) → k < head .counts .groups → membersOf starts table k ≡ getD (communities (network s)) k []
@@ -100,7 +99,7 @@ module _ {s : List ℕ} {h : Header} {head : Head} {starts table cores-set : Lis
   -- the counts of a group are its community's tally
   tally-held : (ts : List ℕ) → GroupsCounted (edgeRecords s) (edgeCount s) starts table (head .counts .groups) ts
       → (k : ℕ) → k < head .counts .groups → groupTally ts k (getD (communities (network s)) k []) ≡ tallyOf s (getD (communities (network s)) k [])
-  unfolding groupTally tallyOf leaving headerOf
+  unfolding groupTally tallyOf leaving
   tally-held ts c k l =
       let inside : k < length (communities (network s)) = omega (arith, groups-are) in
       let list : List ℕ = getD (communities (network s)) k [] in
@@ -113,7 +112,7 @@ module _ {s : List ℕ} {h : Header} {head : Head} {starts table cores-set : Lis
   pub text-is : (ts outlier-set : List ℕ) → GroupsCounted (edgeRecords s) (edgeCount s) starts table (head .counts .groups) ts
       → ((v : ℕ) → v < 512 → bitAt outlier-set v ≡ bit (ltb v (handsetCount s) && not (contains v (memberTable (communities (network s))))))
       → tableText head starts table ts cores-set outlier-set ≡ reportText s
-  unfolding tableText reportText reportWith cores outliers headerOf
+  unfolding tableText reportText reportWith cores outliers
   text-is ts outlier-set e o =
       let n : ℕ = handsetCount s in
       let gs : List (List ℕ) = communities (network s) in
@@ -129,7 +128,6 @@ module _ {s : List ℕ} {h : Header} {head : Head} {starts table cores-set : Lis
       (ap₂ (λ (a b : List ℕ). listLine coresWord a ++ listLine outliersWord b) core-list outlier-list))
 
   header-fits : (headerOf s .n ≤ 512) × (headerOf s .edges + edgeBytes * headerOf s .m ≤ length s)
-  unfolding headerOf
   header-fits =
       let f = accepted-fits s (held .accepted) in
       (f .n-limit, omega (arith, f .edges-to, length-is s (held .accepted)))
@@ -155,25 +153,17 @@ module _ {s : List ℕ} {h : Header} {head : Head} {starts table cores-set : Lis
 
   -- the part of the image that the edge records stand in
   edges-part : take ((headerOf s .edges + edgeBytes * headerOf s .m) - headerOf s .edges) (drop (headerOf s .edges) s) ≡ edgeRecords s
-  unfolding headerOf edgeRecords
-  edges-part = ap (λ (k : ℕ). take k (drop (edgeOffset s) s)) (let e : (edgeOffset s + edgeBytes * edgeCount s) - edgeOffset s ≡ edgeBytes * edgeCount s = omega arith in e)
+  unfolding edgeRecords
+  edges-part = records.part-is s (headerOf s .edges) (edgeBytes * edgeCount s)
 
   header-ends : Edges (edgeRecords s) (headerOf s .m)
-  unfolding headerOf edgeRecords
   header-ends =
       let f = accepted-fits s (held .accepted) in
       record {
         few = f .m-limit;
-        whole = simp (length-take, length-drop) (omega (arith, f .edges-to, length-is s (held .accepted)));
+        whole = omega (arith, edges-length s (held .accepted .header));
         low = λ e l. let b = ends-below s (held .accepted) e l in (omega (arith, b .0, f .n-limit), omega (arith, b .1, f .n-limit));
       }
-
-  -- the same from the header's own numbers
-  text-of-header : (ts outlier-set : List ℕ) → GroupsCounted (edgeRecords s) (headerOf s .m) starts table (head .counts .groups) ts
-      → ((v : ℕ) → v < 512 → bitAt outlier-set v ≡ bit (ltb v (headerOf s .n) && not (contains v (memberTable (communities (network s))))))
-      → tableText head starts table ts cores-set outlier-set ≡ reportText s
-  unfolding headerOf
-  text-of-header ts outlier-set e o = text-is ts outlier-set e o
 
   pub ends-held : Edges (take ((h .edges + edgeBytes * h .m) - h .edges) (drop (h .edges) s)) (h .m)
   ends-held = rw (held .header) (rw edges-part header-ends)
@@ -186,7 +176,7 @@ module _ {s : List ℕ} {h : Header} {head : Head} {starts table cores-set : Lis
       let m : List ℕ = memberTable (communities (network s)) in
       let counted : GroupsCounted (take ((headerOf s .edges + edgeBytes * headerOf s .m) - headerOf s .edges) (drop (headerOf s .edges) s)) (headerOf s .m) starts table (head .counts .groups) ts =
       subst (λ (x : Header). GroupsCounted (take ((x .edges + edgeBytes * x .m) - x .edges) (drop (x .edges) s)) (x .m) starts table (head .counts .groups) ts) (held .header) e in
-      text-of-header ts outlier-set
+      text-is ts outlier-set
       (subst (λ (part : List ℕ). GroupsCounted part (headerOf s .m) starts table (head .counts .groups) ts) edges-part counted)
       (λ v l.
       outside (h .n) p q v l

@@ -26,8 +26,8 @@ use Rattle.sets.specs.Below.{bit, count}
 use Rattle.sets.specs.Bits.{bitOf, bitAt, cell}
 use Rattle.sets.specs.Rows.{SetOf}
 use Rattle.fields.specs.Fields.{edgeBytes}
-use Rattle.image.specs.Image.{handsetCount, endA, endB}
-use Rattle.image.specs.Questions.{Accepted, headerOf}
+use Rattle.image.specs.Image.{headerOf, handsetCount, endA, endB}
+use Rattle.image.specs.Questions.{Accepted}
 use Rattle.image.specs.declared.Header.{Header}
 use Rattle.community.specs.Network.{contains, isCore, communities}
 use Rattle.community.specs.Scores.{pairs, justOne}

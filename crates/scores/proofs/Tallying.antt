@@ -22,8 +22,8 @@ use Rattle.sets.specs.Below.{count, sum, bit}
 use Rattle.sets.proofs.Tests.{and-right, any-make, eqb-of}
 use Rattle.sets.proofs.Counting.{count-sum, count-swap, count-false, sum-cong, sum-swap, sum-zero}
 use Rattle.fields.specs.Fields.{edgeBytes}
-use Rattle.image.specs.Image.{handsetCount, edgeCount, edgeOffset, edgeRecords, endA, endB, joins, adjacent}
-use Rattle.image.specs.Questions.{isLoop, repeatsEarlier, openOf, headerOf, Accepted}
+use Rattle.image.specs.Image.{headerOf, handsetCount, edgeCount, edgeRecords, endA, endB, joins, adjacent}
+use Rattle.image.specs.Questions.{isLoop, repeatsEarlier, openOf, Accepted}
 use Rattle.image.specs.declared.Header.{Header}
 use Rattle.image.specs.declared.Refusal.{Refusal}
 use Rattle.image.specs.declared.Opened.{Opened}
@@ -132,7 +132,7 @@ module _ (s : List ℕ) (a : Accepted s) where
 -- a list of at most 512 handsets
 module _ (s : List ℕ) (a : Accepted s) (l : List ℕ) (few : length l ≤ 512) (below : (i : ℕ) → i < length l → getD l i 0 < handsetCount s) where
   pub good-tallied : talliedOf s l ≡ T.Of (tallyOf s l)
-  unfolding talliedOf headerOf
+  unfolding talliedOf
   good-tallied = ap (λ (o : Opened). talliedFor s o l) (opened s a) ∙ entries-good (handsetCount s) l (tallyOf s l) few below
 
   pub good-scored : scoredOf s l ≡ S.Of (scoresFor (tallyOf s l))
@@ -141,15 +141,14 @@ module _ (s : List ℕ) (a : Accepted s) (l : List ℕ) (few : length l ≤ 512)
 
 module _ (s : List ℕ) (h : Header) (e : openOf s ≡ O.Site h) where
   pub site-fits : (h .edges + edgeBytes * h .m ≤ length s) × (h .m ≤ 4096) × (h .n ≤ 512)
-  unfolding headerOf
   site-fits =
       let r = accepted s h e in
       let f = accepted-fits s (r .0) in
-      let to : edgeOffset s + edgeBytes * edgeCount s ≤ length s = omega (arith, f .edges-to, length-is s (r .0)) in
+      let to : headerOf s .edges + edgeBytes * edgeCount s ≤ length s = omega (arith, f .edges-to, length-is s (r .0)) in
       subst (λ (g : Header). (g .edges + edgeBytes * g .m ≤ length s) × (g .m ≤ 4096) × (g .n ≤ 512)) (sym (r .1)) (to, f .m-limit, f .n-limit)
 
   pub site-tallied : (l : List ℕ) → askEntries (h .n) l (tallyAt (take (edgeBytes * h .m) (drop (h .edges) s)) (h .m) everyEdge l) ≡ talliedOf s l
-  unfolding headerOf edgeRecords talliedOf tallyOf
+  unfolding edgeRecords talliedOf tallyOf
   site-tallied l =
       let r = accepted s h e in
       ap (λ (g : Header). askEntries (g .n) l (tallyAt (take (edgeBytes * g .m) (drop (g .edges) s)) (g .m) everyEdge l)) (r .1)

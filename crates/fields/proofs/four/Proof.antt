@@ -1,6 +1,7 @@
 -- `fields::four` meets its contract. A number of four bytes is made of two of two bytes.
 use Prim.Native.Nat.{ℕ, _+_, _*_}
 use native.Mathlib.Omega.{arith}
+use borrow.Author.Needs.{needs}
 use mathlib.Core.Path.{sym, ap₂, _∙_}
 use denote.Ref.{now}
 use Rattle.fields.proofs.Bytes.{le-split}
@@ -8,19 +9,19 @@ use Rattle.fields.proofs.four.Statement.{statement}
 use Rattle.fields.proofs.four.Tie as tie
 
 two-requires : tie.Need-two-requires
-two-requires c κs = omega arith
+two-requires c κs = search needs
 
 add-two : tie.Need-add-two
-add-two c = omega arith
+add-two c = search needs
 
 two-requires-2 : tie.Need-two-requires-2
-two-requires-2 c κs = omega arith
+two-requires-2 c κs = search needs
 
 mul-result : tie.Need-mul-result
-mul-result c = omega arith
+mul-result c = search needs
 
 add-result : tie.Need-add-result
-add-result c = omega arith
+add-result c = search needs
 
 returns : tie.Need-returns
 returns c =

@@ -3,6 +3,7 @@ use Prim.Native.Nat.{_<_, ℕ, _+_, _*_, _≤_}
 use native.Mathlib.Omega.{arith}
 use mathlib.Core.Path.{sym, ap₂, _∙_}
 use lib.ListN.{length}
+use borrow.Author.Needs.{needs}
 use borrow.Author.Tests.{leb-true}
 use denote.Ref.{now}
 use mir.Syntax.{w64}
@@ -19,11 +20,11 @@ both : (x y : ℕ) → x < 4294967296 → y < 4294967296 → Fits w64 (x + 42949
 both x y h k = omega arith
 
 -- the test that was taken says that the bytes are there
-room : (c : tie.Then1) → c .before .before .before .args .at + 8 ≤ length (now (c .before .before .before .args .s))
+room : (c : tie.Then1) → (let a = c .before .before .before .args in a .at + 8 ≤ length (now (a .s)))
 room c = leb-true _ _ (sym (c .before .stands .ensures) ∙ c .if1 .taken)
 
 stands-requires : tie.Need-stands-requires
-stands-requires c κs = tt
+stands-requires c κs = search needs
 
 four-requires : tie.Need-four-requires
 four-requires c κs = omega (arith, room c)
@@ -47,7 +48,7 @@ returns c =
     ∙ sym (number-le 8 (now (a .s)) (a .at) (room (c .before .before)) ∙ le-split 4 4 (now (a .s)) (a .at))
 
 returns-2 : tie.Need-returns-2
-returns-2 c = let a = c .before .before .before .args in sym (number-none 8 (now (a .s)) (a .at) (sym (c .before .stands .ensures) ∙ c .if1 .left))
+returns-2 c = sym (number-none 8 _ _ (c .before .stands .ensures) (c .if1 .left))
 
 pub read8-spec : {M : Type 1} → statement M
 read8-spec =

@@ -1,20 +1,20 @@
 -- `fields::read_ends` meets its contract: each end is the number that `read2` gives.
 use Rattle.fields.specs.Fields.{endsOf}
-use native.Mathlib.Omega.{arith}
+use borrow.Author.Needs.{needs}
 use Rattle.fields.proofs.read_ends.Statement.{statement}
 use Rattle.fields.proofs.read_ends.Tie as tie
 
 read2-requires : tie.Need-read2-requires
-read2-requires c κs = tt
+read2-requires c κs = search needs
 
 cast-t3 : tie.Need-cast-t3
-cast-t3 c = omega arith
+cast-t3 c = search needs
 
 read2-requires-2 : tie.Need-read2-requires-2
-read2-requires-2 c κs = tt
+read2-requires-2 c κs = search needs
 
 cast-t5 : tie.Need-cast-t5
-cast-t5 c = omega arith
+cast-t5 c = search needs
 
 returns : tie.Need-returns
 unfolding endsOf

@@ -13,52 +13,40 @@ use Rattle.image.proofs.add.Statement.{statement}
 use Rattle.image.proofs.add.Tie as tie
 
 mul-sizes : tie.Need-mul-sizes
-mul-sizes c = omega arith
+mul-sizes c = search needs
 
 slice-read-sizes : tie.Need-slice-read-sizes
-slice-read-sizes c = omega arith
+slice-read-sizes c = search needs
 
 add-sizes : tie.Need-add-sizes
 add-sizes c = let s = c .before in record { fits = omega (arith, row-most (s .pre .3) (s .args .u) (s .pre .0)) }
 
 mul-sizes-2 : tie.Need-mul-sizes-2
-mul-sizes-2 c = omega arith
+mul-sizes-2 c = search needs
 
 slice-write-sizes : tie.Need-slice-write-sizes
-slice-write-sizes c = omega arith
+slice-write-sizes c = search needs
+
+mul-i : tie.Need-mul-i
+mul-i c = search needs
+
+add-i : tie.Need-add-i
+add-i c = search needs
 
 mul-rows : tie.Need-mul-rows
-mul-rows c = omega arith
-
-add-rows : tie.Need-add-rows
-add-rows c = omega arith
-
-mul-rows-2 : tie.Need-mul-rows-2
-mul-rows-2 c = omega arith
+mul-rows c = search needs
 
 slice-read-rows : tie.Need-slice-read-rows
-slice-read-rows c = omega arith
-
-mul-rows-3 : tie.Need-mul-rows-3
-mul-rows-3 c = omega arith
-
-add-rows-2 : tie.Need-add-rows-2
-add-rows-2 c = omega arith
+slice-read-rows c = search needs
 
 shl-rows : tie.Need-shl-rows
-shl-rows c = omega arith
+shl-rows c = search needs
 
-mul-rows-4 : tie.Need-mul-rows-4
-mul-rows-4 c = omega arith
-
-add-rows-3 : tie.Need-add-rows-3
-add-rows-3 c = omega arith
-
-mul-rows-5 : tie.Need-mul-rows-5
-mul-rows-5 c = omega arith
+mul-rows-2 : tie.Need-mul-rows-2
+mul-rows-2 c = search needs
 
 slice-write-rows : tie.Need-slice-write-rows
-slice-write-rows c = omega arith
+slice-write-rows c = search needs
 
 same-length : tie.Need-same-length
 same-length c = search needs
@@ -86,16 +74,12 @@ add-spec =
     add-sizes
     mul-sizes-2
     slice-write-sizes
+    mul-i
+    add-i
     mul-rows
-    add-rows
-    mul-rows-2
     slice-read-rows
-    mul-rows-3
-    add-rows-2
     shl-rows
-    mul-rows-4
-    add-rows-3
-    mul-rows-5
+    mul-rows-2
     slice-write-rows
     same-length
     same-length-2

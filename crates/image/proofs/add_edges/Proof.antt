@@ -6,18 +6,15 @@ use mathlib.Core.Path.{_≡_, sym, ap, ap₂, _∙_, subst}
 use mathlib.Core.Bool.{Bool, true, false, not}
 use mathlib.Core.List.{List}
 use lib.Dec.{T}
-use lib.ListN.{length}
 use Rattle.sets.specs.Below.{any}
 use Rattle.sets.specs.Bits.{cell, withBit}
 use Rattle.sets.proofs.Bits.{bitAt-lt}
-use Rattle.fields.specs.Fields.{edgeBytes}
 use Rattle.fields.specs.declared.Ends.{Ends}
 use Rattle.image.specs.Image.{endA, endB}
 use Rattle.image.specs.Questions.{badEnd}
 use Rattle.sets.specs.Rows.{Table, Counted}
 use Rattle.image.specs.Rows.{Room}
 use Rattle.image.specs.Scan.{linked, faulty}
-use Rattle.image.proofs.Records.{ends-part}
 use Rattle.image.proofs.Acceptance.{good-ends}
 use Rattle.image.proofs.Scanning.{scan-none, scan-more}
 use Rattle.image.proofs.Rows.{zero-is, table-has}
@@ -37,11 +34,11 @@ abbrev start : tie.At-loop Inv-loop μ-loop → tie.Start Inv-loop μ-loop
 start c = c .before .before .before .before
 
 -- the ends are read
-abbrev loop : tie.After-read-ends Inv-loop μ-loop → tie.At-loop Inv-loop μ-loop
-loop c = c .before .before .before
+abbrev loop : tie.After-ends-at Inv-loop μ-loop → tie.At-loop Inv-loop μ-loop
+loop c = c .before .before
 
 -- both are handsets; the edge is at no fault; the first cell is set; the second is; the table is back
-abbrev read : tie.Else1 Inv-loop μ-loop → tie.After-read-ends Inv-loop μ-loop
+abbrev read : tie.Else1 Inv-loop μ-loop → tie.After-ends-at Inv-loop μ-loop
 read c = c .before .before .before
 
 abbrev good : tie.Else2 Inv-loop μ-loop → tie.Else1 Inv-loop μ-loop
@@ -57,30 +54,24 @@ abbrev both : tie.After-slice-known6 Inv-loop μ-loop → tie.After-add2 Inv-loo
 both c = c .before .before .before .before
 
 -- ---- their parts
-abbrev edges : tie.After-read-ends Inv-loop μ-loop → List ℕ
+abbrev edges : tie.After-ends-at Inv-loop μ-loop → List ℕ
 edges c = start (loop c) .args .part .now
 
-abbrev count : tie.After-read-ends Inv-loop μ-loop → ℕ
+abbrev count : tie.After-ends-at Inv-loop μ-loop → ℕ
 count c = start (loop c) .args .n
 
-abbrev u-of : tie.After-read-ends Inv-loop μ-loop → ℕ
-u-of c = c .read-ends .result .a
+abbrev u-of : tie.After-ends-at Inv-loop μ-loop → ℕ
+u-of c = c .ends-at .result .a
 
-abbrev v-of : tie.After-read-ends Inv-loop μ-loop → ℕ
-v-of c = c .read-ends .result .b
+abbrev v-of : tie.After-ends-at Inv-loop μ-loop → ℕ
+v-of c = c .ends-at .result .b
 
 -- ---- the ends of the edge
-stands : (c : tie.In-loop Inv-loop μ-loop) → (let s = start (c .before) .args in edgeBytes * c .before .loop .k + edgeBytes ≤ length (s .part .now))
-stands c = omega (arith, start (c .before) .pre .1, c .loop-test .taken)
+u-is : (c : tie.After-ends-at Inv-loop μ-loop) → u-of c ≡ endA (edges c) (loop c .loop .k)
+u-is c = ap (λ (e : Ends). e .a) (c .ends-at .ensures)
 
-ends-are : (c : tie.After-read-ends Inv-loop μ-loop) → c .read-ends .result ≡ record { a = endA (edges c) (loop c .loop .k); b = endB (edges c) (loop c .loop .k) }
-ends-are c = c .read-ends .ensures ∙ ends-part (edges c) (loop c .loop .k) (stands (c .before .before))
-
-u-is : (c : tie.After-read-ends Inv-loop μ-loop) → u-of c ≡ endA (edges c) (loop c .loop .k)
-u-is c = ap (λ (e : Ends). e .a) (ends-are c)
-
-v-is : (c : tie.After-read-ends Inv-loop μ-loop) → v-of c ≡ endB (edges c) (loop c .loop .k)
-v-is c = ap (λ (e : Ends). e .b) (ends-are c)
+v-is : (c : tie.After-ends-at Inv-loop μ-loop) → v-of c ≡ endB (edges c) (loop c .loop .k)
+v-is c = ap (λ (e : Ends). e .b) (c .ends-at .ensures)
 
 good-end : (c : tie.Else1 Inv-loop μ-loop) → badEnd (edges (read c)) (count (read c)) (loop (read c) .loop .k) ≡ false
 good-end c =
@@ -97,40 +88,25 @@ small : (c : tie.Else1 Inv-loop μ-loop) → (u-of (read c) < 512) × (v-of (rea
 small c = let b = below c in let p = start (loop (read c)) .pre .0 in (omega (arith, b .0, p), omega (arith, b .1, p))
 
 -- ---- the bit looked at tells whether the edge is at fault
-told : (c : tie.After-has Inv-loop μ-loop)
-    → (let d = read (c .before .before) in faulty (edges d) (count d) (loop d .loop .k) ≡ c .has .result)
+told : (c : tie.After-row-has Inv-loop μ-loop)
+    → (let d = read (c .before .before) in faulty (edges d) (count d) (loop d .loop .k) ≡ c .row-has .result)
 told c =
     let g = c .before .before in
     let d = read g in
     let l = loop d .loop in
     fault-linked (count d) (edges d) (l .k) (good-end g) (omega (arith, below g .0, u-is d))
-    ∙ sym (c .has .ensures ∙ table-has (linked (count d) (edges d) (l .k)) (l .inv .3) (u-of d) (v-of d) (small g .0) (small g .1) ∙ ap₂ (linked (count d) (edges d) (l .k)) (u-is d) (v-is d))
+    ∙ sym (c .row-has .ensures ∙ table-has (linked (count d) (edges d) (l .k)) (l .inv .3) (u-of d) (v-of d) (small g .0) (small g .1) ∙ ap₂ (linked (count d) (edges d) (l .k)) (u-is d) (v-is d))
 
 -- and where it is not, the cell is empty
 empty : (c : tie.Else2 Inv-loop μ-loop) → (let d = read (good c) in cell (loop d .loop .rows) (u-of d) (v-of d) ≡ 0)
-empty c = zero-is _ (bitAt-lt (loop (read (good c)) .loop .rows) _) (sym (c .before .has .ensures) ∙ c .if2 .left)
+empty c = zero-is _ (bitAt-lt (loop (read (good c)) .loop .rows) _) (sym (c .before .row-has .ensures) ∙ c .if2 .left)
 
 -- ---- the answers
 loop-holds : tie.Need-loop-holds Inv-loop μ-loop
 loop-holds c = let s = c .before .before .before in (omega arith, scan-none _, s .pre .2, linked-none (s .args .n) (s .args .part .now) (s .pre .3), s .pre .4)
 
-mul-at : tie.Need-mul-at Inv-loop μ-loop
-mul-at c = omega (arith, stands c)
-
-add-past : tie.Need-add-past Inv-loop μ-loop
-add-past c = omega (arith, stands c)
-
-sub-read-ends : tie.Need-sub-read-ends Inv-loop μ-loop
-sub-read-ends c = omega arith
-
-part-read-ends-start : tie.Need-part-read-ends-start Inv-loop μ-loop
-part-read-ends-start c = omega (arith, stands c)
-
-part-read-ends-end : tie.Need-part-read-ends-end Inv-loop μ-loop
-part-read-ends-end c = omega (arith, stands c)
-
-read-ends-requires : tie.Need-read-ends-requires Inv-loop μ-loop
-read-ends-requires c κs = tt
+ends-at-requires : tie.Need-ends-at-requires Inv-loop μ-loop
+ends-at-requires c κs = omega (arith, start (c .before) .pre .1, c .loop-test .taken)
 
 same-length : tie.Need-same-length Inv-loop μ-loop
 same-length c = let at = loop (c .before .before .before) in at .loop .inv .2 .0 ∙ sym (start at .pre .2 .0)
@@ -142,11 +118,11 @@ returns : tie.Need-returns Inv-loop μ-loop
 returns c =
     let d = c .before .before .before in
     let l = loop d .loop in
-    added-no (edges d) (count d) (start (loop d) .args .m) (l .k) (l .inv .1) _ _ (d .before .before .loop-test .taken)
+    added-no (edges d) (count d) (start (loop d) .args .m) (l .k) (l .inv .1) _ _ (d .before .loop-test .taken)
     (fault-end (count d) (edges d) (l .k) (end-told (count d) (edges d) (l .k) (u-of d) (v-of d) true (u-is d) (v-is d) (c .if1 .taken)))
 
-has-requires : tie.Need-has-requires Inv-loop μ-loop
-has-requires c κs = let g = c .before in (small g .0, small g .1, loop (read g) .loop .inv .2 .0)
+row-has-requires : tie.Need-row-has-requires Inv-loop μ-loop
+row-has-requires c κs = let g = c .before in (small g .0, small g .1, loop (read g) .loop .inv .2 .0)
 
 same-length-3 : tie.Need-same-length-3 Inv-loop μ-loop
 same-length-3 c = let at = loop (read (c .before .before .before)) in at .loop .inv .2 .0 ∙ sym (start at .pre .2 .0)
@@ -158,7 +134,7 @@ returns-2 : tie.Need-returns-2 Inv-loop μ-loop
 returns-2 c =
     let d = read (c .before .before .before) in
     let l = loop d .loop in
-    added-no (edges d) (count d) (start (loop d) .args .m) (l .k) (l .inv .1) _ _ (d .before .before .loop-test .taken) (told (c .before) ∙ c .if2 .taken)
+    added-no (edges d) (count d) (start (loop d) .args .m) (l .k) (l .inv .1) _ _ (d .before .loop-test .taken) (told (c .before) ∙ c .if2 .taken)
 
 add-requires : tie.Need-add-requires Inv-loop μ-loop
 add-requires c κs =
@@ -181,10 +157,10 @@ add-requires-2 c κs =
     )
 
 add-k : tie.Need-add-k Inv-loop μ-loop
-add-k c = let d = read (good (new (once (both c)))) in omega (arith, d .before .before .loop-test .taken)
+add-k c = let d = read (good (new (once (both c)))) in omega (arith, d .before .loop-test .taken)
 
 loop-less : tie.Need-loop-less Inv-loop μ-loop
-loop-less c = let d = read (good (new (once (both c)))) in omega (arith, d .before .before .loop-test .taken)
+loop-less c = let d = read (good (new (once (both c)))) in omega (arith, d .before .loop-test .taken)
 
 loop-again : tie.Need-loop-again Inv-loop μ-loop
 loop-again c =
@@ -196,7 +172,7 @@ loop-again c =
     let l = loop d .loop in
     let p = u-is d in
     let q = v-is d in (
-      omega (arith, d .before .before .loop-test .taken),
+      omega (arith, d .before .loop-test .taken),
       scan-more _ (l .k) (l .inv .1) (told (n .before) ∙ n .if2 .left),
       (b .kept .0 ∙ a .kept .0 ∙ l .inv .2 .0, b .kept .1 .0 ∙ a .kept .1 .0 ∙ l .inv .2 .1),
       subst (λ (ws : List ℕ). Table ws (linked (count d) (edges d) (l .k + 1)))
@@ -224,16 +200,11 @@ add-edges-spec =
     Inv-loop
     μ-loop
     loop-holds
-    mul-at
-    add-past
-    sub-read-ends
-    part-read-ends-start
-    part-read-ends-end
-    read-ends-requires
+    ends-at-requires
     same-length
     same-length-2
     returns
-    has-requires
+    row-has-requires
     same-length-3
     same-length-4
     returns-2

@@ -5,6 +5,7 @@ use native.Mathlib.Omega.{arith}
 use mathlib.Core.Bool.{not}
 use mathlib.Core.Path.{sym, _∙_}
 use lib.Dec.{T}
+use borrow.Author.Needs.{needs}
 use Rattle.sets.specs.Below.{any}
 use Rattle.image.specs.Scan.{badRecord}
 use Rattle.image.proofs.Scanning.{scan-none, scan-more, scan-found, scan-ended}
@@ -17,32 +18,29 @@ Inv-loop question part count n k₀ k = (k ≤ count) × T (not (any k (badRecor
 abbrev μ-loop : tie.MeasureT-loop
 μ-loop question part count n k₀ k = count - k
 
--- the places that the answers speak of
-abbrev start : tie.At-loop Inv-loop μ-loop → tie.Start Inv-loop μ-loop
-start c = c .before .before
-
-abbrev loop : tie.After-is-bad Inv-loop μ-loop → tie.At-loop Inv-loop μ-loop
+-- the record was asked about
+abbrev loop : tie.After-is-bad-record Inv-loop μ-loop → tie.At-loop Inv-loop μ-loop
 loop c = c .before .before
 
 loop-holds : tie.Need-loop-holds Inv-loop μ-loop
 loop-holds c = (omega arith, scan-none _)
 
-is-bad-requires : tie.Need-is-bad-requires Inv-loop μ-loop
-is-bad-requires c κs =
-    let p = start (c .before) .pre in
+is-bad-record-requires : tie.Need-is-bad-record-requires Inv-loop μ-loop
+is-bad-record-requires c κs =
+    let p = c .before .before .before .pre in
     record { handsets = λ e. omega (arith, p .handsets e, c .loop-test .taken); edges = λ d. omega (arith, p .edges d, c .loop-test .taken) }
 
 returns : tie.Need-returns Inv-loop μ-loop
-returns c = let l = loop (c .before) .loop in scan-found _ _ (l .k) (omega arith) (l .inv .1) (sym (c .before .is-bad .ensures) ∙ c .if1 .taken)
+returns c = let l = loop (c .before) .loop in scan-found _ _ (l .k) (omega arith) (l .inv .1) (sym (c .before .is-bad-record .ensures) ∙ c .if1 .taken)
 
 add-k : tie.Need-add-k Inv-loop μ-loop
-add-k c = omega arith
+add-k c = search needs
 
 loop-less : tie.Need-loop-less Inv-loop μ-loop
-loop-less c = omega arith
+loop-less c = search needs
 
 loop-again : tie.Need-loop-again Inv-loop μ-loop
-loop-again c = let l = loop (c .before) .loop in (omega arith, scan-more _ (l .k) (l .inv .1) (sym (c .before .is-bad .ensures) ∙ c .if1 .left))
+loop-again c = let l = loop (c .before) .loop in (omega arith, scan-more _ (l .k) (l .inv .1) (sym (c .before .is-bad-record .ensures) ∙ c .if1 .left))
 
 returns-2 : tie.Need-returns-2 Inv-loop μ-loop
 returns-2 c = let l = c .before .loop in scan-ended _ _ (l .k) (omega arith) (l .inv .1)
@@ -54,7 +52,7 @@ first-bad-spec =
     Inv-loop
     μ-loop
     loop-holds
-    is-bad-requires
+    is-bad-record-requires
     returns
     add-k
     loop-less

@@ -6,6 +6,7 @@ use native.Mathlib.Numerals.{add-one}
 use mathlib.Core.Path.{_≡_, refl, ap, ap₂, _∙_}
 use mathlib.Core.Bool.{Bool, _||_, not}
 use mathlib.Core.List.{List}
+use borrow.Author.Needs.{needs}
 use Rattle.sets.specs.Below.{any}
 use Rattle.sets.proofs.Tests.{or-comm}
 use Rattle.fields.specs.Fields.{coordinateCount}
@@ -35,19 +36,19 @@ unfolding any
 loop-holds c = (omega arith, refl)
 
 mul-coordinate : tie.Need-mul-coordinate Inv-loop μ-loop
-mul-coordinate c = omega arith
+mul-coordinate c = search needs
 
 coordinate-requires : tie.Need-coordinate-requires Inv-loop μ-loop
-coordinate-requires c κs = tt
+coordinate-requires c κs = search needs
 
 in-limits-requires : tie.Need-in-limits-requires Inv-loop μ-loop
-in-limits-requires c κs = tt
+in-limits-requires c κs = search needs
 
 add-i : tie.Need-add-i Inv-loop μ-loop
-add-i c = omega arith
+add-i c = search needs
 
 loop-less : tie.Need-loop-less Inv-loop μ-loop
-loop-less c = omega arith
+loop-less c = search needs
 
 loop-again : tie.Need-loop-again Inv-loop μ-loop
 unfolding any coordinateOf

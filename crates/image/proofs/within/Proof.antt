@@ -7,6 +7,7 @@ use native.Mathlib.Numerals.{add-one}
 use mathlib.Core.Path.{_≡_, sym, ap, ap₂, _∙_, subst}
 use mathlib.Core.Bool.{Bool, true, _&&_}
 use lib.Dec.{T, leb, leb→le, le→leb}
+use borrow.Author.Needs.{needs}
 use Rattle.sets.specs.Below.{sum}
 use Rattle.sets.proofs.Tests.{T-true, T-ext, and-make, and-left, and-right}
 use Rattle.fields.specs.Fields.{coordinateCount}
@@ -22,13 +23,14 @@ pub record Left (total limit : ℕ) (fits : Bool) (room : ℕ) : Type 0 where
 left-none : (limit : ℕ) → Left 0 limit true limit
 left-none limit = record { answer = sym (T-true (leb 0 limit) (le→leb 0 limit (omega arith))); rest = λ t. omega arith }
 
-left-more : (total limit room d next : ℕ) (fits : Bool) → Left total limit fits room → d < 2 ^ 64 → next < 2 ^ 64 → (next + d) % 2 ^ 64 ≡ room
-    → Left (d + total) limit (fits && leb d room) next
-left-more total limit room d next fits l hd hn e = record {
-  answer = T-ext (fits && leb d room) (leb (d + total) limit)
-      (λ t. le→leb (d + total) limit (omega (arith, l .rest (and-left fits (leb d room) t), leb→le d room (and-right fits (leb d room) t))))
-      (λ t. let f : T fits = subst T (sym (l .answer)) (le→leb total limit (omega (arith, leb→le (d + total) limit t))) in
-      and-make fits (leb d room) f (le→leb d room (omega (arith, l .rest f, leb→le (d + total) limit t))));
+-- d is the square that the code has, x the definition's
+left-more : (total limit room d x next : ℕ) (fits : Bool) → Left total limit fits room → d ≡ x → d < 2 ^ 64 → next < 2 ^ 64 → (next + d) % 2 ^ 64 ≡ room
+    → Left (x + total) limit (fits && leb d room) next
+left-more total limit room d x next fits l h hd hn e = record {
+  answer = T-ext (fits && leb d room) (leb (x + total) limit)
+      (λ t. le→leb (x + total) limit (omega (arith, l .rest (and-left fits (leb d room) t), leb→le d room (and-right fits (leb d room) t))))
+      (λ t. let f : T fits = subst T (sym (l .answer)) (le→leb total limit (omega (arith, leb→le (x + total) limit t))) in
+      and-make fits (leb d room) f (le→leb d room (omega (arith, l .rest f, leb→le (x + total) limit t))));
   rest = λ t. omega (arith, l .rest (and-left fits (leb d room) t), leb→le d room (and-right fits (leb d room) t), e);
 }
 
@@ -38,16 +40,17 @@ Inv-loop a b limit fits₀ room₀ i₀ fits room i = (i ≤ coordinateCount) ×
 abbrev μ-loop : tie.MeasureT-loop
 μ-loop a b limit fits₀ room₀ i₀ fits room i = coordinateCount - i
 
--- the places that the answers speak of: the start, the loop's test, both coordinates read, their gap squared
+-- the places that the answers speak of, and the squares that are summed
 abbrev start : tie.At-loop Inv-loop μ-loop → tie.Start Inv-loop μ-loop
 start c = c .before .before .before
+
+abbrev squares : tie.At-loop Inv-loop μ-loop → ℕ → ℕ
+squares c = let s = start c .args in gapSquared (s .a .now) (s .b .now)
 
 abbrev loop : tie.After-squared-gap Inv-loop μ-loop → tie.At-loop Inv-loop μ-loop
 loop c = c .before .before .before .before
 
--- the square is that of the definition
-square-is : (c : tie.After-squared-gap Inv-loop μ-loop)
-    → (let s = start (loop c) .args in c .squared-gap .result ≡ gapSquared (s .a .now) (s .b .now) (loop c .loop .i))
+square-is : (c : tie.After-squared-gap Inv-loop μ-loop) → c .squared-gap .result ≡ squares (loop c) (loop c .loop .i)
 unfolding coordinateOf
 square-is c = c .squared-gap .ensures ∙ ap₂ (λ (x y : ℕ). gap x y * gap x y) (c .before .before .coordinate .ensures) (c .before .coordinate2 .ensures)
 
@@ -56,47 +59,39 @@ unfolding sum
 loop-holds c = (omega arith, left-none _)
 
 mul-at : tie.Need-mul-at Inv-loop μ-loop
-mul-at c = omega arith
+mul-at c = search needs
 
 coordinate-requires : tie.Need-coordinate-requires Inv-loop μ-loop
-coordinate-requires c κs = tt
+coordinate-requires c κs = search needs
 
 coordinate-requires-2 : tie.Need-coordinate-requires-2 Inv-loop μ-loop
-coordinate-requires-2 c κs = tt
+coordinate-requires-2 c κs = search needs
 
 squared-gap-requires : tie.Need-squared-gap-requires Inv-loop μ-loop
 squared-gap-requires c κs = (omega (arith, c .before .coordinate .ensures), omega (arith, c .coordinate2 .ensures))
 
 wrapping-sub-u64-requires : tie.Need-wrapping-sub-u64-requires Inv-loop μ-loop
-wrapping-sub-u64-requires c κs = tt
+wrapping-sub-u64-requires c κs = search needs
 
 add-i : tie.Need-add-i Inv-loop μ-loop
-add-i c = omega arith
+add-i c = search needs
 
 loop-less : tie.Need-loop-less Inv-loop μ-loop
-loop-less c = omega arith
+loop-less c = search needs
 
 loop-again : tie.Need-loop-again Inv-loop μ-loop
 unfolding sum
 loop-again c =
     let g = c .before in
-    let at = loop g in
-    let l = at .loop in
-    let s = start at .args in
-    let f : ℕ → ℕ = gapSquared (s .a .now) (s .b .now) in (
-      omega arith,
-      rw (add-one (l .i))
-          (subst (λ (x : ℕ). Left (x + sum (l .i) f) (s .limit) (l .fits && leb (g .squared-gap .result) (l .room)) (c .wrapping-sub-u64 .result)) (square-is g)
-          (left-more (sum (l .i) f) (s .limit) (l .room) (g .squared-gap .result) (c .wrapping-sub-u64 .result) (l .fits) (l .inv .1) (g .squared-gap .ok) (c .wrapping-sub-u64 .ok) (c .wrapping-sub-u64 .ensures))),
-    )
+    let l = loop g .loop in
+    (omega arith, rw (add-one (l .i)) (left-more _ _ (l .room) _ _ _ (l .fits) (l .inv .1) (square-is g) (g .squared-gap .ok) (c .wrapping-sub-u64 .ok) (c .wrapping-sub-u64 .ensures)))
 
 returns : tie.Need-returns Inv-loop μ-loop
 unfolding distanceBetween
 returns c =
     let l = c .before .loop in
-    let s = start (c .before) .args in
     let e : l .i ≡ coordinateCount = omega (arith, l .inv .0, c .loop-test .left) in
-    l .inv .1 .answer ∙ ap (λ (n : ℕ). leb (sum n (gapSquared (s .a .now) (s .b .now))) (s .limit)) e
+    l .inv .1 .answer ∙ ap (λ (n : ℕ). leb (sum n (squares (c .before))) (start (c .before) .args .limit)) e
 
 pub within-spec : {M : Type 1} → statement M
 within-spec =

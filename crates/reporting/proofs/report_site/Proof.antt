@@ -2,7 +2,7 @@
 use native.Mathlib.Omega.{arith}
 use mathlib.Core.Path.{refl}
 use denote.Ref.{now}
-use Rattle.image.specs.Questions.{headerOf}
+use Rattle.image.specs.Image.{headerOf}
 use Rattle.image.proofs.Acceptance.{opened}
 use Rattle.reporting.proofs.Planning.{plan-held, plan-granted}
 use Rattle.reporting.proofs.Answers.{site-answer}

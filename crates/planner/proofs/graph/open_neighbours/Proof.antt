@@ -3,7 +3,8 @@
 use native.Mathlib.Omega.{arith}
 use mathlib.Core.Path.{_≡_, _∙_}
 use borrow.Author.Needs.{needs}
-use Rattle.image.specs.Questions.{Accepted, headerOf}
+use Rattle.image.specs.Image.{headerOf}
+use Rattle.image.specs.Questions.{Accepted}
 use Rattle.planner.proofs.GraphLaws.{Read, header-is, handsetPart-length, told-yes, read-no, read-yes, edges-ready, handsets-there, neighbours-kept}
 use Rattle.planner.proofs.graph.open_neighbours.Statement.{statement}
 use Rattle.planner.proofs.graph.open_neighbours.Tie as tie

@@ -1,0 +1,40 @@
+-- `image::ends_at` meets its contract: the two numbers of a record are those at its place in the part.
+use mathlib.Core.Path.{_∙_}
+use native.Mathlib.Omega.{arith}
+use borrow.Author.Needs.{needs}
+use Rattle.image.proofs.Records.{ends-part}
+use Rattle.image.proofs.ends_at.Statement.{statement}
+use Rattle.image.proofs.ends_at.Tie as tie
+
+mul-at : tie.Need-mul-at
+mul-at c = search needs
+
+add-past : tie.Need-add-past
+add-past c = search needs
+
+sub-read-ends : tie.Need-sub-read-ends
+sub-read-ends c = search needs
+
+part-read-ends-start : tie.Need-part-read-ends-start
+part-read-ends-start c = search needs
+
+part-read-ends-end : tie.Need-part-read-ends-end
+part-read-ends-end c = search needs
+
+read-ends-requires : tie.Need-read-ends-requires
+read-ends-requires c κs = search needs
+
+returns : tie.Need-returns
+returns c = let s = c .before .before .before in c .read-ends .ensures ∙ ends-part (s .args .part .now) (s .args .k) (omega (arith, s .pre))
+
+pub ends-at-spec : {M : Type 1} → statement M
+ends-at-spec =
+    tie.close
+    (tie.spec
+    mul-at
+    add-past
+    sub-read-ends
+    part-read-ends-start
+    part-read-ends-end
+    read-ends-requires
+    returns)
