@@ -1,12 +1,14 @@
 -- The texts that the report's loops write, one step more; and the text from the tables is the report's.
-use Prim.Native.Nat.{ℕ, _+_}
+use Prim.Native.Nat.{ℕ, _+_, _≤_}
 use native.Mathlib.Numerals.{add-one}
 use mathlib.Core.Path.{_≡_, sym, ap, _∙_}
 use mathlib.Core.List.{List, [], _∷_, _++_, append-assoc}
+use lib.ListN.{length}
 use Rattle.lookup.specs.Lookup.{membersOf}
 use Rattle.scores.specs.Scored.{scoresFor}
-use Rattle.text.specs.Text.{decimal}
+use Rattle.text.specs.Text.{Wrote, decimal}
 use Rattle.text.specs.Text as X
+use Rattle.text.proofs.Writing.{chain}
 use Rattle.image.specs.declared.Refusal.{Refusal}
 use Rattle.reporting.specs.Report.{headLine, groupLine, listLine, refusedText, newline, handsetsWord, tiesWord, groupsWord, membershipsWord, coresWord, outliersWord, refusedWord}
 use Rattle.reporting.specs.Held.{groupTally, tableLines, tableText}
@@ -31,15 +33,13 @@ head-parts h =
     five : (a b c d e : List ℕ) → (((a ++ b) ++ c) ++ d) ++ e ≡ a ++ (b ++ (c ++ (d ++ e)))
     five a b c d e = simp append-assoc
 
--- the text as its four writes leave it
-pub text-parts : (h : Head) (starts members ts cores outliers : List ℕ) → tableText h starts members ts cores outliers
-    ≡ ((headLine h ++ tableLines starts members ts (h .counts .groups)) ++ listLine coresWord (X.elementsOf cores)) ++ listLine outliersWord (X.elementsOf outliers)
+-- the text by its four writes
+pub text-written : {l l₁ l₂ l₃ l₄ : List ℕ} {k r₁ r₂ r₃ r₄ : ℕ} (h : Head) (starts members ts cores outliers : List ℕ) → length l ≤ 9223372036854775808
+    → k ≡ h .counts .groups → Wrote l 0 (headLine h) l₁ r₁ → Wrote l₁ r₁ (tableLines starts members ts k) l₂ r₂
+    → Wrote l₂ r₂ (listLine coresWord (X.elementsOf cores)) l₃ r₃ → Wrote l₃ r₃ (listLine outliersWord (X.elementsOf outliers)) l₄ r₄
+    → Wrote l 0 (tableText h starts members ts cores outliers) l₄ r₄
 unfolding tableText
-text-parts h starts members ts cores outliers =
-    sym (four (headLine h) (tableLines starts members ts (h .counts .groups)) (listLine coresWord (X.elementsOf cores)) (listLine outliersWord (X.elementsOf outliers)))
-  where
-    four : (a b c d : List ℕ) → ((a ++ b) ++ c) ++ d ≡ a ++ (b ++ (c ++ d))
-    four a b c d = simp append-assoc
+text-written h starts members ts cores outliers small e p q r s = simp append-assoc at (chain small (chain small (chain small p (rw e at q)) r) s)
 
 -- a refusal as its three writes leave it
 pub refused-parts : (r : Refusal) → refusedText r ≡ ((refusedWord ++ decimal (r .number)) ++ ((32 ∷ []) ++ decimal (r .place))) ++ newline

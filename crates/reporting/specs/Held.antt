@@ -8,7 +8,7 @@
 --     Raised ts base w ..  a table with 1 added at base + k for each set bit k of the word w
 --     CountsFit ts              a table of 1,024 numbers that none of 4,096 edges makes too large
 --     Edges part m         m edge records stand in the part, and the ends of each have rows
---     EdgeCounted ..       a table with one edge added, for the groups of the first words of the rows
+--     EdgeCounted ..       a table with one edge added, for the groups of the rows' words that begin below a bound
 --     EdgesCounted ..      the counts over the first m edges, for those groups
 --     GroupsCounted ..     the tied pairs and the leaving edges of each group of a plan's two tables
 --     tableLines ..        the lines of the first k groups, from the plan's two tables and the counts
@@ -16,7 +16,7 @@
 --     Filled t l r l′      a text t was written into the buffer l where it fits: the answer r, and the buffer after
 --     Without ws l ws′     the set ws with the numbers of l taken out
 --     PlanHeld s ..        an accepted image's header, the numbers of line one, the plan in the two tables, and the set of cores
-use Prim.Native.Nat.{ℕ, zero, suc, _+_, _*_, _-_, _≤_, _<_}
+use Prim.Native.Nat.{ℕ, zero, suc, _+_, _*_, _-_, _/_, _≤_, _<_}
 use mathlib.Core.Path.{_≡_}
 use mathlib.Core.Bool.{Bool, _&&_, _||_, not, cond}
 use mathlib.Core.List.{List, [], _++_}
@@ -81,22 +81,22 @@ pub record Edges (part : List ℕ) (m : ℕ) : Type 0 where
   pub whole : edgeBytes * m ≤ length part
   pub low : (e : ℕ) → e < m → (endA part e < 512) × (endB part e < 512)
 
--- the edge between u and v is tied in group k, or leaves it; k is one of the first words' groups
+-- the edge between u and v is tied in group k, or leaves it; k is a group of a word that begins below `groups`
 unfoldable pub joinedIn : List ℕ → ℕ → ℕ → ℕ → ℕ → Bool
-joinedIn rows words u v k = ltb k (64 * words) && (inGroup rows u k && inGroup rows v k)
+joinedIn rows groups u v k = ltb (64 * (k / 64)) groups && (inGroup rows u k && inGroup rows v k)
 
 unfoldable pub leavesIn : List ℕ → ℕ → ℕ → ℕ → ℕ → Bool
-leavesIn rows words u v k = ltb k (64 * words) && justOne (inGroup rows u k) (inGroup rows v k)
+leavesIn rows groups u v k = ltb (64 * (k / 64)) groups && justOne (inGroup rows u k) (inGroup rows v k)
 
-pub record EdgeCounted (rows : List ℕ) (u v words : ℕ) (ts ts′ : List ℕ) : Type 0 where
+pub record EdgeCounted (rows : List ℕ) (u v groups : ℕ) (ts ts′ : List ℕ) : Type 0 where
   pub size : length ts′ ≡ 1024
-  pub joined : (k : ℕ) → k < 512 → getD ts′ k 0 ≡ getD ts k 0 + bit (joinedIn rows words u v k)
-  pub leaving : (k : ℕ) → k < 512 → getD ts′ (512 + k) 0 ≡ getD ts (512 + k) 0 + bit (leavesIn rows words u v k)
+  pub joined : (k : ℕ) → k < 512 → getD ts′ k 0 ≡ getD ts k 0 + bit (joinedIn rows groups u v k)
+  pub leaving : (k : ℕ) → k < 512 → getD ts′ (512 + k) 0 ≡ getD ts (512 + k) 0 + bit (leavesIn rows groups u v k)
 
-pub record EdgesCounted (rows part : List ℕ) (m words : ℕ) (ts : List ℕ) : Type 0 where
+pub record EdgesCounted (rows part : List ℕ) (m groups : ℕ) (ts : List ℕ) : Type 0 where
   pub size : length ts ≡ 1024
-  pub joined : (k : ℕ) → k < 512 → getD ts k 0 ≡ count m (λ e. joinedIn rows words (endA part e) (endB part e) k)
-  pub leaving : (k : ℕ) → k < 512 → getD ts (512 + k) 0 ≡ count m (λ e. leavesIn rows words (endA part e) (endB part e) k)
+  pub joined : (k : ℕ) → k < 512 → getD ts k 0 ≡ count m (λ e. joinedIn rows groups (endA part e) (endB part e) k)
+  pub leaving : (k : ℕ) → k < 512 → getD ts (512 + k) 0 ≡ count m (λ e. leavesIn rows groups (endA part e) (endB part e) k)
 
 pub record GroupsCounted (part : List ℕ) (m : ℕ) (starts members : List ℕ) (groups : ℕ) (ts : List ℕ) : Type 0 where
   pub size : length ts ≡ 1024

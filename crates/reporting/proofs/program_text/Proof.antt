@@ -31,7 +31,7 @@ abbrev told : tie.After-put-refusal2 → tie.After-reported2
 told c = c .before .before .before
 
 put-refusal-requires : tie.Need-put-refusal-requires
-put-refusal-requires c κs = tt
+put-refusal-requires c κs = search needs
 
 same-length : tie.Need-same-length
 same-length c = omega arith
@@ -43,7 +43,7 @@ returns c =
     rw (program-long (now (a .input)) (length (now (a .out))) (long w .if1 .taken)) (w .put-refusal .ensures)
 
 report-requires : tie.Need-report-requires
-report-requires c κs = tt
+report-requires c κs = search needs
 
 enum-known-reported : tie.Need-enum-known-reported
 enum-known-reported c = search needs
@@ -52,7 +52,7 @@ enum-known-reported-2 : tie.Need-enum-known-reported-2
 enum-known-reported-2 c = search needs
 
 put-refusal-requires-2 : tie.Need-put-refusal-requires-2
-put-refusal-requires-2 c κs = tt
+put-refusal-requires-2 c κs = search needs
 
 same-length-2 : tie.Need-same-length-2
 same-length-2 c = omega arith

@@ -4,20 +4,21 @@ use mathlib.Core.List.{append-assoc}
 use Rattle.text.proofs.Writing.{chain}
 use Rattle.reporting.specs.Report.{groupLine}
 use Rattle.reporting.specs.Held.{scoresPart}
+use borrow.Author.Needs.{needs}
 use Rattle.reporting.proofs.put_group.Statement.{statement}
 use Rattle.reporting.proofs.put_group.Tie as tie
 
 put-scores-requires : tie.Need-put-scores-requires
-put-scores-requires c κs = tt
+put-scores-requires c κs = search needs
 
 put-requires : tie.Need-put-requires
-put-requires c κs = tt
+put-requires c κs = search needs
 
 put-numbers-requires : tie.Need-put-numbers-requires
-put-numbers-requires c κs = tt
+put-numbers-requires c κs = search needs
 
 put-requires-2 : tie.Need-put-requires-2
-put-requires-2 c κs = tt
+put-requires-2 c κs = search needs
 
 same-length : tie.Need-same-length
 same-length c = omega arith

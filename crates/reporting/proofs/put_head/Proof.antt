@@ -1,11 +1,11 @@
 -- `reporting::put_head` meets its contract: four labelled numbers and byte 10.
-use mathlib.Core.Path.{refl}
 use Prim.Native.Nat.{_≤_}
 use lib.ListN.{length}
 use denote.Ref.{now}
 use native.Mathlib.Omega.{arith}
 use Rattle.text.proofs.Writing.{chain}
 use Rattle.reporting.proofs.Lines.{head-parts}
+use borrow.Author.Needs.{needs}
 use Rattle.reporting.proofs.put_head.Statement.{statement}
 use Rattle.reporting.proofs.put_head.Tie as tie
 
@@ -29,37 +29,37 @@ abbrev fifth : tie.After-slice-known6 → tie.After-put
 fifth c = c .before .before
 
 slice-aggregate-put-labelled : tie.Need-slice-aggregate-put-labelled
-slice-aggregate-put-labelled c = refl
+slice-aggregate-put-labelled c = search needs
 
 cast-put-labelled : tie.Need-cast-put-labelled
-cast-put-labelled c = omega arith
+cast-put-labelled c = search needs
 
 put-labelled-requires : tie.Need-put-labelled-requires
-put-labelled-requires c κs = tt
+put-labelled-requires c κs = search needs
 
 slice-aggregate-put-labelled-2 : tie.Need-slice-aggregate-put-labelled-2
-slice-aggregate-put-labelled-2 c = refl
+slice-aggregate-put-labelled-2 c = search needs
 
 cast-put-labelled-2 : tie.Need-cast-put-labelled-2
-cast-put-labelled-2 c = omega arith
+cast-put-labelled-2 c = search needs
 
 put-labelled-requires-2 : tie.Need-put-labelled-requires-2
-put-labelled-requires-2 c κs = tt
+put-labelled-requires-2 c κs = search needs
 
 slice-aggregate-put-labelled-3 : tie.Need-slice-aggregate-put-labelled-3
-slice-aggregate-put-labelled-3 c = refl
+slice-aggregate-put-labelled-3 c = search needs
 
 put-labelled-requires-3 : tie.Need-put-labelled-requires-3
-put-labelled-requires-3 c κs = tt
+put-labelled-requires-3 c κs = search needs
 
 slice-aggregate-put-labelled-4 : tie.Need-slice-aggregate-put-labelled-4
-slice-aggregate-put-labelled-4 c = refl
+slice-aggregate-put-labelled-4 c = search needs
 
 put-labelled-requires-4 : tie.Need-put-labelled-requires-4
-put-labelled-requires-4 c κs = tt
+put-labelled-requires-4 c κs = search needs
 
 put-requires : tie.Need-put-requires
-put-requires c κs = tt
+put-requires c κs = search needs
 
 same-length : tie.Need-same-length
 same-length c = omega arith

@@ -1,31 +1,31 @@
 -- `reporting::put_refusal` meets its contract: two labelled numbers and byte 10.
-use mathlib.Core.Path.{refl}
 use native.Mathlib.Omega.{arith}
 use Rattle.text.proofs.Writing.{chain}
 use Rattle.reporting.proofs.Lines.{refused-parts}
 use Prim.Native.Nat.{_≤_}
 use lib.ListN.{length}
 use denote.Ref.{now}
+use borrow.Author.Needs.{needs}
 use Rattle.reporting.proofs.put_refusal.Statement.{statement}
 use Rattle.reporting.proofs.put_refusal.Tie as tie
 
 slice-aggregate-put-labelled : tie.Need-slice-aggregate-put-labelled
-slice-aggregate-put-labelled c = refl
+slice-aggregate-put-labelled c = search needs
 
 cast-put-labelled : tie.Need-cast-put-labelled
-cast-put-labelled c = omega arith
+cast-put-labelled c = search needs
 
 put-labelled-requires : tie.Need-put-labelled-requires
-put-labelled-requires c κs = tt
+put-labelled-requires c κs = search needs
 
 slice-aggregate-put-labelled-2 : tie.Need-slice-aggregate-put-labelled-2
-slice-aggregate-put-labelled-2 c = refl
+slice-aggregate-put-labelled-2 c = search needs
 
 put-labelled-requires-2 : tie.Need-put-labelled-requires-2
-put-labelled-requires-2 c κs = tt
+put-labelled-requires-2 c κs = search needs
 
 put-requires : tie.Need-put-requires
-put-requires c κs = tt
+put-requires c κs = search needs
 
 same-length : tie.Need-same-length
 same-length c = omega arith

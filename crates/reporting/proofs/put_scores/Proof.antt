@@ -1,5 +1,4 @@
 -- `reporting::put_scores` meets its contract: five writes, one after another.
-use mathlib.Core.Path.{refl}
 use Prim.Native.Nat.{_≤_}
 use lib.ListN.{length}
 use denote.Ref.{now}
@@ -7,35 +6,36 @@ use native.Mathlib.Omega.{arith}
 use mathlib.Core.List.{append-assoc}
 use Rattle.text.proofs.Writing.{chain}
 use Rattle.reporting.specs.Held.{scoresPart}
+use borrow.Author.Needs.{needs}
 use Rattle.reporting.proofs.put_scores.Statement.{statement}
 use Rattle.reporting.proofs.put_scores.Tie as tie
 
 scores-of-requires : tie.Need-scores-of-requires
-scores-of-requires c κs = tt
+scores-of-requires c κs = search needs
 
 slice-aggregate-put-labelled : tie.Need-slice-aggregate-put-labelled
-slice-aggregate-put-labelled c = refl
+slice-aggregate-put-labelled c = search needs
 
 put-labelled-requires : tie.Need-put-labelled-requires
-put-labelled-requires c κs = tt
+put-labelled-requires c κs = search needs
 
 slice-aggregate-put-all : tie.Need-slice-aggregate-put-all
-slice-aggregate-put-all c = refl
+slice-aggregate-put-all c = search needs
 
 put-all-requires : tie.Need-put-all-requires
-put-all-requires c κs = tt
+put-all-requires c κs = search needs
 
 put-score-requires : tie.Need-put-score-requires
-put-score-requires c κs = tt
+put-score-requires c κs = search needs
 
 slice-aggregate-put-all-2 : tie.Need-slice-aggregate-put-all-2
-slice-aggregate-put-all-2 c = refl
+slice-aggregate-put-all-2 c = search needs
 
 put-all-requires-2 : tie.Need-put-all-requires-2
-put-all-requires-2 c κs = tt
+put-all-requires-2 c κs = search needs
 
 put-score-requires-2 : tie.Need-put-score-requires-2
-put-score-requires-2 c κs = tt
+put-score-requires-2 c κs = search needs
 
 same-length : tie.Need-same-length
 same-length c = omega arith

@@ -3,17 +3,18 @@ use native.Mathlib.Omega.{arith}
 use mathlib.Core.List.{append-assoc}
 use Rattle.text.proofs.Writing.{chain}
 use Rattle.reporting.specs.Report.{listLine}
+use borrow.Author.Needs.{needs}
 use Rattle.reporting.proofs.put_set.Statement.{statement}
 use Rattle.reporting.proofs.put_set.Tie as tie
 
 put-all-requires : tie.Need-put-all-requires
-put-all-requires c κs = tt
+put-all-requires c κs = search needs
 
 put-members-requires : tie.Need-put-members-requires
-put-members-requires c κs = tt
+put-members-requires c κs = search needs
 
 put-requires : tie.Need-put-requires
-put-requires c κs = tt
+put-requires c κs = search needs
 
 same-length : tie.Need-same-length
 same-length c = omega arith

@@ -1,6 +1,5 @@
 -- `reporting::report_site` meets its contract: the plan of an accepted image fits the two tables, so that it is made, and the answer is the text's.
 use native.Mathlib.Omega.{arith}
-use mathlib.Core.Path.{refl}
 use denote.Ref.{now}
 use Rattle.image.specs.Questions.{headerOf}
 use Rattle.image.proofs.Acceptance.{opened}
@@ -24,25 +23,25 @@ abbrev wrote : tie.After-slice-known2 → tie.After-report-plan
 wrote c = c .before .before
 
 slice-aggregate-plan-and-cores : tie.Need-slice-aggregate-plan-and-cores
-slice-aggregate-plan-and-cores c = refl
+slice-aggregate-plan-and-cores c = search needs
 
 slice-aggregate-plan-and-cores-2 : tie.Need-slice-aggregate-plan-and-cores-2
-slice-aggregate-plan-and-cores-2 c = refl
+slice-aggregate-plan-and-cores-2 c = search needs
 
 plan-and-cores-requires : tie.Need-plan-and-cores-requires
-plan-and-cores-requires c κs = tt
+plan-and-cores-requires c κs = search needs
 
 enum-known-answer : tie.Need-enum-known-answer
 enum-known-answer c = search needs
 
 slice-aggregate-report-plan : tie.Need-slice-aggregate-report-plan
-slice-aggregate-report-plan c = omega arith
+slice-aggregate-report-plan c = search needs
 
 slice-aggregate-report-plan-2 : tie.Need-slice-aggregate-report-plan-2
-slice-aggregate-report-plan-2 c = omega arith
+slice-aggregate-report-plan-2 c = search needs
 
 slice-aggregate-report-plan-3 : tie.Need-slice-aggregate-report-plan-3
-slice-aggregate-report-plan-3 c = omega arith
+slice-aggregate-report-plan-3 c = search needs
 
 report-plan-requires : tie.Need-report-plan-requires
 report-plan-requires c κs =
