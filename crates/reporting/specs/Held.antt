@@ -1,7 +1,6 @@
 -- These definitions only serve the proofs; a caller need not believe them.
 -- What the report's working tables hold, for the contracts inside the crate.
 --
---     scoresPart k c       what stands before the colon in the line of group k
 --     groupTally ts k l       the tally of group k with the members l, from a table that holds its tied pairs at k and its leaving edges at 512 + k
 --     inGroup, joinedIn, leavesIn    by the rows of the groups of each handset: whether it is in a group, whether an edge is tied in it, or leaves it
 --     GroupAdded rows l k ..   the rows with group k added to those of the handsets in l
@@ -35,18 +34,13 @@ use Rattle.community.specs.Site.{network}
 use Rattle.community.specs.Tables.{startTable, memberTable}
 use Rattle.tables.specs.Plan.{over}
 use Rattle.lookup.specs.Lookup.{membersOf}
-use Rattle.scores.specs.declared.Scores.{Scores}
 use Rattle.scores.specs.declared.Tally.{Tally}
 use Rattle.scores.specs.Scored.{scoresFor}
-use Rattle.text.specs.Text.{decimal}
+use Rattle.text.specs.Text.{bytes}
 use Rattle.text.specs.Text as T
-use Rattle.reporting.specs.Report.{headLine, headOf, scoreText, groupLine, listLine, groupWord, densityWord, conductanceWord, coresWord, outliersWord, writtenOf, writtenIn}
+use Rattle.reporting.specs.Report.{headLine, headOf, groupLine, listLine, writtenOf, writtenIn}
 use Rattle.reporting.specs.declared.Head.{Head}
 use Rattle.reporting.specs.declared.Reported.{Reported}
-
--- what stands before the colon in the line of group k
-unfoldable pub scoresPart : ℕ → Scores → List ℕ
-scoresPart k c = groupWord ++ (decimal k ++ (densityWord ++ (scoreText (c .density) ++ (conductanceWord ++ scoreText (c .conductance)))))
 
 -- a group has at most 512 members
 unfoldable pub groupTally : List ℕ → ℕ → List ℕ → Tally
@@ -114,7 +108,7 @@ tableLines starts members ts (suc k) = tableLines starts members ts k ++ groupLi
 unfoldable pub tableText : Head → List ℕ → List ℕ → List ℕ → List ℕ → List ℕ → List ℕ
 tableText head starts members ts cores outliers =
     headLine head
-    ++ (tableLines starts members ts (head .counts .groups) ++ (listLine coresWord (T.elementsOf cores) ++ listLine outliersWord (T.elementsOf outliers)))
+    ++ (tableLines starts members ts (head .counts .groups) ++ (listLine (bytes "cores:") (T.elementsOf cores) ++ listLine (bytes "outliers:") (T.elementsOf outliers)))
 
 pub record Filled (t l : List ℕ) (r : Reported) (l′ : List ℕ) : Type 0 where
   pub answer : r ≡ writtenOf t (length l)

@@ -19,8 +19,8 @@ ghost use Rattle.sets.specs.Rows.{SetOf};
 ghost use Rattle.image.specs.Questions.{Accepted, headerOf};
 ghost use Rattle.scores.specs.Scored.{scoresFor};
 ghost use Rattle.text.specs.Text.{Wrote, decimal, elementsOf};
-ghost use Rattle.reporting.specs.Report.{headLine, scoreText, groupLine, listLine, reportText, ReportCall, refusedText, programText};
-ghost use Rattle.reporting.specs.Held.{scoresPart, groupTally, tableLines, tableText, Filled, Without, PlanHeld};
+ghost use Rattle.reporting.specs.Report.{headLine, scoreText, scoresPart, groupLine, listLine, reportText, ReportCall, refusedText, programText};
+ghost use Rattle.reporting.specs.Held.{groupTally, tableText, Filled, Without, PlanHeld};
 
 // What a call for a report answers: the text's length, or the refusal.
 pub enum Reported {

@@ -1,9 +1,7 @@
 -- `reporting::put_group` meets its contract: what stands before the colon, the colon, the members, byte 10.
 use native.Mathlib.Omega.{arith}
-use mathlib.Core.List.{append-assoc}
 use Rattle.text.proofs.Writing.{chain}
 use Rattle.reporting.specs.Report.{groupLine}
-use Rattle.reporting.specs.Held.{scoresPart}
 use borrow.Author.Needs.{needs}
 use Rattle.reporting.proofs.put_group.Statement.{statement}
 use Rattle.reporting.proofs.put_group.Tie as tie
@@ -24,14 +22,13 @@ same-length : tie.Need-same-length
 same-length c = omega arith
 
 returns : tie.Need-returns
-unfolding groupLine scoresPart
+unfolding groupLine
 returns c =
     let w4 = c .before .before in
     let w3 = w4 .before .before .before .before in
     let w2 = w3 .before .before .before .before in
     let w1 = w2 .before .before .before .before in
-    simp append-assoc at
-    (chain (omega arith) (chain (omega arith) (chain (omega arith) (w1 .put-scores .ensures) (w2 .put .ensures)) (w3 .put-numbers .ensures)) (w4 .put2 .ensures))
+    chain (omega arith) (w1 .put-scores .ensures) (chain (omega arith) (w2 .put .ensures) (chain (omega arith) (w3 .put-numbers .ensures) (w4 .put2 .ensures)))
 
 pub put-group-spec : {M : Type 1} → statement M
 put-group-spec =

@@ -3,9 +3,8 @@ use Prim.Native.Nat.{_≤_}
 use lib.ListN.{length}
 use denote.Ref.{now}
 use native.Mathlib.Omega.{arith}
-use mathlib.Core.List.{append-assoc}
 use Rattle.text.proofs.Writing.{chain}
-use Rattle.reporting.specs.Held.{scoresPart}
+use Rattle.reporting.specs.Report.{scoresPart}
 use borrow.Author.Needs.{needs}
 use Rattle.reporting.proofs.put_scores.Statement.{statement}
 use Rattle.reporting.proofs.put_scores.Tie as tie
@@ -50,10 +49,9 @@ returns c =
     let w1 = w2 .before .before .before .before .before in
     let scores = w1 .before .before .before in
     let start = scores .before .before in
-    let h : length (now (start .args .text)) ≤ 9223372036854775808 = omega (arith, start .good .0 .1) in
-    rw (← scores .scores-of .ensures) (simp append-assoc at
-    (chain h (chain h (chain h (chain h
-    (w1 .put-labelled .ensures) (w2 .put-all .ensures)) (w3 .put-score .ensures)) (w4 .put-all2 .ensures)) (w5 .put-score2 .ensures)))
+    let small : length (now (start .args .text)) ≤ 9223372036854775808 = omega (arith, start .good .0 .1) in
+    rw (← scores .scores-of .ensures) (chain small (w1 .put-labelled .ensures) (chain (omega arith) (w2 .put-all .ensures)
+    (chain (omega arith) (w3 .put-score .ensures) (chain (omega arith) (w4 .put-all2 .ensures) (w5 .put-score2 .ensures)))))
 
 pub put-scores-spec : {M : Type 1} → statement M
 put-scores-spec =

@@ -1,6 +1,5 @@
 -- `reporting::put_set` meets its contract: the word, the members, byte 10.
 use native.Mathlib.Omega.{arith}
-use mathlib.Core.List.{append-assoc}
 use Rattle.text.proofs.Writing.{chain}
 use Rattle.reporting.specs.Report.{listLine}
 use borrow.Author.Needs.{needs}
@@ -25,7 +24,7 @@ returns c =
     let w3 = c .before .before in
     let w2 = w3 .before .before .before .before in
     let w1 = w2 .before .before .before .before in
-    simp append-assoc at (chain (omega arith) (chain (omega arith) (w1 .put-all .ensures) (w2 .put-members .ensures)) (w3 .put .ensures))
+    chain (omega arith) (w1 .put-all .ensures) (chain (omega arith) (w2 .put-members .ensures) (w3 .put .ensures))
 
 pub put-set-spec : {M : Type 1} → statement M
 put-set-spec =
