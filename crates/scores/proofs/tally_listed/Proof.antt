@@ -31,11 +31,11 @@ slice-aggregate-count-entries c = search needs
 count-entries-requires : tie.Need-count-entries-requires
 count-entries-requires c κs = (start c .pre .2, blank)
 
-slice-aggregate-count-edges : tie.Need-slice-aggregate-count-edges
-slice-aggregate-count-edges c = search needs
+slice-aggregate-tally-edges : tie.Need-slice-aggregate-tally-edges
+slice-aggregate-tally-edges c = search needs
 
-count-edges-requires : tie.Need-count-edges-requires
-count-edges-requires c κs =
+tally-edges-requires : tie.Need-tally-edges-requires
+tally-edges-requires c κs =
     let e = entries c in
     let p = start (e .before) .pre in
     (p .0, p .1, table-le (list-of e) (table-of e) (p .2) (e .count-entries .ensures))
@@ -49,7 +49,7 @@ returns c =
     let s = start (e .before) in
     ap₂ (λ (p : ℕ) (k : EdgeCounts). record { pairs = p; joined = k .joined; leaving = k .leaving })
     (c .pairs-of .ensures ∙ ap pairs (take-all 512 (list-of e) (s .pre .2 .short)))
-    (c .before .count-edges .ensures)
+    (c .before .tally-edges .ensures)
     ∙ table-tally (now (s .args .edges)) (s .args .m) everyEdge (list-of e) (table-of e) (e .count-entries .ensures)
 
 pub tally-listed-spec : {M : Type 1} → statement M
@@ -58,7 +58,7 @@ tally-listed-spec =
     (tie.spec
     slice-aggregate-count-entries
     count-entries-requires
-    slice-aggregate-count-edges
-    count-edges-requires
+    slice-aggregate-tally-edges
+    tally-edges-requires
     pairs-of-requires
     returns)

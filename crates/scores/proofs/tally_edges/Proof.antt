@@ -1,4 +1,4 @@
--- `scores::count_edges` meets its contract. After k edges the two sums are t and o over them; each edge adds at most 512 * 512 to t and 1 to o,
+-- `scores::tally_edges` meets its contract. After k edges the two sums are t and o over them; each edge adds at most 512 * 512 to t and 1 to o,
 -- so that 4,096 edges stay below 2 ^ 32.
 use Prim.Native.Nat.{ℕ, _+_, _*_, _-_, _≤_}
 use native.Mathlib.Omega.{arith}
@@ -13,8 +13,8 @@ use Rattle.image.specs.Image.{endA, endB}
 use Rattle.community.specs.Scores.{everyEdge, justOne}
 use Rattle.scores.specs.Held.{joinedSum, leavingSum}
 use Rattle.scores.proofs.Entries.{joined-none, leaving-none, joined-more, leaving-more, joined-le, leaving-le, ties-le, bit-le, ends-at}
-use Rattle.scores.proofs.count_edges.Statement.{statement}
-use Rattle.scores.proofs.count_edges.Tie as tie
+use Rattle.scores.proofs.tally_edges.Statement.{statement}
+use Rattle.scores.proofs.tally_edges.Tie as tie
 
 abbrev Inv-loop : tie.InvT-loop
 Inv-loop edges m table joined₀ leaving₀ k₀ joined leaving k = (k ≤ m) × (joined ≡ joinedSum table edges everyEdge k) × (leaving ≡ leavingSum table edges everyEdge k)
@@ -140,8 +140,8 @@ returns c =
     let o : l .loop .leaving ≡ leavingSum (table-of l) (edges-of l) everyEdge m = l .loop .inv .2 ∙ ap (leavingSum (table-of l) (edges-of l) everyEdge) e in
     cc
 
-pub count-edges-spec : {M : Type 1} → statement M
-count-edges-spec =
+pub tally-edges-spec : {M : Type 1} → statement M
+tally-edges-spec =
     tie.close
     (tie.spec
     Inv-loop
