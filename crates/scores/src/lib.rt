@@ -47,12 +47,6 @@ pub enum Tallied {
     Refused(Refusal),
 }
 
-// t and o over the edges.
-struct EdgeCounts {
-    joined: u32,
-    leaving: u32,
-}
-
 // The smaller of two numbers.
 fn smaller(a: usize, b: usize) -> usize
     ensures { λ r. ⌜ r ≡ min a b ⌝ }
@@ -110,10 +104,10 @@ fn just_one(a: u32, b: u32) -> u32
     if (x & !y) | (y & !x) { 1 } else { 0 }
 }
 
-// t and o over the first m edges, by a table of multiplicities.
-fn tally_edges(edges: &[u8], m: usize, table: &[u16]) -> EdgeCounts
+// The tally with s as given, and t and o over the first m edges, by a table of multiplicities.
+fn tally_edges(edges: &[u8], m: usize, table: &[u16], all: u32) -> Tally
     requires { ⌜ (edgeBytes * m ≤ length (now edges)) × (m ≤ 4096) × ((v : ℕ) → getD (now table) v 0 ≤ 512) ⌝ }
-    ensures { λ r. ⌜ r ≡ record { joined = joinedSum (now (table .entry)) (now (edges .entry)) everyEdge m; leaving = leavingSum (now (table .entry)) (now (edges .entry)) everyEdge m } ⌝ }
+    ensures { λ r. ⌜ r ≡ record { pairs = all; joined = joinedSum (now (table .entry)) (now (edges .entry)) everyEdge m; leaving = leavingSum (now (table .entry)) (now (edges .entry)) everyEdge m } ⌝ }
 {
     let mut joined: u32 = 0;
     let mut leaving: u32 = 0;
@@ -128,7 +122,11 @@ fn tally_edges(edges: &[u8], m: usize, table: &[u16]) -> EdgeCounts
         leaving += just_one(a, b);
         k += 1;
     }
-    EdgeCounts { joined, leaving }
+    Tally {
+        pairs: all,
+        joined,
+        leaving,
+    }
 }
 
 // s, the count of all pairs of places of a list. Entries past the first 512 are not looked at: question 13 refuses them.
@@ -146,12 +144,7 @@ fn tally_listed(edges: &[u8], m: usize, list: &[u16]) -> Tally
 {
     let mut table = [0u16; 512];
     count_entries(list, &mut table);
-    let counts = tally_edges(edges, m, &table);
-    Tally {
-        pairs: pairs_of(list),
-        joined: counts.joined,
-        leaving: counts.leaving,
-    }
+    tally_edges(edges, m, &table, pairs_of(list))
 }
 
 // The tally of a list of handsets of an image: the image's refusal, 13 with the first bad entry's index, or s, t and o.

@@ -12,7 +12,7 @@ put-decimal-requires : tie.Need-put-decimal-requires
 put-decimal-requires c κs = search needs
 
 same-length : tie.Need-same-length
-same-length c = omega arith
+same-length c = search needs
 
 returns : tie.Need-returns
 returns c = chain (omega arith) (c .before .before .before .before .before .before .put-all .ensures) (c .before .before .put-decimal .ensures)

@@ -32,7 +32,7 @@ put-requires : tie.Need-put-requires
 put-requires c κs = search needs
 
 same-length : tie.Need-same-length
-same-length c = omega arith
+same-length c = search needs
 
 returns : tie.Need-returns
 unfolding scoreText
@@ -41,7 +41,7 @@ returns c =
     rw (w .before .before .before .score .given .1) (chain (omega arith) (w .put-decimal .ensures) (second c .put-labelled .ensures))
 
 same-length-2 : tie.Need-same-length-2
-same-length-2 c = omega arith
+same-length-2 c = search needs
 
 returns-2 : tie.Need-returns-2
 unfolding scoreText

@@ -37,7 +37,7 @@ put-score-requires-2 : tie.Need-put-score-requires-2
 put-score-requires-2 c κs = search needs
 
 same-length : tie.Need-same-length
-same-length c = omega arith
+same-length c = search needs
 
 returns : tie.Need-returns
 unfolding scoresPart

@@ -17,10 +17,10 @@ use Rattle.scores.proofs.tally_edges.Statement.{statement}
 use Rattle.scores.proofs.tally_edges.Tie as tie
 
 abbrev Inv-loop : tie.InvT-loop
-Inv-loop edges m table joined₀ leaving₀ k₀ joined leaving k = (k ≤ m) × (joined ≡ joinedSum table edges everyEdge k) × (leaving ≡ leavingSum table edges everyEdge k)
+Inv-loop edges m table all joined₀ leaving₀ k₀ joined leaving k = (k ≤ m) × (joined ≡ joinedSum table edges everyEdge k) × (leaving ≡ leavingSum table edges everyEdge k)
 
 abbrev μ-loop : tie.MeasureT-loop
-μ-loop edges m table joined₀ leaving₀ k₀ joined leaving k = m - k
+μ-loop edges m table all joined₀ leaving₀ k₀ joined leaving k = m - k
 
 -- ---- the places that the answers speak of: the start, the turn of edge k, its ends read
 abbrev start : tie.At-loop Inv-loop μ-loop → tie.Start Inv-loop μ-loop

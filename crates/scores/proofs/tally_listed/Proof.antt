@@ -1,11 +1,11 @@
 -- `scores::tally_listed` meets its contract: the table holds the list's multiplicities, and the counts by it are the tally.
 use Prim.Native.Nat.{ℕ}
-use mathlib.Core.Path.{ap, ap₂, _∙_}
+use mathlib.Core.Path.{ap, _∙_}
 use mathlib.Core.List.{List}
 use lib.Seq.{take-all}
 use denote.Ref.{now}
 use Rattle.community.specs.Scores.{everyEdge, pairs}
-use Rattle.scores.specs.declared.EdgeCounts.{EdgeCounts}
+use Rattle.scores.specs.Held.{joinedSum, leavingSum}
 use Rattle.scores.proofs.Entries.{blank, table-le, table-tally}
 use borrow.Author.Needs.{needs}
 use Rattle.scores.proofs.tally_listed.Statement.{statement}
@@ -34,23 +34,25 @@ count-entries-requires c κs = (start c .pre .2, blank)
 slice-aggregate-tally-edges : tie.Need-slice-aggregate-tally-edges
 slice-aggregate-tally-edges c = search needs
 
-tally-edges-requires : tie.Need-tally-edges-requires
-tally-edges-requires c κs =
-    let e = entries c in
-    let p = start (e .before) .pre in
-    (p .0, p .1, table-le (list-of e) (table-of e) (p .2) (e .count-entries .ensures))
-
 pairs-of-requires : tie.Need-pairs-of-requires
 pairs-of-requires c κs = search needs
+
+tally-edges-requires : tie.Need-tally-edges-requires
+tally-edges-requires c κs =
+    let e = entries (c .before) in
+    let p = start (e .before) .pre in
+    (p .0, p .1, table-le (list-of e) (table-of e) (p .2) (e .count-entries .ensures))
 
 returns : tie.Need-returns
 returns c =
     let e = entries (c .before .before) in
     let s = start (e .before) in
-    ap₂ (λ (p : ℕ) (k : EdgeCounts). record { pairs = p; joined = k .joined; leaving = k .leaving })
-    (c .pairs-of .ensures ∙ ap pairs (take-all 512 (list-of e) (s .pre .2 .short)))
-    (c .before .tally-edges .ensures)
-    ∙ table-tally (now (s .args .edges)) (s .args .m) everyEdge (list-of e) (table-of e) (e .count-entries .ensures)
+    let edges : List ℕ = now (s .args .edges) in
+    let m : ℕ = s .args .m in
+    c .tally-edges .ensures
+    ∙ ap (λ (p : ℕ). record { pairs = p; joined = joinedSum (table-of e) edges everyEdge m; leaving = leavingSum (table-of e) edges everyEdge m })
+    (c .before .pairs-of .ensures ∙ ap pairs (take-all 512 (list-of e) (s .pre .2 .short)))
+    ∙ table-tally edges m everyEdge (list-of e) (table-of e) (e .count-entries .ensures)
 
 pub tally-listed-spec : {M : Type 1} → statement M
 tally-listed-spec =
@@ -59,6 +61,6 @@ tally-listed-spec =
     slice-aggregate-count-entries
     count-entries-requires
     slice-aggregate-tally-edges
-    tally-edges-requires
     pairs-of-requires
+    tally-edges-requires
     returns)
