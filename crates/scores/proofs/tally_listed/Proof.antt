@@ -1,11 +1,9 @@
 -- `scores::tally_listed` meets its contract: the table holds the list's multiplicities, and the counts by it are the tally.
 use Prim.Native.Nat.{ℕ}
-use mathlib.Core.Path.{ap, _∙_}
 use mathlib.Core.List.{List}
 use lib.Seq.{take-all}
 use denote.Ref.{now}
-use Rattle.community.specs.Scores.{everyEdge, pairs}
-use Rattle.scores.specs.Held.{joinedSum, leavingSum}
+use Rattle.community.specs.Scores.{everyEdge}
 use Rattle.scores.proofs.Entries.{blank, table-le, table-tally}
 use borrow.Author.Needs.{needs}
 use Rattle.scores.proofs.tally_listed.Statement.{statement}
@@ -47,12 +45,8 @@ returns : tie.Need-returns
 returns c =
     let e = entries (c .before .before) in
     let s = start (e .before) in
-    let edges : List ℕ = now (s .args .edges) in
-    let m : ℕ = s .args .m in
-    c .tally-edges .ensures
-    ∙ ap (λ (p : ℕ). record { pairs = p; joined = joinedSum (table-of e) edges everyEdge m; leaving = leavingSum (table-of e) edges everyEdge m })
-    (c .before .pairs-of .ensures ∙ ap pairs (take-all 512 (list-of e) (s .pre .2 .short)))
-    ∙ table-tally edges m everyEdge (list-of e) (table-of e) (e .count-entries .ensures)
+    rw (c .tally-edges .ensures, c .before .pairs-of .ensures, take-all 512 (list-of e) (s .pre .2 .short))
+    (table-tally (now (s .args .edges)) (s .args .m) everyEdge (list-of e) (table-of e) (e .count-entries .ensures))
 
 pub tally-listed-spec : {M : Type 1} → statement M
 tally-listed-spec =
