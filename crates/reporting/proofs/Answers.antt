@@ -14,12 +14,12 @@ use lib.Dec.{leb}
 use lib.ListN.{length, getD, drop}
 use borrow.Author.Tests.{leb-true, le-leb, lt-leb, lt-ltb, le-ltb}
 use Rattle.sets.proofs.Writing.{sets-front}
-use Rattle.image.specs.Questions.{openOf}
+use Rattle.image.specs.Questions.{Accepted, openOf}
 use Rattle.image.specs.Answers.{Answer}
-use Rattle.image.specs.declared.Header.{Header}
 use Rattle.image.specs.declared.Refusal.{Refusal}
 use Rattle.image.specs.declared.Opened.{Opened}
 use Rattle.image.specs.declared.Opened.the-variants as O
+use Rattle.image.proofs.Acceptance.{opened}
 use Rattle.image.proofs.Answers.{given-refused, refused-same}
 use Rattle.text.specs.Text.{Wrote}
 use Rattle.reporting.specs.Report.{reportText, writtenOf, writtenIn, reportFor, reportOf, afterFor, textAfter, refusedText, refusal15, refusal16, printed, programText, reportAnswer, ReportCall, OneAnswer}
@@ -36,11 +36,11 @@ report-same (R.Refused r) (R.Refused q) e = ap R.Refused (refused-same r q e)
 pub one-answer : OneAnswer
 one-answer = record { reported = report-same }
 
-pub site-answer : {s l l′ : List ℕ} {r : Reported} (h : Header) → openOf s ≡ O.Site h → Filled (reportText s) l r l′ → ReportCall s l r l′
+pub site-answer : {s l l′ : List ℕ} {r : Reported} → Accepted s → Filled (reportText s) l r l′ → ReportCall s l r l′
 unfolding reportOf textAfter
-site-answer {s} {l} h e f = record {
-  answer = ap reportAnswer (f .answer ∙ sym (ap (λ (o : Opened). reportFor s o (length l)) e));
-  text = f .text ∙ sym (ap (λ (o : Opened). afterFor s o l) e);
+site-answer {s} {l} a f = record {
+  answer = ap reportAnswer (f .answer ∙ sym (ap (λ (o : Opened). reportFor s o (length l)) (opened s a)));
+  text = f .text ∙ sym (ap (λ (o : Opened). afterFor s o l) (opened s a));
 }
 
 pub refused-answer : (s l : List ℕ) (r : Refusal) → openOf s ≡ O.Refused r → ReportCall s l (R.Refused r) l
