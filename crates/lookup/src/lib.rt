@@ -22,12 +22,6 @@ struct Span {
     past: usize,
 }
 
-fn wide(x: u32) -> usize
-    ensures { λ r. ⌜ r ≡ x ⌝ }
-{
-    x as usize
-}
-
 // Question 14, for a member table of the given size. The largest k is compared before anything is added to it.
 fn find_span(starts: &[u32], size: usize, k: usize) -> Span
     ensures { λ r. ⌜ (r ≡ spanOf (now (starts .entry)) size k) × ((r .first ≤ r .past) × (r .past ≤ size)) ⌝ }
@@ -35,8 +29,8 @@ fn find_span(starts: &[u32], size: usize, k: usize) -> Span
     let n = starts.len();
     if k < n {
         if k + 1 < n {
-            let a = wide(starts[k]);
-            let b = wide(starts[k + 1]);
+            let a = starts[k] as usize;
+            let b = starts[k + 1] as usize;
             if a <= b {
                 if b <= size {
                     return Span {

@@ -2,6 +2,7 @@
 --
 --     report-same                          two answers with the same number, place and values are the same
 --     site-answer, refused-answer          the call's answer and the buffer after it, for an accepted image and for a refused one
+--     filled-written, filled-refused       a text that is measured, and then written where it fits
 --     program-long                         an input of more than 65,536 bytes
 --     program-written, program-refused     what the program prints after either answer
 use Prim.Native.Nat.{ℕ, _+_, _≤_, _<_}
@@ -11,14 +12,14 @@ use mathlib.Core.Bool.{Bool, true, false, cond}
 use mathlib.Core.List.{List, _++_}
 use lib.Dec.{leb}
 use lib.ListN.{length, getD, drop}
-use borrow.Author.Tests.{leb-true, le-leb, lt-ltb, le-ltb}
+use borrow.Author.Tests.{leb-true, le-leb, lt-leb, lt-ltb, le-ltb}
 use Rattle.sets.proofs.Writing.{sets-front}
-use Rattle.image.specs.Questions.{openOf}
+use Rattle.image.specs.Questions.{Accepted, openOf}
 use Rattle.image.specs.Answers.{Answer, refusal}
-use Rattle.image.specs.declared.Header.{Header}
 use Rattle.image.specs.declared.Refusal.{Refusal}
 use Rattle.image.specs.declared.Opened.{Opened}
 use Rattle.image.specs.declared.Opened.the-variants as O
+use Rattle.image.proofs.Acceptance.{opened}
 use Rattle.image.proofs.Answers.{given-refused, refused-same}
 use Rattle.text.specs.Text.{Wrote}
 use Rattle.reporting.specs.Report.{reportText, writtenOf, writtenIn, reportFor, reportOf, afterFor, textAfter, refusedText, printed, programText, reportAnswer, ReportCall, OneAnswer}
@@ -35,11 +36,11 @@ report-same (R.Refused r) (R.Refused q) e = ap R.Refused (refused-same r q e)
 pub one-answer : OneAnswer
 one-answer = record { reported = report-same }
 
-pub site-answer : {s l l′ : List ℕ} {r : Reported} (h : Header) → openOf s ≡ O.Site h → Filled (reportText s) l r l′ → ReportCall s l r l′
+pub site-answer : {s l l′ : List ℕ} {r : Reported} → Accepted s → Filled (reportText s) l r l′ → ReportCall s l r l′
 unfolding reportOf textAfter
-site-answer {s} {l} h e f = record {
-  answer = ap reportAnswer (f .answer ∙ sym (ap (λ (o : Opened). reportFor s o (length l)) e));
-  text = f .text ∙ sym (ap (λ (o : Opened). afterFor s o l) e);
+site-answer {s} {l} a f = record {
+  answer = ap reportAnswer (f .answer ∙ sym (ap (λ (o : Opened). reportFor s o (length l)) (opened s a)));
+  text = f .text ∙ sym (ap (λ (o : Opened). afterFor s o l) (opened s a));
 }
 
 pub refused-answer : (s l : List ℕ) (r : Refusal) → openOf s ≡ O.Refused r → ReportCall s l (R.Refused r) l
@@ -57,6 +58,21 @@ written-fits t l k q = go (leb (length t) (length l)) refl q
     go : (b : Bool) → leb (length t) (length l) ≡ b → R.Written k ≡ cond b (R.Written (length t)) (R.Refused (refusal 16)) → (k ≡ length t) × (length t ≤ length l)
     go true e q = (cc, leb-true (length t) (length l) e)
     go false e q = let z : _≡_ {A = ℕ} 0 1 = cc in absurd (omega arith)
+
+-- a text that is measured, in any buffer, and then written where it fits
+module _ {t u l m m′ : List ℕ} {need : ℕ} (same : t ≡ u) (small : length l < 9223372036854775808) (measured : Wrote m 0 t m′ need) where
+  pub filled-written : {l′ : List ℕ} {k : ℕ} → need ≤ length l → Wrote l 0 t l′ k → Filled u l (R.Written k) l′
+  unfolding writtenOf writtenIn
+  filled-written {l′} {k} h q =
+      let fits : length t ≤ length l = omega (arith, measured .next) in
+      let e : k ≡ length t = omega (arith, q .next) in
+      rw (← same) (record { answer = simp (le-leb _ _ fits) (ap R.Written e); text = simp (le-leb _ _ fits) (q .list ∙ sets-front l t fits) })
+
+  pub filled-refused : length l < need → Filled u l (R.Refused refusal16) l
+  unfolding writtenOf writtenIn
+  filled-refused h =
+      let short : length l < length t = omega (arith, measured .next) in
+      rw (← same) (record { answer = simp (lt-leb _ _ short); text = simp (lt-leb _ _ short) })
 
 -- a refusal leaves the buffer as it was
 refused-keeps : (t l : List ℕ) (r : Refusal) → R.Refused r ≡ writtenOf t (length l) → writtenIn t l ≡ l

@@ -4,11 +4,12 @@
 --     joined-none, joined-more      the rows with the first handsets of a list added to a group: none, and one more
 --     rows-none, rows-more          the rows of the first groups: of none, and of one more
 --     raised-more, raised-done      a table where the bits of a word are added one by one, the lowest first; raised-le: none is raised by more than 1
---     edge-none, edge-more          one edge, for the groups of the first words: of none, and of one more; edge-room: no count is too large
+--     edge-none, edge-more          one edge, for the groups of the first words: of none, and of one more; edge-done: of all that begin below a bound
+--     edge-room                     one edge makes no count too large
 --     ends-at                       the ends that a record holds are those of its edge
 --     edges-none, edges-more        the first edges: none, and one more; edges-room: the next edge has room
 --     groups-counted                the counts by the rows are the groups' counts
-use Prim.Native.Nat.{ℕ, zero, suc, _+_, _*_, _-_, _^_, _≤_, _<_, min}
+use Prim.Native.Nat.{ℕ, _+_, _*_, _-_, _/_, _^_, _≤_, _<_, min}
 use native.Mathlib.Omega.{arith}
 use native.Mathlib.Decide.{ℕ-discrete, decLt}
 use native.Mathlib.Nat.{add-zero}
@@ -191,24 +192,27 @@ raised-done base i =
 
 -- one word more: the groups of the first j words that pass, and the bits of the next word
 word-more : (f : ℕ → Bool) (j w k : ℕ) → ((r : ℕ) → r < 64 → bitOf w r ≡ bit (f (64 * j + r)))
-    → bit (ltb k (64 * (j + 1)) && f k) ≡ bit (ltb k (64 * j) && f k) + bitFor (64 * j) w k
+    → bit (ltb (64 * (k / 64)) (64 * (j + 1)) && f k) ≡ bit (ltb (64 * (k / 64)) (64 * j) && f k) + bitFor (64 * j) w k
 word-more f j w k e =
     ⊎-elim
-    (λ h. omega (arith, told (j + 1) (lt-ltb k (64 * (j + 1)) (omega arith)), told j (lt-ltb k (64 * j) h), bitFor-before (64 * j) w k h))
+    (λ h. omega (arith, below (j + 1) (omega arith), below j h, bitFor-before (64 * j) w k h))
     (⊎-elim
     (λ p. omega (
       arith,
-      told (j + 1) (lt-ltb k (64 * (j + 1)) (omega (arith, p .1, p .2))),
-      told j (le-ltb k (64 * j) (omega (arith, p .2))),
+      below (j + 1) (omega (arith, p .1, p .2)),
+      past j (omega (arith, p .2)),
       bitFor-of (64 * j) w k (p .0) (p .1) (p .2),
       e (p .0) (p .1),
       ap (λ (x : ℕ). bit (f x)) (p .2),
     ))
-    (λ h. omega (arith, told (j + 1) (le-ltb k (64 * (j + 1)) (omega arith)), told j (le-ltb k (64 * j) (omega arith)), bitFor-past (64 * j) w k h)))
+    (λ h. omega (arith, past (j + 1) (omega arith), past j (omega arith), bitFor-past (64 * j) w k h)))
     (where-is (64 * j) k)
   where
-    told : (n : ℕ) {b : Bool} → ltb k (64 * n) ≡ b → bit (ltb k (64 * n) && f k) ≡ bit (b && f k)
-    told n q = ap (λ (b : Bool). bit (b && f k)) q
+    below : (n : ℕ) → k < 64 * n → bit (ltb (64 * (k / 64)) (64 * n) && f k) ≡ bit (f k)
+    below n h = ap (λ (b : Bool). bit (b && f k)) (lt-ltb (64 * (k / 64)) (64 * n) (omega arith))
+
+    past : (n : ℕ) → 64 * n ≤ k → bit (ltb (64 * (k / 64)) (64 * n) && f k) ≡ 0
+    past n h = ap (λ (b : Bool). bit (b && f k)) (le-ltb (64 * (k / 64)) (64 * n) (omega arith))
 
 bitFor-later : (base w k : ℕ) → bitFor (512 + base) w (512 + k) ≡ bitFor base w k
 bitFor-later base w k =
@@ -219,30 +223,24 @@ bitFor-later base w k =
     (where-is base k)
 
 -- both bits, and just one of two, as tests
-both-bits : (x y : ℕ) → x < 2 → y < 2 → min x y ≡ bit (eqb x 1 && eqb y 1)
-both-bits zero zero h l = refl
-both-bits zero (suc zero) h l = refl
-both-bits zero (suc (suc y)) h l = absurd (omega arith)
-both-bits (suc zero) zero h l = refl
-both-bits (suc zero) (suc zero) h l = refl
-both-bits (suc zero) (suc (suc y)) h l = absurd (omega arith)
-both-bits (suc (suc x)) y h l = absurd (omega arith)
+both-bits : (a b : Bool) → min (bit a) (bit b) ≡ bit (a && b)
+both-bits true true = refl
+both-bits true false = refl
+both-bits false true = refl
+both-bits false false = refl
 
-one-bit : (x y : ℕ) → x < 2 → y < 2 → differ x y ≡ bit (justOne (eqb x 1) (eqb y 1))
-one-bit zero zero h l = refl
-one-bit zero (suc zero) h l = refl
-one-bit zero (suc (suc y)) h l = absurd (omega arith)
-one-bit (suc zero) zero h l = refl
-one-bit (suc zero) (suc zero) h l = refl
-one-bit (suc zero) (suc (suc y)) h l = absurd (omega arith)
-one-bit (suc (suc x)) y h l = absurd (omega arith)
+one-bit : (a b : Bool) → differ (bit a) (bit b) ≡ bit (justOne a b)
+one-bit true true = refl
+one-bit true false = refl
+one-bit false true = refl
+one-bit false false = refl
 
 pub edge-none : (rows : List ℕ) (u v : ℕ) (ts : List ℕ) → length ts ≡ 1024 → EdgeCounted rows u v 0 ts ts
 unfolding joinedIn leavesIn
 edge-none rows u v ts size = record {
   size = size;
-  joined = λ k h. omega (arith, ap (λ (b : Bool). bit (b && (inGroup rows u k && inGroup rows v k))) (le-ltb k (64 * 0) (omega arith)));
-  leaving = λ k h. omega (arith, ap (λ (b : Bool). bit (b && justOne (inGroup rows u k) (inGroup rows v k))) (le-ltb k (64 * 0) (omega arith)));
+  joined = λ k h. omega (arith, ap (λ (b : Bool). bit (b && (inGroup rows u k && inGroup rows v k))) (le-ltb (64 * (k / 64)) 0 (omega arith)));
+  leaving = λ k h. omega (arith, ap (λ (b : Bool). bit (b && justOne (inGroup rows u k) (inGroup rows v k))) (le-ltb (64 * (k / 64)) 0 (omega arith)));
 }
 
 module _ (rows : List ℕ) (u v j : ℕ) where
@@ -252,22 +250,20 @@ module _ (rows : List ℕ) (u v j : ℕ) where
   abbrev there : ℕ
   there = getD rows (v * 8 + j) 0
 
-  -- the group of a bit of the j-th word, by its row
-  in-word : (x r : ℕ) → r < 64 → bitOf (getD rows (x * 8 + j) 0) r ≡ cell rows x (64 * j + r)
-  in-word x r h = sym (ap (cell rows x) (let e : 64 * j + r ≡ j * 64 + r = omega arith in e) ∙ cell-word rows x j r h)
+  -- a bit of the j-th word of a row: whether the handset is in the bit's group
+  in-word : (x r : ℕ) → r < 64 → bitOf (getD rows (x * 8 + j) 0) r ≡ bit (inGroup rows x (64 * j + r))
+  in-word x r h =
+      sym (test-bit (cell rows x (64 * j + r)) (bitAt-lt rows (x * 512 + (64 * j + r)))
+      ∙ ap (cell rows x) (let e : 64 * j + r ≡ j * 64 + r = omega arith in e) ∙ cell-word rows x j r h)
 
   joined-bit : (r : ℕ) → r < 64 → bitOf (bitAnd here there) r ≡ bit (inGroup rows u (64 * j + r) && inGroup rows v (64 * j + r))
-  joined-bit r h =
-      bitOf-and here there r ∙ ap₂ min (in-word u r h) (in-word v r h)
-      ∙ both-bits (cell rows u (64 * j + r)) (cell rows v (64 * j + r)) (bitAt-lt rows (u * 512 + (64 * j + r))) (bitAt-lt rows (v * 512 + (64 * j + r)))
+  joined-bit r h = bitOf-and here there r ∙ ap₂ min (in-word u r h) (in-word v r h) ∙ both-bits (inGroup rows u (64 * j + r)) (inGroup rows v (64 * j + r))
 
   leaving-bit : (r : ℕ) → r < 64 → bitOf (bitXor here there) r ≡ bit (justOne (inGroup rows u (64 * j + r)) (inGroup rows v (64 * j + r)))
-  leaving-bit r h =
-      bitOf-xor here there r ∙ ap₂ differ (in-word u r h) (in-word v r h)
-      ∙ one-bit (cell rows u (64 * j + r)) (cell rows v (64 * j + r)) (bitAt-lt rows (u * 512 + (64 * j + r))) (bitAt-lt rows (v * 512 + (64 * j + r)))
+  leaving-bit r h = bitOf-xor here there r ∙ ap₂ differ (in-word u r h) (in-word v r h) ∙ one-bit (inGroup rows u (64 * j + r)) (inGroup rows v (64 * j + r))
 
-  pub edge-more : (ts₀ ts ts₁ ts₂ : List ℕ) → j < 8 → EdgeCounted rows u v j ts₀ ts
-      → Raised ts (64 * j) (bitAnd here there) ts₁ → Raised ts₁ (512 + 64 * j) (bitXor here there) ts₂ → EdgeCounted rows u v (j + 1) ts₀ ts₂
+  pub edge-more : (ts₀ ts ts₁ ts₂ : List ℕ) → j < 8 → EdgeCounted rows u v (64 * j) ts₀ ts
+      → Raised ts (64 * j) (bitAnd here there) ts₁ → Raised ts₁ (512 + 64 * j) (bitXor here there) ts₂ → EdgeCounted rows u v (64 * (j + 1)) ts₀ ts₂
   unfolding joinedIn leavesIn
   edge-more ts₀ ts ts₁ ts₂ h c p q = record {
     size = q .size ∙ p .size ∙ c .size;
@@ -290,17 +286,34 @@ module _ (rows : List ℕ) (u v j : ℕ) where
     );
   }
 
+-- the first j words are those that begin below `groups`
+pub edge-done : (rows : List ℕ) (u v j groups : ℕ) (ts₀ ts : List ℕ) → groups ≤ 64 * j → 64 * j < groups + 64
+    → EdgeCounted rows u v (64 * j) ts₀ ts → EdgeCounted rows u v groups ts₀ ts
+unfolding joinedIn leavesIn
+edge-done rows u v j groups ts₀ ts h l c = record {
+  size = c .size;
+  joined = λ k q. rw (← same k) (c .joined k q);
+  leaving = λ k q. rw (← same k) (c .leaving k q);
+}
+  where
+    same : (k : ℕ) → ltb (64 * (k / 64)) (64 * j) ≡ ltb (64 * (k / 64)) groups
+    same k = pick (decLt (64 * (k / 64)) groups)
+      where
+        pick : Dec (64 * (k / 64) < groups) → ltb (64 * (k / 64)) (64 * j) ≡ ltb (64 * (k / 64)) groups
+        pick (yes q) = lt-ltb (64 * (k / 64)) (64 * j) (omega arith) ∙ sym (lt-ltb (64 * (k / 64)) groups q)
+        pick (no q) = le-ltb (64 * (k / 64)) (64 * j) (omega arith) ∙ sym (le-ltb (64 * (k / 64)) groups (omega arith))
+
 -- what one edge leaves still has room
-pub edge-room : (rows : List ℕ) (u v words : ℕ) (ts₀ ts : List ℕ) → CountsFit ts₀ → EdgeCounted rows u v words ts₀ ts → (i : ℕ) → i < 1024 → getD ts i 0 ≤ 4097
-edge-room rows u v words ts₀ ts room c i h = pick (decLt i 512)
+pub edge-room : (rows : List ℕ) (u v groups : ℕ) (ts₀ ts : List ℕ) → CountsFit ts₀ → EdgeCounted rows u v groups ts₀ ts → (i : ℕ) → i < 1024 → getD ts i 0 ≤ 4097
+edge-room rows u v groups ts₀ ts room c i h = pick (decLt i 512)
   where
     pick : Dec (i < 512) → getD ts i 0 ≤ 4097
-    pick (yes l) = omega (arith, c .joined i l, room .joined i l, bit-le (joinedIn rows words u v i))
+    pick (yes l) = omega (arith, c .joined i l, room .joined i l, bit-le (joinedIn rows groups u v i))
     pick (no l) =
         let k : ℕ = i - 512 in
         let e : i ≡ 512 + k = omega arith in
         let low : k < 512 = omega arith in
-        rw e (omega (arith, c .leaving k low, room .leaving k low, bit-le (leavesIn rows words u v k)))
+        rw e (omega (arith, c .leaving k low, room .leaving k low, bit-le (leavesIn rows groups u v k)))
 
 -- ---- all edges
 
@@ -312,52 +325,52 @@ ends-at part k h =
     λ at l. number-part 2 part (edgeBytes * k) ((edgeBytes * k + edgeBytes) - edgeBytes * k) at (omega arith) (omega arith) in
     (part-of 0 (omega arith) ∙ ap (number 2 part) (add-zero (edgeBytes * k)), part-of 2 (omega arith))
 
-pub edges-none : (rows part : List ℕ) (words : ℕ) → EdgesCounted rows part 0 words (replicate 1024 0)
-edges-none rows part words = record {
+pub edges-none : (rows part : List ℕ) (groups : ℕ) → EdgesCounted rows part 0 groups (replicate 1024 0)
+edges-none rows part groups = record {
   size = length-replicate {A = ℕ} 1024 0;
-  joined = λ k h. getD-replicate 1024 k 0 0 (omega arith) ∙ sym (count-none (λ e. joinedIn rows words (endA part e) (endB part e) k));
-  leaving = λ k h. getD-replicate 1024 (512 + k) 0 0 (omega arith) ∙ sym (count-none (λ e. leavesIn rows words (endA part e) (endB part e) k));
+  joined = λ k h. getD-replicate 1024 k 0 0 (omega arith) ∙ sym (count-none (λ e. joinedIn rows groups (endA part e) (endB part e) k));
+  leaving = λ k h. getD-replicate 1024 (512 + k) 0 0 (omega arith) ∙ sym (count-none (λ e. leavesIn rows groups (endA part e) (endB part e) k));
 }
 
 count-next : (n : ℕ) (f : ℕ → Bool) → count (n + 1) f ≡ count n f + bit (f n)
 unfolding count
 count-next n f = ap (λ (k : ℕ). count k f) (add-one n) ∙ omega arith
 
-pub edges-more : (rows part : List ℕ) (e words : ℕ) (ts ts′ : List ℕ) {u v : ℕ} → EdgesCounted rows part e words ts
-    → u ≡ endA part e → v ≡ endB part e → EdgeCounted rows u v words ts ts′ → EdgesCounted rows part (e + 1) words ts′
-edges-more rows part e words ts ts′ c p q held =
-    let d : EdgeCounted rows (endA part e) (endB part e) words ts ts′ = subst₂ (λ (u v : ℕ). EdgeCounted rows u v words ts ts′) p q held in
+pub edges-more : (rows part : List ℕ) (e groups : ℕ) (ts ts′ : List ℕ) {u v : ℕ} → EdgesCounted rows part e groups ts
+    → u ≡ endA part e → v ≡ endB part e → EdgeCounted rows u v groups ts ts′ → EdgesCounted rows part (e + 1) groups ts′
+edges-more rows part e groups ts ts′ c p q held =
+    let d : EdgeCounted rows (endA part e) (endB part e) groups ts ts′ = subst₂ (λ (u v : ℕ). EdgeCounted rows u v groups ts ts′) p q held in
     record {
       size = d .size;
-      joined = λ k h. omega (arith, d .joined k h, c .joined k h, count-next e (λ i. joinedIn rows words (endA part i) (endB part i) k));
-      leaving = λ k h. omega (arith, d .leaving k h, c .leaving k h, count-next e (λ i. leavesIn rows words (endA part i) (endB part i) k));
+      joined = λ k h. omega (arith, d .joined k h, c .joined k h, count-next e (λ i. joinedIn rows groups (endA part i) (endB part i) k));
+      leaving = λ k h. omega (arith, d .leaving k h, c .leaving k h, count-next e (λ i. leavesIn rows groups (endA part i) (endB part i) k));
     }
 
-pub edges-room : (rows part : List ℕ) (e words : ℕ) (ts : List ℕ) → e ≤ 4096 → EdgesCounted rows part e words ts → CountsFit ts
-edges-room rows part e words ts h c = record {
+pub edges-room : (rows part : List ℕ) (e groups : ℕ) (ts : List ℕ) → e ≤ 4096 → EdgesCounted rows part e groups ts → CountsFit ts
+edges-room rows part e groups ts h c = record {
   size = c .size;
-  joined = λ k l. omega (arith, c .joined k l, count-le e (λ i. joinedIn rows words (endA part i) (endB part i) k));
-  leaving = λ k l. omega (arith, c .leaving k l, count-le e (λ i. leavesIn rows words (endA part i) (endB part i) k));
+  joined = λ k l. omega (arith, c .joined k l, count-le e (λ i. joinedIn rows groups (endA part i) (endB part i) k));
+  leaving = λ k l. omega (arith, c .leaving k l, count-le e (λ i. leavesIn rows groups (endA part i) (endB part i) k));
 }
 
 -- by the rows of the first groups
-module _ (rows part starts members : List ℕ) (m words groups : ℕ) (few : groups ≤ 512) (wide : groups ≤ 64 * words)
+module _ (rows part starts members : List ℕ) (m groups : ℕ) (few : groups ≤ 512)
     (table : Table rows (λ v k. ltb k groups && contains v (membersOf starts members k))) (ends : Edges part m) where
   in-group : (v k : ℕ) → v < 512 → k < groups → inGroup rows v k ≡ contains v (membersOf starts members k)
   in-group v k h l =
       ap (λ (x : ℕ). eqb x 1) (table .bits v k h (omega arith)) ∙ bit-test (ltb k groups && contains v (membersOf starts members k))
       ∙ ap (λ (b : Bool). b && contains v (membersOf starts members k)) (lt-ltb k groups l)
 
-  pub groups-counted : (ts : List ℕ) → EdgesCounted rows part m words ts → GroupsCounted part m starts members groups ts
+  pub groups-counted : (ts : List ℕ) → EdgesCounted rows part m groups ts → GroupsCounted part m starts members groups ts
   unfolding joinedIn leavesIn
   groups-counted ts c = record {
     size = c .size;
     joined = λ k h.
         c .joined k (omega arith)
-        ∙ count-cong m (λ e. joinedIn rows words (endA part e) (endB part e) k) _
-        (λ e l. ap₂ _&&_ (lt-ltb k (64 * words) (omega arith)) (ap₂ _&&_ (in-group (endA part e) k (ends .low e l .0) h) (in-group (endB part e) k (ends .low e l .1) h)));
+        ∙ count-cong m (λ e. joinedIn rows groups (endA part e) (endB part e) k) _
+        (λ e l. ap₂ _&&_ (lt-ltb (64 * (k / 64)) groups (omega arith)) (ap₂ _&&_ (in-group (endA part e) k (ends .low e l .0) h) (in-group (endB part e) k (ends .low e l .1) h)));
     leaving = λ k h.
         c .leaving k (omega arith)
-        ∙ count-cong m (λ e. leavesIn rows words (endA part e) (endB part e) k) _
-        (λ e l. ap₂ _&&_ (lt-ltb k (64 * words) (omega arith)) (ap₂ justOne (in-group (endA part e) k (ends .low e l .0) h) (in-group (endB part e) k (ends .low e l .1) h)));
+        ∙ count-cong m (λ e. leavesIn rows groups (endA part e) (endB part e) k) _
+        (λ e l. ap₂ _&&_ (lt-ltb (64 * (k / 64)) groups (omega arith)) (ap₂ justOne (in-group (endA part e) k (ends .low e l .0) h) (in-group (endB part e) k (ends .low e l .1) h)));
   }

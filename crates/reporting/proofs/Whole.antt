@@ -35,8 +35,9 @@ use Rattle.lookup.specs.Lookup.{membersOf}
 use Rattle.lookup.proofs.Agreement.{members-slice}
 use Rattle.scores.specs.Scored.{tallyOf}
 use Rattle.scores.proofs.Tallying.{joined-once}
+use Rattle.text.specs.Text.{bytes}
 use Rattle.text.specs.Text as X
-use Rattle.reporting.specs.Report.{headLine, groupLines, listLine, isOutlier, outliers, reportWith, reportText, coresWord, outliersWord}
+use Rattle.reporting.specs.Report.{headLine, groupLines, listLine, isOutlier, outliers, reportWith, reportText}
 use Rattle.reporting.specs.Held.{groupTally, Edges, GroupsCounted, tableLines, tableText, Without, PlanHeld}
 use Rattle.reporting.specs.declared.Head.{Head}
 use Rattle.reporting.proofs.Outliers.{outlier-test, held-members}
@@ -125,7 +126,7 @@ module _ {s : List ℕ} {h : Header} {head : Head} {starts table cores-set : Lis
       (ap headLine (held .head-is))
       (ap₂ (λ (a b : List ℕ). a ++ b)
       (lines-are s gs starts table ts (head .counts .groups) part-at (tally-held ts e) ∙ ap (groupLines s gs) groups-are)
-      (ap₂ (λ (a b : List ℕ). listLine coresWord a ++ listLine outliersWord b) core-list outlier-list))
+      (ap₂ (λ (a b : List ℕ). listLine (bytes "cores:") a ++ listLine (bytes "outliers:") b) core-list outlier-list))
 
   header-fits : (headerOf s .n ≤ 512) × (headerOf s .edges + edgeBytes * headerOf s .m ≤ length s)
   header-fits =

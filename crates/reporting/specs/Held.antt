@@ -1,14 +1,13 @@
 -- These definitions only serve the proofs; a caller need not believe them.
 -- What the report's working tables hold, for the contracts inside the crate.
 --
---     scoresPart k c       what stands before the colon in the line of group k
 --     groupTally ts k l       the tally of group k with the members l, from a table that holds its tied pairs at k and its leaving edges at 512 + k
 --     inGroup, joinedIn, leavesIn    by the rows of the groups of each handset: whether it is in a group, whether an edge is tied in it, or leaves it
 --     GroupAdded rows l k ..   the rows with group k added to those of the handsets in l
 --     Raised ts base w ..  a table with 1 added at base + k for each set bit k of the word w
 --     CountsFit ts              a table of 1,024 numbers that none of 4,096 edges makes too large
 --     Edges part m         m edge records stand in the part, and the ends of each have rows
---     EdgeCounted ..       a table with one edge added, for the groups of the first words of the rows
+--     EdgeCounted ..       a table with one edge added, for the groups of the rows' words that begin below a bound
 --     EdgesCounted ..      the counts over the first m edges, for those groups
 --     GroupsCounted ..     the tied pairs and the leaving edges of each group of a plan's two tables
 --     tableLines ..        the lines of the first k groups, from the plan's two tables and the counts
@@ -16,7 +15,7 @@
 --     Filled t l r l′      a text t was written into the buffer l where it fits: the answer r, and the buffer after
 --     Without ws l ws′     the set ws with the numbers of l taken out
 --     PlanHeld s ..        an accepted image's header, the numbers of line one, the plan in the two tables, and the set of cores
-use Prim.Native.Nat.{ℕ, zero, suc, _+_, _*_, _-_, _≤_, _<_}
+use Prim.Native.Nat.{ℕ, zero, suc, _+_, _*_, _-_, _/_, _≤_, _<_}
 use mathlib.Core.Path.{_≡_}
 use mathlib.Core.Bool.{Bool, _&&_, _||_, not, cond}
 use mathlib.Core.List.{List, [], _++_}
@@ -35,18 +34,13 @@ use Rattle.community.specs.Site.{network}
 use Rattle.community.specs.Tables.{startTable, memberTable}
 use Rattle.tables.specs.Plan.{over}
 use Rattle.lookup.specs.Lookup.{membersOf}
-use Rattle.scores.specs.declared.Scores.{Scores}
 use Rattle.scores.specs.declared.Tally.{Tally}
 use Rattle.scores.specs.Scored.{scoresFor}
-use Rattle.text.specs.Text.{decimal}
+use Rattle.text.specs.Text.{bytes}
 use Rattle.text.specs.Text as T
-use Rattle.reporting.specs.Report.{headLine, headOf, scoreText, groupLine, listLine, groupWord, densityWord, conductanceWord, coresWord, outliersWord, writtenOf, writtenIn}
+use Rattle.reporting.specs.Report.{headLine, headOf, groupLine, listLine, writtenOf, writtenIn}
 use Rattle.reporting.specs.declared.Head.{Head}
 use Rattle.reporting.specs.declared.Reported.{Reported}
-
--- what stands before the colon in the line of group k
-unfoldable pub scoresPart : ℕ → Scores → List ℕ
-scoresPart k c = groupWord ++ (decimal k ++ (densityWord ++ (scoreText (c .density) ++ (conductanceWord ++ scoreText (c .conductance)))))
 
 -- a group has at most 512 members
 unfoldable pub groupTally : List ℕ → ℕ → List ℕ → Tally
@@ -81,22 +75,22 @@ pub record Edges (part : List ℕ) (m : ℕ) : Type 0 where
   pub whole : edgeBytes * m ≤ length part
   pub low : (e : ℕ) → e < m → (endA part e < 512) × (endB part e < 512)
 
--- the edge between u and v is tied in group k, or leaves it; k is one of the first words' groups
+-- the edge between u and v is tied in group k, or leaves it; k is a group of a word that begins below `groups`
 unfoldable pub joinedIn : List ℕ → ℕ → ℕ → ℕ → ℕ → Bool
-joinedIn rows words u v k = ltb k (64 * words) && (inGroup rows u k && inGroup rows v k)
+joinedIn rows groups u v k = ltb (64 * (k / 64)) groups && (inGroup rows u k && inGroup rows v k)
 
 unfoldable pub leavesIn : List ℕ → ℕ → ℕ → ℕ → ℕ → Bool
-leavesIn rows words u v k = ltb k (64 * words) && justOne (inGroup rows u k) (inGroup rows v k)
+leavesIn rows groups u v k = ltb (64 * (k / 64)) groups && justOne (inGroup rows u k) (inGroup rows v k)
 
-pub record EdgeCounted (rows : List ℕ) (u v words : ℕ) (ts ts′ : List ℕ) : Type 0 where
+pub record EdgeCounted (rows : List ℕ) (u v groups : ℕ) (ts ts′ : List ℕ) : Type 0 where
   pub size : length ts′ ≡ 1024
-  pub joined : (k : ℕ) → k < 512 → getD ts′ k 0 ≡ getD ts k 0 + bit (joinedIn rows words u v k)
-  pub leaving : (k : ℕ) → k < 512 → getD ts′ (512 + k) 0 ≡ getD ts (512 + k) 0 + bit (leavesIn rows words u v k)
+  pub joined : (k : ℕ) → k < 512 → getD ts′ k 0 ≡ getD ts k 0 + bit (joinedIn rows groups u v k)
+  pub leaving : (k : ℕ) → k < 512 → getD ts′ (512 + k) 0 ≡ getD ts (512 + k) 0 + bit (leavesIn rows groups u v k)
 
-pub record EdgesCounted (rows part : List ℕ) (m words : ℕ) (ts : List ℕ) : Type 0 where
+pub record EdgesCounted (rows part : List ℕ) (m groups : ℕ) (ts : List ℕ) : Type 0 where
   pub size : length ts ≡ 1024
-  pub joined : (k : ℕ) → k < 512 → getD ts k 0 ≡ count m (λ e. joinedIn rows words (endA part e) (endB part e) k)
-  pub leaving : (k : ℕ) → k < 512 → getD ts (512 + k) 0 ≡ count m (λ e. leavesIn rows words (endA part e) (endB part e) k)
+  pub joined : (k : ℕ) → k < 512 → getD ts k 0 ≡ count m (λ e. joinedIn rows groups (endA part e) (endB part e) k)
+  pub leaving : (k : ℕ) → k < 512 → getD ts (512 + k) 0 ≡ count m (λ e. leavesIn rows groups (endA part e) (endB part e) k)
 
 pub record GroupsCounted (part : List ℕ) (m : ℕ) (starts members : List ℕ) (groups : ℕ) (ts : List ℕ) : Type 0 where
   pub size : length ts ≡ 1024
@@ -114,7 +108,7 @@ tableLines starts members ts (suc k) = tableLines starts members ts k ++ groupLi
 unfoldable pub tableText : Head → List ℕ → List ℕ → List ℕ → List ℕ → List ℕ → List ℕ
 tableText head starts members ts cores outliers =
     headLine head
-    ++ (tableLines starts members ts (head .counts .groups) ++ (listLine coresWord (T.elementsOf cores) ++ listLine outliersWord (T.elementsOf outliers)))
+    ++ (tableLines starts members ts (head .counts .groups) ++ (listLine (bytes "cores:") (T.elementsOf cores) ++ listLine (bytes "outliers:") (T.elementsOf outliers)))
 
 pub record Filled (t l : List ℕ) (r : Reported) (l′ : List ℕ) : Type 0 where
   pub answer : r ≡ writtenOf t (length l)

@@ -1,6 +1,7 @@
 -- The text of a report, and the answers of the calls that write it (paper 01, "Scores, lookup, report").
 --
 --     headLine, groupLine, listLine    the kinds of lines, each ended by byte 10
+--     scoresPart k c                   what stands before the colon in the line of group k
 --     headOf s gs                      the numbers of line one
 --     reportText s                     the whole text for an accepted image: its exact bytes
 --     outliers g                       the handsets in no community, ascending
@@ -34,73 +35,34 @@ use Rattle.scores.specs.declared.Score.{Score}
 use Rattle.scores.specs.declared.Score.the-variants.{Ratio, Nothing}
 use Rattle.scores.specs.declared.Scores.{Scores}
 use Rattle.scores.specs.Scored.{tallyOf, scoresFor}
-use Rattle.text.specs.Text.{decimal, numbers}
+use Rattle.text.specs.Text.{bytes, decimal, numbers}
 use Rattle.reporting.specs.declared.Head.{Head}
 use Rattle.reporting.specs.declared.Reported.{Reported}
 use Rattle.reporting.specs.declared.Reported.the-variants as R
 
--- ---- the words of the report
-
--- "handsets "
-abbrev pub handsetsWord : List ℕ
-handsetsWord = 104 ∷ 97 ∷ 110 ∷ 100 ∷ 115 ∷ 101 ∷ 116 ∷ 115 ∷ 32 ∷ []
-
--- " ties "
-abbrev pub tiesWord : List ℕ
-tiesWord = 32 ∷ 116 ∷ 105 ∷ 101 ∷ 115 ∷ 32 ∷ []
-
--- " groups "
-abbrev pub groupsWord : List ℕ
-groupsWord = 32 ∷ 103 ∷ 114 ∷ 111 ∷ 117 ∷ 112 ∷ 115 ∷ 32 ∷ []
-
--- " memberships "
-abbrev pub membershipsWord : List ℕ
-membershipsWord = 32 ∷ 109 ∷ 101 ∷ 109 ∷ 98 ∷ 101 ∷ 114 ∷ 115 ∷ 104 ∷ 105 ∷ 112 ∷ 115 ∷ 32 ∷ []
-
--- "group "
-abbrev pub groupWord : List ℕ
-groupWord = 103 ∷ 114 ∷ 111 ∷ 117 ∷ 112 ∷ 32 ∷ []
-
--- " density "
-abbrev pub densityWord : List ℕ
-densityWord = 32 ∷ 100 ∷ 101 ∷ 110 ∷ 115 ∷ 105 ∷ 116 ∷ 121 ∷ 32 ∷ []
-
--- " conductance "
-abbrev pub conductanceWord : List ℕ
-conductanceWord = 32 ∷ 99 ∷ 111 ∷ 110 ∷ 100 ∷ 117 ∷ 99 ∷ 116 ∷ 97 ∷ 110 ∷ 99 ∷ 101 ∷ 32 ∷ []
-
--- "cores:"
-abbrev pub coresWord : List ℕ
-coresWord = 99 ∷ 111 ∷ 114 ∷ 101 ∷ 115 ∷ 58 ∷ []
-
--- "outliers:"
-abbrev pub outliersWord : List ℕ
-outliersWord = 111 ∷ 117 ∷ 116 ∷ 108 ∷ 105 ∷ 101 ∷ 114 ∷ 115 ∷ 58 ∷ []
-
--- "refused "
-abbrev pub refusedWord : List ℕ
-refusedWord = 114 ∷ 101 ∷ 102 ∷ 117 ∷ 115 ∷ 101 ∷ 100 ∷ 32 ∷ []
-
 -- ---- the lines
 
 abbrev pub newline : List ℕ
-newline = 10 ∷ []
+newline = bytes "\n"
 
 -- n, m, and the plan's two counts
 unfoldable pub headLine : Head → List ℕ
 headLine h =
-    handsetsWord ++ (decimal (h .handsets) ++ (tiesWord ++ (decimal (h .ties)
-    ++ (groupsWord ++ (decimal (h .counts .groups) ++ (membershipsWord ++ (decimal (h .counts .memberships) ++ newline)))))))
+    bytes "handsets " ++ (decimal (h .handsets) ++ (bytes " ties " ++ (decimal (h .ties)
+    ++ (bytes " groups " ++ (decimal (h .counts .groups) ++ (bytes " memberships " ++ (decimal (h .counts .memberships) ++ newline)))))))
 
 -- two numbers with a slash between, not reduced; a hyphen for no score
 unfoldable pub scoreText : Score → List ℕ
-scoreText (Ratio a b) = decimal a ++ (47 ∷ decimal b)
-scoreText Nothing = 45 ∷ []
+scoreText (Ratio a b) = decimal a ++ (bytes "/" ++ decimal b)
+scoreText Nothing = bytes "-"
 
--- the number of a group, its scores, a colon, its members
+-- the number of a group and its scores
+unfoldable pub scoresPart : ℕ → Scores → List ℕ
+scoresPart k c = bytes "group " ++ (decimal k ++ (bytes " density " ++ (scoreText (c .density) ++ (bytes " conductance " ++ scoreText (c .conductance)))))
+
+-- those, a colon, the group's members
 unfoldable pub groupLine : ℕ → Scores → List ℕ → List ℕ
-groupLine k c l =
-    groupWord ++ (decimal k ++ (densityWord ++ (scoreText (c .density) ++ (conductanceWord ++ (scoreText (c .conductance) ++ ((58 ∷ []) ++ (numbers l ++ newline)))))))
+groupLine k c l = scoresPart k c ++ (bytes ":" ++ (numbers l ++ newline))
 
 -- a word and the numbers of a list
 unfoldable pub listLine : List ℕ → List ℕ → List ℕ
@@ -129,7 +91,7 @@ headOf s gs = record { handsets = handsetCount s; ties = edgeCount s; counts = r
 unfoldable pub reportWith : List ℕ → List (List ℕ) → List ℕ
 reportWith s gs =
     headLine (headOf s gs)
-    ++ (groupLines s gs (length gs) ++ (listLine coresWord (cores (network s)) ++ listLine outliersWord (outliers (network s))))
+    ++ (groupLines s gs (length gs) ++ (listLine (bytes "cores:") (cores (network s)) ++ listLine (bytes "outliers:") (outliers (network s))))
 
 unfoldable pub reportText : List ℕ → List ℕ
 reportText s = reportWith s (communities (network s))
@@ -172,7 +134,7 @@ pub record ReportCall (s l : List ℕ) (r : Reported) (l′ : List ℕ) : Type 0
 
 -- "refused", number, place
 unfoldable pub refusedText : Refusal → List ℕ
-refusedText r = refusedWord ++ (decimal (r .number) ++ (32 ∷ (decimal (r .place) ++ newline)))
+refusedText r = bytes "refused " ++ (decimal (r .number) ++ (bytes " " ++ (decimal (r .place) ++ newline)))
 
 abbrev pub printed : List ℕ → Reported → List ℕ
 printed s (R.Written k) = reportText s

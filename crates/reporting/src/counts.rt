@@ -51,13 +51,13 @@ fn add_bits(word: u64, base: usize, counts: &mut [u32])
     }
 }
 
-// Counts the edge between u and v, for the groups of the first `words` words of the rows.
-fn count_edge(rows: &[u64], u: usize, v: usize, words: usize, counts: &mut [u32])
-    requires { ⌜ (length (now rows) ≡ 4096) × ((u < 512) × ((v < 512) × ((words ≤ 8) × CountsFit (now counts)))) ⌝ }
-    ensures { λ _. ⌜ EdgeCounted (now (rows .entry)) u v words (now (counts .entry)) (now (counts .exit)) ⌝ }
+// Counts the edge between u and v, for the groups of the rows' words that begin below `groups`.
+fn count_edge(rows: &[u64], u: usize, v: usize, groups: usize, counts: &mut [u32])
+    requires { ⌜ (length (now rows) ≡ 4096) × ((u < 512) × ((v < 512) × ((groups ≤ 512) × CountsFit (now counts)))) ⌝ }
+    ensures { λ _. ⌜ EdgeCounted (now (rows .entry)) u v groups (now (counts .entry)) (now (counts .exit)) ⌝ }
 {
     let mut j: usize = 0;
-    while j < words {
+    while 64 * j < groups {
         let a = rows[u * 8 + j];
         let b = rows[v * 8 + j];
         add_bits(a & b, 64 * j, counts);
@@ -66,17 +66,17 @@ fn count_edge(rows: &[u64], u: usize, v: usize, words: usize, counts: &mut [u32]
     }
 }
 
-// Counts each of the first m edges, for the groups of the first `words` words of the rows.
-fn count_edges(rows: &[u64], edges: &[u8], m: usize, words: usize, counts: &mut [u32])
-    requires { ⌜ (length (now rows) ≡ 4096) × ((words ≤ 8) × (Edges (now edges) m × (now counts ≡ replicate 1024 0))) ⌝ }
-    ensures { λ _. ⌜ EdgesCounted (now (rows .entry)) (now (edges .entry)) m words (now (counts .exit)) ⌝ }
+// Counts each of the first m edges, for the groups of the rows' words that begin below `groups`.
+fn count_edges(rows: &[u64], edges: &[u8], m: usize, groups: usize, counts: &mut [u32])
+    requires { ⌜ (length (now rows) ≡ 4096) × ((groups ≤ 512) × (Edges (now edges) m × (now counts ≡ replicate 1024 0))) ⌝ }
+    ensures { λ _. ⌜ EdgesCounted (now (rows .entry)) (now (edges .entry)) m groups (now (counts .exit)) ⌝ }
 {
     let mut k: usize = 0;
     while k < m {
         let at = fields::EDGE_BYTES * k;
         let past = at + fields::EDGE_BYTES;
         let ends = fields::read_ends(&edges[at..past]);
-        count_edge(rows, ends.a, ends.b, words, counts);
+        count_edge(rows, ends.a, ends.b, groups, counts);
         k += 1;
     }
 }
@@ -95,5 +95,5 @@ pub(crate) fn count_groups<'a>(
 {
     let mut rows = [0u64; 4096];
     mark_groups(&mut rows, starts, members, groups);
-    count_edges(&rows, edges, m, (groups + 63) / 64, counts);
+    count_edges(&rows, edges, m, groups, counts);
 }

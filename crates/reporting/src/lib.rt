@@ -20,8 +20,8 @@ ghost use Rattle.image.specs.Image.{headerOf};
 ghost use Rattle.image.specs.Questions.{Accepted};
 ghost use Rattle.scores.specs.Scored.{scoresFor};
 ghost use Rattle.text.specs.Text.{Wrote, decimal, elementsOf};
-ghost use Rattle.reporting.specs.Report.{headLine, scoreText, groupLine, listLine, reportText, ReportCall, refusedText, programText};
-ghost use Rattle.reporting.specs.Held.{scoresPart, groupTally, tableLines, tableText, Filled, Without, PlanHeld};
+ghost use Rattle.reporting.specs.Report.{headLine, scoreText, scoresPart, groupLine, listLine, reportText, ReportCall, refusedText, programText};
+ghost use Rattle.reporting.specs.Held.{groupTally, tableText, Filled, Without, PlanHeld};
 
 // What a call for a report answers: the text's length, or the refusal.
 pub enum Reported {
@@ -111,28 +111,6 @@ fn at_or_zero(table: &[u32], i: usize) -> u32
     if i < table.len() { table[i] } else { 0 }
 }
 
-// Writes the lines of the first `groups` groups, from the plan's two tables and the counts. With no group it writes nothing.
-fn put_groups<'a>(
-    text: &mut [u8],
-    at: usize,
-    starts: &'a [u32],
-    members: &'a [u16],
-    counts: &'a [u32],
-    groups: usize,
-) -> usize
-    requires { ⌜ (at ≤ 9223372036854775808) × (groups ≤ 512) ⌝ }
-    ensures { λ r. ⌜ Wrote (now (text .entry)) at (tableLines (now (starts .entry)) (now (members .entry)) (now (counts .entry)) groups) (now (text .exit)) r ⌝ }
-{
-    let mut k: usize = 0;
-    let mut next = at;
-    while k < groups {
-        let list = lookup::members(starts, members, k);
-        next = put_group(text, next, k, tally_at(counts, k, list), list);
-        k += 1;
-    }
-    next
-}
-
 // Writes a word, the members of a set of bits, and byte 10.
 fn put_set(text: &mut [u8], at: usize, word: &[u8], set: &[u64]) -> usize
     ensures { λ r. ⌜ Wrote (now (text .entry)) at (listLine (now (word .entry)) (elementsOf (now (set .entry)))) (now (text .exit)) r ⌝ }
@@ -155,35 +133,16 @@ fn put_report<'a>(
     requires { ⌜ head .counts .groups ≤ 512 ⌝ }
     ensures { λ r. ⌜ Wrote (now (text .entry)) 0 (tableText head (now (starts .entry)) (now (members .entry)) (now (counts .entry)) (now (cores .entry)) (now (outliers .entry))) (now (text .exit)) r ⌝ }
 {
-    let p1 = put_head(text, 0, head);
-    let p2 = put_groups(text, p1, starts, members, counts, head.counts.groups);
-    let p3 = put_set(text, p2, b"cores:", cores);
-    put_set(text, p3, b"outliers:", outliers)
-}
-
-// Measures the report in a buffer of one byte, and writes it where it fits. Where it does not, the refusal 16, and nothing is written.
-fn write_report<'a>(
-    text: &mut [u8],
-    head: Head,
-    starts: &'a [u32],
-    members: &'a [u16],
-    counts: &'a [u32],
-    cores: &'a [u64],
-    outliers: &'a [u64],
-) -> Reported
-    requires { ⌜ head .counts .groups ≤ 512 ⌝ }
-    ensures { λ r. ⌜ Filled (tableText head (now (starts .entry)) (now (members .entry)) (now (counts .entry)) (now (cores .entry)) (now (outliers .entry))) (now (text .entry)) r (now (text .exit)) ⌝ }
-{
-    let mut none = [0u8; 1];
-    let need = put_report(&mut none, head, starts, members, counts, cores, outliers);
-    if need <= text.len() {
-        let length = put_report(text, head, starts, members, counts, cores, outliers);
-        return Reported::Written(length);
+    let groups = head.counts.groups;
+    let mut next = put_head(text, 0, head);
+    let mut k: usize = 0;
+    while k < groups {
+        let list = lookup::members(starts, members, k);
+        next = put_group(text, next, k, tally_at(counts, k, list), list);
+        k += 1;
     }
-    Reported::Refused(Refusal {
-        number: 16,
-        place: 0,
-    })
+    let past = put_set(text, next, b"cores:", cores);
+    put_set(text, past, b"outliers:", outliers)
 }
 
 // Adds each number below n to an empty set.
@@ -209,7 +168,8 @@ fn unmark_all(set: &mut [u64], table: &[u16])
     }
 }
 
-// Writes the report of an accepted image from its header, the numbers of line one, and its plan.
+// Writes the report of an accepted image from its header, the numbers of line one, and its plan. The text is measured in a buffer of one byte, and written
+// where it fits. Where it does not, the refusal 16, and nothing is written.
 fn report_plan<'a>(
     text: &mut [u8],
     image: &'a [u8],
@@ -232,7 +192,16 @@ fn report_plan<'a>(
     let mut outliers = [0u64; 8];
     mark_below(&mut outliers, h.n as usize);
     unmark_all(&mut outliers, &members[0..memberships]);
-    write_report(text, head, starts, members, &counts, cores, &outliers)
+    let mut none = [0u8; 1];
+    let need = put_report(&mut none, head, starts, members, &counts, cores, &outliers);
+    if need <= text.len() {
+        let length = put_report(text, head, starts, members, &counts, cores, &outliers);
+        return Reported::Written(length);
+    }
+    Reported::Refused(Refusal {
+        number: 16,
+        place: 0,
+    })
 }
 
 // Writes the report of an accepted image with the header h. Its plan fits the two tables, so that it is never refused.

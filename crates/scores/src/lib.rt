@@ -47,12 +47,6 @@ pub enum Tallied {
     Refused(Refusal),
 }
 
-// t and o over the edges.
-struct EdgeCounts {
-    joined: u32,
-    leaving: u32,
-}
-
 // The smaller of two numbers.
 fn smaller(a: usize, b: usize) -> usize
     ensures { λ r. ⌜ r ≡ min a b ⌝ }
@@ -61,7 +55,7 @@ fn smaller(a: usize, b: usize) -> usize
 }
 
 // Question 13 for one entry: it is not below n, or stands at index 512 or later.
-fn is_bad(n: usize, entry: u16, i: usize) -> bool
+fn is_bad_entry(n: usize, entry: u16, i: usize) -> bool
     ensures { λ r. ⌜ r ≡ (leb n entry || leb 512 i) ⌝ }
 {
     (n <= (entry as usize)) | (512 <= i)
@@ -73,18 +67,12 @@ fn first_bad_entry(n: usize, list: &[u16]) -> usize
 {
     let mut i: usize = 0;
     while i < list.len() {
-        if is_bad(n, list[i], i) {
+        if is_bad_entry(n, list[i], i) {
             return i;
         }
         i += 1;
     }
     i
-}
-
-fn wide(x: u16) -> usize
-    ensures { λ r. ⌜ r ≡ x ⌝ }
-{
-    x as usize
 }
 
 // Counts the entries of the list into a blank table: place v then holds how often v stands in the list.
@@ -94,7 +82,7 @@ fn count_entries(list: &[u16], table: &mut [u16])
 {
     let mut i: usize = 0;
     while i < list.len() {
-        let v = wide(list[i]);
+        let v = list[i] as usize;
         table[v] = table[v] + 1;
         i += 1;
     }
@@ -116,10 +104,10 @@ fn just_one(a: u32, b: u32) -> u32
     if (x & !y) | (y & !x) { 1 } else { 0 }
 }
 
-// t and o over the first m edges, by a table of multiplicities.
-fn count_edges(edges: &[u8], m: usize, table: &[u16]) -> EdgeCounts
+// The tally with s as given, and t and o over the first m edges, by a table of multiplicities.
+fn tally_edges(edges: &[u8], m: usize, table: &[u16], all: u32) -> Tally
     requires { ⌜ (edgeBytes * m ≤ length (now edges)) × (m ≤ 4096) × ((v : ℕ) → getD (now table) v 0 ≤ 512) ⌝ }
-    ensures { λ r. ⌜ r ≡ record { joined = joinedSum (now (table .entry)) (now (edges .entry)) everyEdge m; leaving = leavingSum (now (table .entry)) (now (edges .entry)) everyEdge m } ⌝ }
+    ensures { λ r. ⌜ r ≡ record { pairs = all; joined = joinedSum (now (table .entry)) (now (edges .entry)) everyEdge m; leaving = leavingSum (now (table .entry)) (now (edges .entry)) everyEdge m } ⌝ }
 {
     let mut joined: u32 = 0;
     let mut leaving: u32 = 0;
@@ -134,7 +122,11 @@ fn count_edges(edges: &[u8], m: usize, table: &[u16]) -> EdgeCounts
         leaving += just_one(a, b);
         k += 1;
     }
-    EdgeCounts { joined, leaving }
+    Tally {
+        pairs: all,
+        joined,
+        leaving,
+    }
 }
 
 // s, the count of all pairs of places of a list. Entries past the first 512 are not looked at: question 13 refuses them.
@@ -152,12 +144,7 @@ fn tally_listed(edges: &[u8], m: usize, list: &[u16]) -> Tally
 {
     let mut table = [0u16; 512];
     count_entries(list, &mut table);
-    let counts = count_edges(edges, m, &table);
-    Tally {
-        pairs: pairs_of(list),
-        joined: counts.joined,
-        leaving: counts.leaving,
-    }
+    tally_edges(edges, m, &table, pairs_of(list))
 }
 
 // The tally of a list of handsets of an image: the image's refusal, 13 with the first bad entry's index, or s, t and o.

@@ -78,13 +78,6 @@ fn put_number(text: &mut [u8], at: usize, n: u64) -> usize
     put_decimal(text, next, n)
 }
 
-// A number of a table, as put_number takes it.
-fn wide(x: u16) -> u64
-    ensures { λ r. ⌜ r ≡ x ⌝ }
-{
-    x as u64
-}
-
 // Writes each number of a table after a space; of an empty table nothing.
 pub fn put_numbers(text: &mut [u8], at: usize, table: &[u16]) -> usize
     ensures { λ r. ⌜ Wrote (now (text .entry)) at (numbers (now (table .entry))) (now (text .exit)) r ⌝ }
@@ -92,7 +85,7 @@ pub fn put_numbers(text: &mut [u8], at: usize, table: &[u16]) -> usize
     let mut i = 0;
     let mut next = capped(at);
     while i < table.len() {
-        next = put_number(text, next, wide(table[i]));
+        next = put_number(text, next, table[i] as u64);
         i += 1;
     }
     next

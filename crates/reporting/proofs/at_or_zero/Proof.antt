@@ -1,5 +1,4 @@
 -- `reporting::at_or_zero` meets its contract: past the end of a list stands the default.
-use native.Mathlib.Omega.{arith}
 use denote.Ref.{now}
 use mathlib.Core.Path.{sym}
 use lib.ListN.{List·getD-eq-default}
@@ -8,7 +7,7 @@ use Rattle.reporting.proofs.at_or_zero.Statement.{statement}
 use Rattle.reporting.proofs.at_or_zero.Tie as tie
 
 mul-result : tie.Need-mul-result
-mul-result c = omega arith
+mul-result c = search needs
 
 shared-slice-read-result : tie.Need-shared-slice-read-result
 shared-slice-read-result c = search needs

@@ -9,6 +9,7 @@ use Rattle.sets.specs.Below.{bit}
 use Rattle.sets.specs.Bits.{bitAt}
 use Rattle.sets.proofs.Bits.{length-withBit}
 use Rattle.reporting.proofs.Marking.{below-start, below-more}
+use borrow.Author.Needs.{needs}
 use Rattle.reporting.proofs.mark_below.Statement.{statement}
 use Rattle.reporting.proofs.mark_below.Tie as tie
 
@@ -27,13 +28,13 @@ loop-holds c =
     )
 
 mark-requires : tie.Need-mark-requires Inv-loop μ-loop
-mark-requires c κs = tt
+mark-requires c κs = search needs
 
 add-v : tie.Need-add-v Inv-loop μ-loop
-add-v c = omega arith
+add-v c = search needs
 
 loop-less : tie.Need-loop-less Inv-loop μ-loop
-loop-less c = omega arith
+loop-less c = search needs
 
 loop-again : tie.Need-loop-again Inv-loop μ-loop
 loop-again c =

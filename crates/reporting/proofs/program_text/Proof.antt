@@ -8,42 +8,27 @@ use borrow.Author.Needs.{needs}
 use Rattle.reporting.proofs.program_text.Statement.{statement}
 use Rattle.reporting.proofs.program_text.Tie as tie
 
--- where the function starts; when the report has answered; when a refusal is written, of a long input and of any other
-abbrev start : tie.After-slice-known → tie.Start
-start c = c .before .before
+-- where the function starts, from where a long input is refused, and from where the report has answered
+abbrev long-start : tie.After-put-refusal → tie.Start
+long-start c = c .before .before .before .before .before
 
-abbrev answered : tie.After-slice-known3 → tie.After-report
-answered c = c .before .before
-
-abbrev short : tie.After-report → tie.Else1
-short c = c .before .before
-
-abbrev long-refused : tie.After-slice-known2 → tie.After-put-refusal
-long-refused c = c .before .before
-
-abbrev long : tie.After-put-refusal → tie.Then1
-long c = c .before .before
-
-abbrev refused : tie.After-slice-known4 → tie.After-put-refusal2
-refused c = c .before .before
-
-abbrev told : tie.After-put-refusal2 → tie.After-reported2
-told c = c .before .before .before
+abbrev start : tie.After-report → tie.Start
+start c = c .before .before .before .before .before
 
 put-refusal-requires : tie.Need-put-refusal-requires
-put-refusal-requires c κs = tt
+put-refusal-requires c κs = search needs
 
 same-length : tie.Need-same-length
 same-length c = omega arith
 
 returns : tie.Need-returns
 returns c =
-    let w = long-refused c in
-    let a = start (long w .before) .args in
-    rw (program-long (now (a .input)) (length (now (a .out))) (long w .if1 .taken)) (w .put-refusal .ensures)
+    let w = c .before .before in
+    let a = long-start w .args in
+    rw (program-long (now (a .input)) (length (now (a .out))) (w .before .before .if1 .taken)) (w .put-refusal .ensures)
 
 report-requires : tie.Need-report-requires
-report-requires c κs = tt
+report-requires c κs = search needs
 
 enum-known-reported : tie.Need-enum-known-reported
 enum-known-reported c = search needs
@@ -52,27 +37,28 @@ enum-known-reported-2 : tie.Need-enum-known-reported-2
 enum-known-reported-2 c = search needs
 
 put-refusal-requires-2 : tie.Need-put-refusal-requires-2
-put-refusal-requires-2 c κs = tt
+put-refusal-requires-2 c κs = search needs
 
 same-length-2 : tie.Need-same-length-2
 same-length-2 c = omega arith
 
 returns-2 : tie.Need-returns-2
 returns-2 c =
-    let called = answered (c .before .before .before) in
-    let s = start (short called .before) in
+    let called = c .before .before .before .before .before in
+    let s = start called in
     let small : length (now (s .args .out)) < 9223372036854775808 = omega (arith, s .good .1 .0 .1) in
-    program-written (now (s .args .input)) (now (s .args .out)) (short called .if1 .left) _ _ _ small (c .before .reported .given .1) (called .report .ensures)
+    program-written (now (s .args .input)) (now (s .args .out)) (called .before .before .if1 .left) _ _ _ small (c .before .reported .given .1) (called .report .ensures)
 
 same-length-3 : tie.Need-same-length-3
 same-length-3 c = omega arith
 
 returns-3 : tie.Need-returns-3
 returns-3 c =
-    let w = refused c in
-    let called = answered (told w .before .before) in
-    let a = start (short called .before) .args in
-    program-refused (now (a .input)) (now (a .out)) (short called .if1 .left) _ _ _ _ _ (told w .reported2 .given .1) (called .report .ensures) (w .put-refusal2 .ensures)
+    let w = c .before .before in
+    let told = w .before .before .before in
+    let called = told .before .before .before .before in
+    let a = start called .args in
+    program-refused (now (a .input)) (now (a .out)) (called .before .before .if1 .left) _ _ _ _ _ (told .reported2 .given .1) (called .report .ensures) (w .put-refusal2 .ensures)
 
 pub program-text-spec : {M : Type 1} → statement M
 program-text-spec =

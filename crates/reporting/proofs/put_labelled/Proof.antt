@@ -1,17 +1,18 @@
 -- `reporting::put_labelled` meets its contract: the word, then the digits.
 use native.Mathlib.Omega.{arith}
 use Rattle.text.proofs.Writing.{chain}
+use borrow.Author.Needs.{needs}
 use Rattle.reporting.proofs.put_labelled.Statement.{statement}
 use Rattle.reporting.proofs.put_labelled.Tie as tie
 
 put-all-requires : tie.Need-put-all-requires
-put-all-requires c κs = tt
+put-all-requires c κs = search needs
 
 put-decimal-requires : tie.Need-put-decimal-requires
-put-decimal-requires c κs = tt
+put-decimal-requires c κs = search needs
 
 same-length : tie.Need-same-length
-same-length c = omega arith
+same-length c = search needs
 
 returns : tie.Need-returns
 returns c = chain (omega arith) (c .before .before .before .before .before .before .put-all .ensures) (c .before .before .put-decimal .ensures)

@@ -1,43 +1,39 @@
 -- `reporting::put_refusal` meets its contract: two labelled numbers and byte 10.
-use mathlib.Core.Path.{refl}
 use native.Mathlib.Omega.{arith}
 use Rattle.text.proofs.Writing.{chain}
-use Rattle.reporting.proofs.Lines.{refused-parts}
-use Prim.Native.Nat.{_≤_}
-use lib.ListN.{length}
-use denote.Ref.{now}
+use Rattle.reporting.specs.Report.{refusedText}
+use borrow.Author.Needs.{needs}
 use Rattle.reporting.proofs.put_refusal.Statement.{statement}
 use Rattle.reporting.proofs.put_refusal.Tie as tie
 
 slice-aggregate-put-labelled : tie.Need-slice-aggregate-put-labelled
-slice-aggregate-put-labelled c = refl
+slice-aggregate-put-labelled c = search needs
 
 cast-put-labelled : tie.Need-cast-put-labelled
-cast-put-labelled c = omega arith
+cast-put-labelled c = search needs
 
 put-labelled-requires : tie.Need-put-labelled-requires
-put-labelled-requires c κs = tt
+put-labelled-requires c κs = search needs
 
 slice-aggregate-put-labelled-2 : tie.Need-slice-aggregate-put-labelled-2
-slice-aggregate-put-labelled-2 c = refl
+slice-aggregate-put-labelled-2 c = search needs
 
 put-labelled-requires-2 : tie.Need-put-labelled-requires-2
-put-labelled-requires-2 c κs = tt
+put-labelled-requires-2 c κs = search needs
 
 put-requires : tie.Need-put-requires
-put-requires c κs = tt
+put-requires c κs = search needs
 
 same-length : tie.Need-same-length
-same-length c = omega arith
+same-length c = search needs
 
 returns : tie.Need-returns
+unfolding refusedText
 returns c =
     let w3 = c .before .before in
     let w2 = w3 .before .before .before .before in
     let w1 = w2 .before .before .before .before .before in
-    let start = w1 .before .before .before .before .before in
-    let h : length (now (start .args .text)) ≤ 9223372036854775808 = omega (arith, start .good .0 .1) in
-    rw (refused-parts (start .args .refusal)) (chain h (chain h (w1 .put-labelled .ensures) (w2 .put-labelled2 .ensures)) (w3 .put .ensures))
+    chain (omega arith) (w1 .put-labelled .ensures) (chain (omega arith) (w2 .put-labelled2 .ensures) (w3 .put .ensures))
 
 pub put-refusal-spec : {M : Type 1} → statement M
 put-refusal-spec =

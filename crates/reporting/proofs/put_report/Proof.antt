@@ -1,67 +1,111 @@
--- `reporting::put_report` meets its contract: line one, the groups, the cores, the outliers.
-use mathlib.Core.Path.{refl}
+-- `reporting::put_report` meets its contract: line one, the groups, the cores, the outliers. After k steps of the loop the lines of the first k groups are
+-- written. The measure is the count of groups left.
 use native.Mathlib.Omega.{arith}
-use Rattle.text.proofs.Writing.{chain}
-use Rattle.reporting.proofs.Lines.{text-parts}
-use Prim.Native.Nat.{_≤_}
+use Prim.Native.Nat.{_-_, _≤_}
+use mathlib.Core.Path.{ap, _∙_}
 use lib.ListN.{length}
+use lib.Seq.{length-sets}
 use denote.Ref.{now}
+use Rattle.text.specs.Text.{Wrote}
+use Rattle.text.proofs.Writing.{chain, nothing}
+use Rattle.reporting.specs.Held.{tableLines}
+use Rattle.reporting.proofs.Lines.{lines-more, text-written}
+use borrow.Author.Needs.{needs}
 use Rattle.reporting.proofs.put_report.Statement.{statement}
 use Rattle.reporting.proofs.put_report.Tie as tie
 
--- where the function starts, and after each of its four writes
-abbrev start : tie.After-put-head-arg → tie.Start
-start c = c .before .before .before .before .before .before .before
+abbrev Inv-loop : tie.InvT-loop
+Inv-loop text₀ starts members counts cores outliers groups next₀ k₀ t13 t14 text next k = (k ≤ groups) × Wrote text₀ next₀ (tableLines starts members counts k) text next
 
-abbrev head : tie.After-put-groups → tie.After-put-head
-head c = c .before .before .before .before
+abbrev μ-loop : tie.MeasureT-loop
+μ-loop text₀ starts members counts cores outliers groups next₀ k₀ t13 t14 text next k = groups - k
 
-abbrev groups : tie.After-put-set → tie.After-put-groups
-groups c = c .before .before .before .before .before
+-- where the function starts, when line one is written, and when the cores are
+abbrev start : tie.After-put-head Inv-loop μ-loop → tie.Start Inv-loop μ-loop
+start c = c .before .before .before .before .before .before .before .before
 
-abbrev cores : tie.After-put-set2 → tie.After-put-set
+abbrev head : tie.At-loop Inv-loop μ-loop → tie.After-put-head Inv-loop μ-loop
+head c = c .before .before .before
+
+abbrev cores : tie.After-put-set2 Inv-loop μ-loop → tie.After-put-set Inv-loop μ-loop
 cores c = c .before .before .before .before .before
 
-abbrev outliers : tie.After-slice-known5 → tie.After-put-set2
-outliers c = c .before .before
+put-head-requires : tie.Need-put-head-requires Inv-loop μ-loop
+put-head-requires c κs = search needs
 
-put-head-requires : tie.Need-put-head-requires
-put-head-requires c κs = tt
+loop-holds : tie.Need-loop-holds Inv-loop μ-loop
+unfolding tableLines
+loop-holds c = (omega arith, nothing _ _ _ (omega (arith, c .before .before .put-head .ensures .next)))
 
-put-groups-requires : tie.Need-put-groups-requires
-put-groups-requires c κs = (omega arith, omega arith)
+members-requires : tie.Need-members-requires Inv-loop μ-loop
+members-requires c κs = search needs
 
-slice-aggregate-put-set : tie.Need-slice-aggregate-put-set
-slice-aggregate-put-set c = refl
+tally-at-requires : tie.Need-tally-at-requires Inv-loop μ-loop
+tally-at-requires c κs = omega arith
 
-put-set-requires : tie.Need-put-set-requires
-put-set-requires c κs = tt
+put-group-requires : tie.Need-put-group-requires Inv-loop μ-loop
+put-group-requires c κs = search needs
 
-slice-aggregate-put-set-2 : tie.Need-slice-aggregate-put-set-2
-slice-aggregate-put-set-2 c = refl
+add-k : tie.Need-add-k Inv-loop μ-loop
+add-k c = search needs
 
-put-set-requires-2 : tie.Need-put-set-requires-2
-put-set-requires-2 c κs = tt
+loop-less : tie.Need-loop-less Inv-loop μ-loop
+loop-less c = search needs
 
-same-length : tie.Need-same-length
-same-length c = omega arith
+loop-again : tie.Need-loop-again Inv-loop μ-loop
+loop-again c =
+    let put = c .before .before in
+    let tallied = put .before in
+    let listed = tallied .before .before in
+    let at-loop = listed .before .before in
+    let w1 = head at-loop in
+    let s = start w1 in
+    let a = s .args in (
+      omega arith,
+      rw (lines-more (now (a .starts)) (now (a .members)) (now (a .counts)) (at-loop .loop .k))
+          (chain (omega (arith, w1 .put-head .kept .0, s .good .0 .1)) (at-loop .loop .inv .1) (rw (tallied .tally-at .ensures, listed .members .ensures) at (put .put-group .ensures))),
+    )
 
-returns : tie.Need-returns
+slice-aggregate-put-set : tie.Need-slice-aggregate-put-set Inv-loop μ-loop
+slice-aggregate-put-set c = search needs
+
+put-set-requires : tie.Need-put-set-requires Inv-loop μ-loop
+put-set-requires c κs = search needs
+
+slice-aggregate-put-set-2 : tie.Need-slice-aggregate-put-set-2 Inv-loop μ-loop
+slice-aggregate-put-set-2 c = search needs
+
+put-set-requires-2 : tie.Need-put-set-requires-2 Inv-loop μ-loop
+put-set-requires-2 c κs = search needs
+
+returns : tie.Need-returns Inv-loop μ-loop
 returns c =
-    let w4 = outliers c in
+    let w4 = c .before .before in
     let w3 = cores w4 in
-    let w2 = groups w3 in
-    let w1 = head w2 in
-    let s = start (w1 .before) in
-    let h : length (now (s .args .text)) ≤ 9223372036854775808 = omega (arith, s .good .0 .1) in
-    rw text-parts (chain h (chain h (chain h (w1 .put-head .ensures) (w2 .put-groups .ensures)) (w3 .put-set .ensures)) (w4 .put-set2 .ensures))
+    let at-loop = w3 .before .before .before .before in
+    let w1 = head at-loop in
+    let s = start w1 in
+    let a = s .args in
+    text-written (a .head) (now (a .starts)) (now (a .members)) (now (a .counts)) (now (a .cores)) (now (a .outliers)) (omega (arith, s .good .0 .1)) (omega arith)
+    (w1 .put-head .ensures) (at-loop .loop .inv .1) (w3 .put-set .ensures) (w4 .put-set2 .ensures)
+
+same-length : tie.Need-same-length Inv-loop μ-loop
+same-length c = ap length (returns c .list) ∙ simp length-sets
 
 pub put-report-spec : {M : Type 1} → statement M
 put-report-spec =
     tie.close
     (tie.spec
+    Inv-loop
+    μ-loop
     put-head-requires
-    put-groups-requires
+    loop-holds
+    members-requires
+    tally-at-requires
+    put-group-requires
+    add-k
+    loop-less
+    loop-again
     slice-aggregate-put-set
     put-set-requires
     slice-aggregate-put-set-2

@@ -1,5 +1,4 @@
 -- `reporting::put_score` meets its contract: the two cases of a score.
-use mathlib.Core.Path.{refl}
 use native.Mathlib.Omega.{arith}
 use Rattle.text.proofs.Writing.{chain}
 use Rattle.reporting.specs.Report.{scoreText}
@@ -18,22 +17,22 @@ enum-known-score : tie.Need-enum-known-score
 enum-known-score c = search needs
 
 put-decimal-requires : tie.Need-put-decimal-requires
-put-decimal-requires c κs = tt
+put-decimal-requires c κs = search needs
 
 slice-aggregate-put-labelled : tie.Need-slice-aggregate-put-labelled
-slice-aggregate-put-labelled c = refl
+slice-aggregate-put-labelled c = search needs
 
 put-labelled-requires : tie.Need-put-labelled-requires
-put-labelled-requires c κs = tt
+put-labelled-requires c κs = search needs
 
 enum-told : tie.Need-enum-told
 enum-told c = search needs
 
 put-requires : tie.Need-put-requires
-put-requires c κs = tt
+put-requires c κs = search needs
 
 same-length : tie.Need-same-length
-same-length c = omega arith
+same-length c = search needs
 
 returns : tie.Need-returns
 unfolding scoreText
@@ -42,7 +41,7 @@ returns c =
     rw (w .before .before .before .score .given .1) (chain (omega arith) (w .put-decimal .ensures) (second c .put-labelled .ensures))
 
 same-length-2 : tie.Need-same-length-2
-same-length-2 c = omega arith
+same-length-2 c = search needs
 
 returns-2 : tie.Need-returns-2
 unfolding scoreText

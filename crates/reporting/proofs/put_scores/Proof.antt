@@ -1,44 +1,43 @@
 -- `reporting::put_scores` meets its contract: five writes, one after another.
-use mathlib.Core.Path.{refl}
 use Prim.Native.Nat.{_≤_}
 use lib.ListN.{length}
 use denote.Ref.{now}
 use native.Mathlib.Omega.{arith}
-use mathlib.Core.List.{append-assoc}
 use Rattle.text.proofs.Writing.{chain}
-use Rattle.reporting.specs.Held.{scoresPart}
+use Rattle.reporting.specs.Report.{scoresPart}
+use borrow.Author.Needs.{needs}
 use Rattle.reporting.proofs.put_scores.Statement.{statement}
 use Rattle.reporting.proofs.put_scores.Tie as tie
 
 scores-of-requires : tie.Need-scores-of-requires
-scores-of-requires c κs = tt
+scores-of-requires c κs = search needs
 
 slice-aggregate-put-labelled : tie.Need-slice-aggregate-put-labelled
-slice-aggregate-put-labelled c = refl
+slice-aggregate-put-labelled c = search needs
 
 put-labelled-requires : tie.Need-put-labelled-requires
-put-labelled-requires c κs = tt
+put-labelled-requires c κs = search needs
 
 slice-aggregate-put-all : tie.Need-slice-aggregate-put-all
-slice-aggregate-put-all c = refl
+slice-aggregate-put-all c = search needs
 
 put-all-requires : tie.Need-put-all-requires
-put-all-requires c κs = tt
+put-all-requires c κs = search needs
 
 put-score-requires : tie.Need-put-score-requires
-put-score-requires c κs = tt
+put-score-requires c κs = search needs
 
 slice-aggregate-put-all-2 : tie.Need-slice-aggregate-put-all-2
-slice-aggregate-put-all-2 c = refl
+slice-aggregate-put-all-2 c = search needs
 
 put-all-requires-2 : tie.Need-put-all-requires-2
-put-all-requires-2 c κs = tt
+put-all-requires-2 c κs = search needs
 
 put-score-requires-2 : tie.Need-put-score-requires-2
-put-score-requires-2 c κs = tt
+put-score-requires-2 c κs = search needs
 
 same-length : tie.Need-same-length
-same-length c = omega arith
+same-length c = search needs
 
 returns : tie.Need-returns
 unfolding scoresPart
@@ -50,10 +49,9 @@ returns c =
     let w1 = w2 .before .before .before .before .before in
     let scores = w1 .before .before .before in
     let start = scores .before .before in
-    let h : length (now (start .args .text)) ≤ 9223372036854775808 = omega (arith, start .good .0 .1) in
-    rw (← scores .scores-of .ensures) (simp append-assoc at
-    (chain h (chain h (chain h (chain h
-    (w1 .put-labelled .ensures) (w2 .put-all .ensures)) (w3 .put-score .ensures)) (w4 .put-all2 .ensures)) (w5 .put-score2 .ensures)))
+    let small : length (now (start .args .text)) ≤ 9223372036854775808 = omega (arith, start .good .0 .1) in
+    rw (← scores .scores-of .ensures) (chain small (w1 .put-labelled .ensures) (chain (omega arith) (w2 .put-all .ensures)
+    (chain (omega arith) (w3 .put-score .ensures) (chain (omega arith) (w4 .put-all2 .ensures) (w5 .put-score2 .ensures)))))
 
 pub put-scores-spec : {M : Type 1} → statement M
 put-scores-spec =

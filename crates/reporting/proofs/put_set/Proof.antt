@@ -1,22 +1,22 @@
 -- `reporting::put_set` meets its contract: the word, the members, byte 10.
 use native.Mathlib.Omega.{arith}
-use mathlib.Core.List.{append-assoc}
 use Rattle.text.proofs.Writing.{chain}
 use Rattle.reporting.specs.Report.{listLine}
+use borrow.Author.Needs.{needs}
 use Rattle.reporting.proofs.put_set.Statement.{statement}
 use Rattle.reporting.proofs.put_set.Tie as tie
 
 put-all-requires : tie.Need-put-all-requires
-put-all-requires c κs = tt
+put-all-requires c κs = search needs
 
 put-members-requires : tie.Need-put-members-requires
-put-members-requires c κs = tt
+put-members-requires c κs = search needs
 
 put-requires : tie.Need-put-requires
-put-requires c κs = tt
+put-requires c κs = search needs
 
 same-length : tie.Need-same-length
-same-length c = omega arith
+same-length c = search needs
 
 returns : tie.Need-returns
 unfolding listLine
@@ -24,7 +24,7 @@ returns c =
     let w3 = c .before .before in
     let w2 = w3 .before .before .before .before in
     let w1 = w2 .before .before .before .before in
-    simp append-assoc at (chain (omega arith) (chain (omega arith) (w1 .put-all .ensures) (w2 .put-members .ensures)) (w3 .put .ensures))
+    chain (omega arith) (w1 .put-all .ensures) (chain (omega arith) (w2 .put-members .ensures) (w3 .put .ensures))
 
 pub put-set-spec : {M : Type 1} → statement M
 put-set-spec =

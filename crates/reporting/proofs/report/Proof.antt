@@ -19,7 +19,7 @@ answered : (c : tie.After-open) → c .«open» .result ≡ openOf (now (start c
 answered c = open-same _ _ (c .«open» .ensures)
 
 open-requires : tie.Need-open-requires
-open-requires c κs = tt
+open-requires c κs = search needs
 
 enum-known-opened : tie.Need-enum-known-opened
 enum-known-opened c = search needs
@@ -28,7 +28,7 @@ enum-told : tie.Need-enum-told
 enum-told c = search needs
 
 refusal-of-requires : tie.Need-refusal-of-requires
-refusal-of-requires c κs = tt
+refusal-of-requires c κs = search needs
 
 returns : tie.Need-returns
 returns c =

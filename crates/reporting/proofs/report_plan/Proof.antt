@@ -1,15 +1,17 @@
--- `reporting::report_plan` meets its contract: the tables that its calls make are those of the image, and the text from them is the report's.
+-- `reporting::report_plan` meets its contract: the tables that its calls make are those of the image, and the text from them is the report's. The position
+-- after the measuring run is the text's length, so that it fits exactly when the test passes.
 use native.Mathlib.Omega.{arith}
-use Prim.Native.Nat.{ℕ}
-use mathlib.Core.Path.{refl, subst}
-use mathlib.Core.List.{List}
+use mathlib.Core.Path.{_≡_, refl}
 use denote.Ref.{now}
-use Rattle.reporting.specs.Held.{Filled}
+use Rattle.reporting.specs.Report.{reportText}
+use Rattle.reporting.specs.Held.{tableText}
 use Rattle.reporting.proofs.Whole.{groups-few, handsets-few, edges-fit, members-fit, ends-held, text-held}
+use Rattle.reporting.proofs.Answers.{filled-written, filled-refused}
+use borrow.Author.Needs.{needs}
 use Rattle.reporting.proofs.report_plan.Statement.{statement}
 use Rattle.reporting.proofs.report_plan.Tie as tie
 
--- where the function starts, when the edges are counted, the numbers below n marked, the members taken out, and the text written
+-- where the function starts, when the edges are counted, the numbers below n marked, the members taken out, and the text measured
 abbrev start : tie.After-struct-known2 → tie.Start
 start c = c .before .before .before .before .before .before .before
 
@@ -25,8 +27,8 @@ marked c = c .before .before
 abbrev left : tie.After-outliers5 → tie.After-unmark-all
 left c = c .before .before .before .before
 
-abbrev wrote : tie.After-slice-known2 → tie.After-write-report
-wrote c = c .before .before
+abbrev measured : tie.After-outliers6 → tie.After-put-report
+measured c = c .before .before .before .before .before
 
 -- the start, from each of those
 abbrev marking-start : tie.After-struct-known3 → tie.Start
@@ -35,81 +37,103 @@ marking-start c = start (counting (counted c .before))
 abbrev leaving-start : tie.After-outliers3 → tie.Start
 leaving-start c = marking-start (marked c .before)
 
-abbrev writing-start : tie.After-outliers5 → tie.Start
-writing-start c = leaving-start (left c .before .before)
+abbrev measuring-start : tie.After-outliers5 → tie.Start
+measuring-start c = leaving-start (left c .before .before)
 
 cast-a : tie.Need-cast-a
-cast-a c = omega arith
+cast-a c = search needs
 
 cast-m : tie.Need-cast-m
-cast-m c = omega arith
+cast-m c = search needs
 
 mul-b : tie.Need-mul-b
-mul-b c = omega arith
+mul-b c = search needs
 
 add-b : tie.Need-add-b
-add-b c = omega arith
+add-b c = search needs
 
 sub-count-groups : tie.Need-sub-count-groups
-sub-count-groups c = omega arith
+sub-count-groups c = search needs
 
 part-count-groups-start : tie.Need-part-count-groups-start
-part-count-groups-start c = omega arith
+part-count-groups-start c = search needs
 
 part-count-groups-end : tie.Need-part-count-groups-end
 part-count-groups-end c = edges-fit (start c .pre)
 
 slice-aggregate-count-groups : tie.Need-slice-aggregate-count-groups
-slice-aggregate-count-groups c = refl
+slice-aggregate-count-groups c = search needs
 
 count-groups-requires : tie.Need-count-groups-requires
 count-groups-requires c κs = let held = start (counting c) .pre in (groups-few held, (ends-held held, refl))
 
 slice-aggregate-mark-below : tie.Need-slice-aggregate-mark-below
-slice-aggregate-mark-below c = refl
+slice-aggregate-mark-below c = search needs
 
 cast-mark-below : tie.Need-cast-mark-below
-cast-mark-below c = omega arith
+cast-mark-below c = search needs
 
 mark-below-requires : tie.Need-mark-below-requires
 mark-below-requires c κs = (handsets-few (marking-start c .pre), refl)
 
 slice-aggregate-unmark-all : tie.Need-slice-aggregate-unmark-all
-slice-aggregate-unmark-all c = omega arith
+slice-aggregate-unmark-all c = search needs
 
 sub-unmark-all : tie.Need-sub-unmark-all
-sub-unmark-all c = omega arith
+sub-unmark-all c = search needs
 
 part-unmark-all-start : tie.Need-part-unmark-all-start
-part-unmark-all-start c = omega arith
+part-unmark-all-start c = search needs
 
 part-unmark-all-end : tie.Need-part-unmark-all-end
 part-unmark-all-end c = members-fit (leaving-start c .pre)
 
 unmark-all-requires : tie.Need-unmark-all-requires
-unmark-all-requires c κs = tt
+unmark-all-requires c κs = search needs
 
-slice-aggregate-write-report : tie.Need-slice-aggregate-write-report
-slice-aggregate-write-report c = omega arith
+slice-aggregate-put-report : tie.Need-slice-aggregate-put-report
+slice-aggregate-put-report c = search needs
 
-slice-aggregate-write-report-2 : tie.Need-slice-aggregate-write-report-2
-slice-aggregate-write-report-2 c = omega arith
+slice-aggregate-put-report-2 : tie.Need-slice-aggregate-put-report-2
+slice-aggregate-put-report-2 c = search needs
 
-write-report-requires : tie.Need-write-report-requires
-write-report-requires c κs = groups-few (writing-start c .pre)
+slice-aggregate-put-report-3 : tie.Need-slice-aggregate-put-report-3
+slice-aggregate-put-report-3 c = search needs
+
+put-report-requires : tie.Need-put-report-requires
+put-report-requires c κs = groups-few (measuring-start c .pre)
+
+slice-aggregate-put-report-4 : tie.Need-slice-aggregate-put-report-4
+slice-aggregate-put-report-4 c = search needs
+
+slice-aggregate-put-report-5 : tie.Need-slice-aggregate-put-report-5
+slice-aggregate-put-report-5 c = search needs
+
+put-report-requires-2 : tie.Need-put-report-requires-2
+put-report-requires-2 c κs = groups-few (measuring-start (measured c .before) .pre)
 
 same-length : tie.Need-same-length
 same-length c = omega arith
 
+-- the text from the tables is the report's
+text-is-report : (c : tie.After-put-report) → (let l = left (c .before) in let a = measuring-start (c .before) .args in
+    tableText (a .head) (now (a .starts)) (now (a .members)) (counted (marked (l .before .before) .before) .count-groups .last .1 .1 .1 .1 .1 .0) (now (a .cores)) (l .unmark-all .last .0)
+    ≡ reportText (now (a .image)))
+text-is-report c =
+    let l = left (c .before) in
+    let m = marked (l .before .before) in
+    text-held (measuring-start (c .before) .pre) _ _ _ (counted (m .before) .count-groups .ensures) (m .mark-below .ensures) (l .unmark-all .ensures)
+
 returns : tie.Need-returns
 returns c =
-    let w = wrote c in
-    let l = left (w .before) in
-    let m = marked (l .before .before) in
-    let s = writing-start (w .before) in
-    subst (λ (t : List ℕ). Filled t (now (s .args .text)) (w .write-report .result) (w .write-report .last .0))
-    (text-held (s .pre) _ _ _ (counted (m .before) .count-groups .ensures) (m .mark-below .ensures) (l .unmark-all .ensures))
-    (w .write-report .ensures)
+    let w = c .before .before in
+    let m = measured (w .before) in
+    filled-written (text-is-report m) (omega (arith, measuring-start (m .before) .good .0 .1)) (m .put-report .ensures) (omega arith) (w .put-report2 .ensures)
+
+returns-2 : tie.Need-returns-2
+returns-2 c =
+    let m = c .before .before in
+    filled-refused (text-is-report m) (omega (arith, measuring-start (m .before) .good .0 .1)) (m .put-report .ensures) (omega arith)
 
 pub report-plan-spec : {M : Type 1} → statement M
 report-plan-spec =
@@ -132,8 +156,13 @@ report-plan-spec =
     part-unmark-all-start
     part-unmark-all-end
     unmark-all-requires
-    slice-aggregate-write-report
-    slice-aggregate-write-report-2
-    write-report-requires
+    slice-aggregate-put-report
+    slice-aggregate-put-report-2
+    slice-aggregate-put-report-3
+    put-report-requires
+    slice-aggregate-put-report-4
+    slice-aggregate-put-report-5
+    put-report-requires-2
     same-length
-    returns)
+    returns
+    returns-2)

@@ -1,55 +1,46 @@
 -- `reporting::report_site` meets its contract: the plan of an accepted image fits the two tables, so that it is made, and the answer is the text's.
 use native.Mathlib.Omega.{arith}
-use mathlib.Core.Path.{refl}
 use denote.Ref.{now}
-use Rattle.image.specs.Image.{headerOf}
-use Rattle.image.proofs.Acceptance.{opened}
 use Rattle.reporting.proofs.Planning.{plan-held, plan-granted}
 use Rattle.reporting.proofs.Answers.{site-answer}
 use borrow.Author.Needs.{needs}
 use Rattle.reporting.proofs.report_site.Statement.{statement}
 use Rattle.reporting.proofs.report_site.Tie as tie
 
--- where the function starts, when the plan's answer is told, and when the report is written
+-- where the function starts, and when the plan is made
 abbrev start : tie.After-plan-and-cores → tie.Start
 start c = c .before .before .before .before .before
 
 abbrev planned : tie.After-cores → tie.After-plan-and-cores
 planned c = c .before .before .before
 
-abbrev made : tie.After-cores2 → tie.After-answer
-made c = c .before .before .before .before .before
-
-abbrev wrote : tie.After-slice-known2 → tie.After-report-plan
-wrote c = c .before .before
-
 slice-aggregate-plan-and-cores : tie.Need-slice-aggregate-plan-and-cores
-slice-aggregate-plan-and-cores c = refl
+slice-aggregate-plan-and-cores c = search needs
 
 slice-aggregate-plan-and-cores-2 : tie.Need-slice-aggregate-plan-and-cores-2
-slice-aggregate-plan-and-cores-2 c = refl
+slice-aggregate-plan-and-cores-2 c = search needs
 
 plan-and-cores-requires : tie.Need-plan-and-cores-requires
-plan-and-cores-requires c κs = tt
+plan-and-cores-requires c κs = search needs
 
 enum-known-answer : tie.Need-enum-known-answer
 enum-known-answer c = search needs
 
 slice-aggregate-report-plan : tie.Need-slice-aggregate-report-plan
-slice-aggregate-report-plan c = omega arith
+slice-aggregate-report-plan c = search needs
 
 slice-aggregate-report-plan-2 : tie.Need-slice-aggregate-report-plan-2
-slice-aggregate-report-plan-2 c = omega arith
+slice-aggregate-report-plan-2 c = search needs
 
 slice-aggregate-report-plan-3 : tie.Need-slice-aggregate-report-plan-3
-slice-aggregate-report-plan-3 c = omega arith
+slice-aggregate-report-plan-3 c = search needs
 
 report-plan-requires : tie.Need-report-plan-requires
 report-plan-requires c κs =
-    let told = made c .answer .given in
-    let p = planned (made c .before .before) in
+    let told = c .before .before .before .before .before in
+    let p = planned (told .before .before) in
     let s = start p in
-    plan-held (now (s .args .image)) (s .pre .0) (s .args .h) (told .0 .0) _ _ _ _ (s .pre .1) (told .1)
+    plan-held (now (s .args .image)) (s .pre .0) (s .args .h) (told .answer .given .0 .0) _ _ _ _ (s .pre .1) (told .answer .given .1)
     (p .plan-and-cores .ensures .0) (p .plan-and-cores .ensures .1)
 
 enum-known-answer-2 : tie.Need-enum-known-answer-2
@@ -59,9 +50,7 @@ same-length : tie.Need-same-length
 same-length c = omega arith
 
 returns : tie.Need-returns
-returns c =
-    let s = start (planned (made (wrote c .before) .before .before)) in
-    site-answer (headerOf (now (s .args .image))) (opened (now (s .args .image)) (s .pre .0)) (wrote c .report-plan .ensures)
+returns c = let w = c .before .before in site-answer (report-plan-requires (w .before) (w .report-plan .lifetimes) .accepted) (w .report-plan .ensures)
 
 returns-2 : tie.Need-returns-2
 returns-2 c =

@@ -1,20 +1,20 @@
 -- `reporting::tally_at` meets its contract: the pairs of the list, and the two places of the table.
-use native.Mathlib.Omega.{arith}
 use Rattle.reporting.specs.Held.{groupTally}
+use borrow.Author.Needs.{needs}
 use Rattle.reporting.proofs.tally_at.Statement.{statement}
 use Rattle.reporting.proofs.tally_at.Tie as tie
 
 pairs-of-requires : tie.Need-pairs-of-requires
-pairs-of-requires c κs = tt
+pairs-of-requires c κs = search needs
 
 at-or-zero-requires : tie.Need-at-or-zero-requires
-at-or-zero-requires c κs = tt
+at-or-zero-requires c κs = search needs
 
 add-at-or-zero : tie.Need-add-at-or-zero
-add-at-or-zero c = omega arith
+add-at-or-zero c = search needs
 
 at-or-zero-requires-2 : tie.Need-at-or-zero-requires-2
-at-or-zero-requires-2 c κs = tt
+at-or-zero-requires-2 c κs = search needs
 
 returns : tie.Need-returns
 unfolding groupTally

@@ -10,6 +10,7 @@ use Rattle.sets.specs.Bits.{bitAt}
 use Rattle.sets.proofs.Bits.{length-withoutBit}
 use Rattle.reporting.specs.Held.{Without}
 use Rattle.reporting.proofs.Marking.{without-start, without-more}
+use borrow.Author.Needs.{needs}
 use Rattle.reporting.proofs.unmark_all.Statement.{statement}
 use Rattle.reporting.proofs.unmark_all.Tie as tie
 
@@ -19,43 +20,41 @@ Inv-loop set₀ table i₀ set i = (i ≤ length table) × Without set₀ (take 
 abbrev μ-loop : tie.MeasureT-loop
 μ-loop set₀ table i₀ set i = length table - i
 
--- where the function starts, and the loop before a number is looked at and after it is taken out
+-- where the function starts, and the loop before a number is looked at
 abbrev start : tie.At-loop Inv-loop μ-loop → tie.Start Inv-loop μ-loop
 start c = c .before .before .before
 
 abbrev looked : tie.After-shared-slice-known2 Inv-loop μ-loop → tie.At-loop Inv-loop μ-loop
 looked c = c .before .before .before
 
-abbrev marked : tie.After-slice-known2 Inv-loop μ-loop → tie.After-unmark Inv-loop μ-loop
-marked c = c .before .before
-
 loop-holds : tie.Need-loop-holds Inv-loop μ-loop
 loop-holds c = (omega arith, record { size = refl; bits = without-start (now (c .before .before .args .set)) })
 
 mul-unmark : tie.Need-mul-unmark Inv-loop μ-loop
-mul-unmark c = omega arith
+mul-unmark c = search needs
 
 shared-slice-read-unmark : tie.Need-shared-slice-read-unmark Inv-loop μ-loop
-shared-slice-read-unmark c = omega arith
+shared-slice-read-unmark c = search needs
 
 cast-unmark : tie.Need-cast-unmark Inv-loop μ-loop
 cast-unmark c = omega (arith, c .shared-slice-known2 .given (looked c .loop .i))
 
 unmark-requires : tie.Need-unmark-requires Inv-loop μ-loop
-unmark-requires c κs = tt
+unmark-requires c κs = search needs
 
 add-i : tie.Need-add-i Inv-loop μ-loop
-add-i c = omega arith
+add-i c = search needs
 
 loop-less : tie.Need-loop-less Inv-loop μ-loop
-loop-less c = omega arith
+loop-less c = search needs
 
 loop-again : tie.Need-loop-again Inv-loop μ-loop
 loop-again c =
-    let at-loop = looked (marked c .before) in
+    let marked = c .before .before in
+    let at-loop = looked (marked .before) in
     let l = at-loop .loop in
     let a = start at-loop .args in
-    let e = marked c .unmark .ensures in (
+    let e = marked .unmark .ensures in (
       omega arith,
       record {
         size = ap length e ∙ length-withoutBit (l .set) _ ∙ l .inv .1 .size;

@@ -18,63 +18,57 @@ Inv-loop list table₀ i₀ table i = (i ≤ length list) × (length table ≡ 5
 abbrev μ-loop : tie.MeasureT-loop
 μ-loop list table₀ i₀ table i = length list - i
 
--- the places that the answers speak of: the start, and the turn of an entry that is read
-abbrev start : tie.At-loop Inv-loop μ-loop → tie.Start Inv-loop μ-loop
-start c = c .before .before .before
+-- the turn of an entry that is read, and the list
+abbrev turn : tie.After-slice-known Inv-loop μ-loop → tie.In-loop Inv-loop μ-loop
+turn c = c .before .before
 
-abbrev turn : tie.After-wide Inv-loop μ-loop → tie.At-loop Inv-loop μ-loop
-turn c = c .before .before .before
-
-abbrev list-of : tie.At-loop Inv-loop μ-loop → List ℕ
-list-of c = start c .args .list .now
+abbrev list-of : tie.In-loop Inv-loop μ-loop → List ℕ
+list-of c = now (c .before .before .args .list)
 
 -- the entry is a place of the table
-entry : (c : tie.After-wide Inv-loop μ-loop) → c .wide .result < 512
-entry c = let l = turn c in omega (arith, c .wide .ensures, start l .pre .0 .low (l .loop .i) (omega arith))
+entry : (c : tie.In-loop Inv-loop μ-loop) → getD (list-of c) (c .before .loop .i) 0 < 512
+entry c = c .before .before .pre .0 .low (c .before .loop .i) (omega arith)
 
 loop-holds : tie.Need-loop-holds Inv-loop μ-loop
-loop-holds c = let p = c .before .before .pre .1 in (omega arith, p .size, λ v. p .zeros v ∙ sym (count-none _))
+loop-holds c = let p = c .pre .1 in (omega arith, p .size, λ v. p .zeros v ∙ sym (count-none _))
 
-mul-wide : tie.Need-mul-wide Inv-loop μ-loop
-mul-wide c = search needs
+mul-v : tie.Need-mul-v Inv-loop μ-loop
+mul-v c = search needs
 
-shared-slice-read-wide : tie.Need-shared-slice-read-wide Inv-loop μ-loop
-shared-slice-read-wide c = omega arith
+shared-slice-read-v : tie.Need-shared-slice-read-v Inv-loop μ-loop
+shared-slice-read-v c = search needs
 
-wide-requires : tie.Need-wide-requires Inv-loop μ-loop
-wide-requires c κs = tt
+cast-v : tie.Need-cast-v Inv-loop μ-loop
+cast-v c = omega (arith, entry (c .before))
 
 mul-table : tie.Need-mul-table Inv-loop μ-loop
-mul-table c = omega (arith, entry c)
+mul-table c = omega (arith, entry (c .before))
 
 slice-read-table : tie.Need-slice-read-table Inv-loop μ-loop
-slice-read-table c = omega (arith, entry (c .before))
+slice-read-table c = omega (arith, entry (turn c))
 
 add-table : tie.Need-add-table Inv-loop μ-loop
 add-table c =
-    let v = c .before .wide .result in
-    let l = turn (c .before) in
-    omega (arith, l .loop .inv .2 v, count-le (l .loop .i) (λ j. eqb v (getD (list-of l) j 0)), start l .pre .0 .short)
+    let l = turn c .before in
+    let v = getD (list-of (turn c)) (l .loop .i) 0 in
+    omega (arith, l .loop .inv .2 v, count-le (l .loop .i) (λ j. eqb v (getD (list-of (turn c)) j 0)), l .before .pre .0 .short)
 
 mul-table-2 : tie.Need-mul-table-2 Inv-loop μ-loop
-mul-table-2 c = omega (arith, entry (c .before))
+mul-table-2 c = omega (arith, entry (turn c))
 
 slice-write-table : tie.Need-slice-write-table Inv-loop μ-loop
-slice-write-table c = omega (arith, entry (c .before))
+slice-write-table c = omega (arith, entry (turn c))
 
 add-i : tie.Need-add-i Inv-loop μ-loop
-add-i c = omega arith
+add-i c = search needs
 
 loop-less : tie.Need-loop-less Inv-loop μ-loop
-loop-less c = omega arith
+loop-less c = search needs
 
 loop-again : tie.Need-loop-again Inv-loop μ-loop
 loop-again c =
-    let t = turn (c .before) in
-    let l = t .loop in
-    let e = c .before .wide .ensures in
-    let at : getD (list-of t) (l .i) 0 < length (l .table) = omega (arith, e, l .inv .1, entry (c .before)) in
-    (omega arith, length-set (l .table) _ _ ∙ l .inv .1, λ v. rw e (counted-more (list-of t) (l .table) (l .i) at (l .inv .2) v))
+    let l = turn c .before .loop in
+    (omega arith, length-set (l .table) _ _ ∙ l .inv .1, counted-more (list-of (turn c)) (l .table) (l .i) (omega (arith, l .inv .1, entry (turn c))) (l .inv .2))
 
 same-length : tie.Need-same-length Inv-loop μ-loop
 same-length c = omega arith
@@ -89,9 +83,9 @@ count-entries-spec =
     Inv-loop
     μ-loop
     loop-holds
-    mul-wide
-    shared-slice-read-wide
-    wide-requires
+    mul-v
+    shared-slice-read-v
+    cast-v
     mul-table
     slice-read-table
     add-table

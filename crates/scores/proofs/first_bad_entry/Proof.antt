@@ -21,20 +21,20 @@ abbrev μ-loop : tie.MeasureT-loop
 loop-holds : tie.Need-loop-holds Inv-loop μ-loop
 loop-holds c = (omega arith, scan-none _)
 
-mul-is-bad : tie.Need-mul-is-bad Inv-loop μ-loop
-mul-is-bad c = search needs
+mul-is-bad-entry : tie.Need-mul-is-bad-entry Inv-loop μ-loop
+mul-is-bad-entry c = search needs
 
-shared-slice-read-is-bad : tie.Need-shared-slice-read-is-bad Inv-loop μ-loop
-shared-slice-read-is-bad c = omega arith
+shared-slice-read-is-bad-entry : tie.Need-shared-slice-read-is-bad-entry Inv-loop μ-loop
+shared-slice-read-is-bad-entry c = omega arith
 
-is-bad-requires : tie.Need-is-bad-requires Inv-loop μ-loop
-is-bad-requires c κs = tt
+is-bad-entry-requires : tie.Need-is-bad-entry-requires Inv-loop μ-loop
+is-bad-entry-requires c κs = tt
 
 returns : tie.Need-returns Inv-loop μ-loop
 unfolding badEntry
 returns c =
     let l = c .before .before .before .before .loop in
-    scan-found _ _ (l .i) (omega arith) (l .inv .1) (sym (c .before .is-bad .ensures) ∙ c .if1 .taken)
+    scan-found _ _ (l .i) (omega arith) (l .inv .1) (sym (c .before .is-bad-entry .ensures) ∙ c .if1 .taken)
 
 add-i : tie.Need-add-i Inv-loop μ-loop
 add-i c = omega arith
@@ -46,7 +46,7 @@ loop-again : tie.Need-loop-again Inv-loop μ-loop
 unfolding badEntry
 loop-again c =
     let l = c .before .before .before .before .loop in
-    (omega arith, scan-more _ (l .i) (l .inv .1) (sym (c .before .is-bad .ensures) ∙ c .if1 .left))
+    (omega arith, scan-more _ (l .i) (l .inv .1) (sym (c .before .is-bad-entry .ensures) ∙ c .if1 .left))
 
 returns-2 : tie.Need-returns-2 Inv-loop μ-loop
 returns-2 c = let l = c .before .loop in scan-ended _ _ (l .i) (omega arith) (l .inv .1)
@@ -58,9 +58,9 @@ first-bad-entry-spec =
     Inv-loop
     μ-loop
     loop-holds
-    mul-is-bad
-    shared-slice-read-is-bad
-    is-bad-requires
+    mul-is-bad-entry
+    shared-slice-read-is-bad-entry
+    is-bad-entry-requires
     returns
     add-i
     loop-less

@@ -1,11 +1,9 @@
 -- `scores::tally_listed` meets its contract: the table holds the list's multiplicities, and the counts by it are the tally.
 use Prim.Native.Nat.{ℕ}
-use mathlib.Core.Path.{ap, ap₂, _∙_}
 use mathlib.Core.List.{List}
 use lib.Seq.{take-all}
 use denote.Ref.{now}
-use Rattle.community.specs.Scores.{everyEdge, pairs}
-use Rattle.scores.specs.declared.EdgeCounts.{EdgeCounts}
+use Rattle.community.specs.Scores.{everyEdge}
 use Rattle.scores.proofs.Entries.{blank, table-le, table-tally}
 use borrow.Author.Needs.{needs}
 use Rattle.scores.proofs.tally_listed.Statement.{statement}
@@ -31,26 +29,24 @@ slice-aggregate-count-entries c = search needs
 count-entries-requires : tie.Need-count-entries-requires
 count-entries-requires c κs = (start c .pre .2, blank)
 
-slice-aggregate-count-edges : tie.Need-slice-aggregate-count-edges
-slice-aggregate-count-edges c = search needs
-
-count-edges-requires : tie.Need-count-edges-requires
-count-edges-requires c κs =
-    let e = entries c in
-    let p = start (e .before) .pre in
-    (p .0, p .1, table-le (list-of e) (table-of e) (p .2) (e .count-entries .ensures))
+slice-aggregate-tally-edges : tie.Need-slice-aggregate-tally-edges
+slice-aggregate-tally-edges c = search needs
 
 pairs-of-requires : tie.Need-pairs-of-requires
 pairs-of-requires c κs = search needs
+
+tally-edges-requires : tie.Need-tally-edges-requires
+tally-edges-requires c κs =
+    let e = entries (c .before) in
+    let p = start (e .before) .pre in
+    (p .0, p .1, table-le (list-of e) (table-of e) (p .2) (e .count-entries .ensures))
 
 returns : tie.Need-returns
 returns c =
     let e = entries (c .before .before) in
     let s = start (e .before) in
-    ap₂ (λ (p : ℕ) (k : EdgeCounts). record { pairs = p; joined = k .joined; leaving = k .leaving })
-    (c .pairs-of .ensures ∙ ap pairs (take-all 512 (list-of e) (s .pre .2 .short)))
-    (c .before .count-edges .ensures)
-    ∙ table-tally (now (s .args .edges)) (s .args .m) everyEdge (list-of e) (table-of e) (e .count-entries .ensures)
+    rw (c .tally-edges .ensures, c .before .pairs-of .ensures, take-all 512 (list-of e) (s .pre .2 .short))
+    (table-tally (now (s .args .edges)) (s .args .m) everyEdge (list-of e) (table-of e) (e .count-entries .ensures))
 
 pub tally-listed-spec : {M : Type 1} → statement M
 tally-listed-spec =
@@ -58,7 +54,7 @@ tally-listed-spec =
     (tie.spec
     slice-aggregate-count-entries
     count-entries-requires
-    slice-aggregate-count-edges
-    count-edges-requires
+    slice-aggregate-tally-edges
     pairs-of-requires
+    tally-edges-requires
     returns)

@@ -10,7 +10,7 @@ use borrow.Fn.Kinds.{In}
 use borrow.Fn.PlainCycle.{Measures, is, falls, and}
 use Rattle.text.proofs.put_digits.Reads as put-digits
 use Rattle.text.proofs.put_digits.Kinds as put-digits-kinds
-use Rattle.text.proofs.+put_digits.Lts-put_digits as put-digits-lts
+use Rattle.text.proofs.+put_digits.Lts-put_digits as tie
 use Rattle.text.proofs.capped.Reads as capped-reads
 use Rattle.text.proofs.put.Reads as put-reads
 use Rattle.text.proofs.+put_digits.{statement}
@@ -27,174 +27,74 @@ abbrev put-digits-below : ℕ → In 1 put-digits-kinds.ps
 put-digits-below t =
     and 1 put-digits-kinds.ps (falls 1 put-digits-kinds.ps _<_ μ-put-digits t) put-digits.Pre
 
-put-digits-capped-requires : (t : ℕ) → put-digits-lts.Need-capped-requires (
-  capped-reads.Asked,
-  capped-reads.Learnt,
-  put-reads.Asked,
-  put-reads.Learnt,
-  put-digits-below t,
-  put-digits.Post,
-) (put-digits-at t) put-digits.Post
-put-digits-capped-requires t c κs = search needs
+-- what the three functions that it calls ask and give
+abbrev claims : ℕ → tie.Claims
+claims t = (capped-reads.Asked, capped-reads.Learnt, put-reads.Asked, put-reads.Learnt, put-digits-below t, put-digits.Post)
 
-put-digits-returns : (t : ℕ) → put-digits-lts.Need-returns (
-  capped-reads.Asked,
-  capped-reads.Learnt,
-  put-reads.Asked,
-  put-reads.Learnt,
-  put-digits-below t,
-  put-digits.Post,
-) (put-digits-at t) put-digits.Post
-unfolding digitsOf
-put-digits-returns t c = rw (c .before .if1 .taken) (record { list = refl; next = omega (arith, c .capped .ensures) })
+module _ (t : ℕ) where
+  capped-requires : tie.Need-capped-requires (claims t) (put-digits-at t) put-digits.Post
+  capped-requires c κs = search needs
 
-put-digits-add-put : (t : ℕ) → put-digits-lts.Need-add-put (
-  capped-reads.Asked,
-  capped-reads.Learnt,
-  put-reads.Asked,
-  put-reads.Learnt,
-  put-digits-below t,
-  put-digits.Post,
-) (put-digits-at t) put-digits.Post
-put-digits-add-put t c = search needs
+  returns : tie.Need-returns (claims t) (put-digits-at t) put-digits.Post
+  unfolding digitsOf
+  returns c = rw (c .before .if1 .taken) (record { list = refl; next = omega (arith, c .capped .ensures) })
 
-put-digits-cast-put : (t : ℕ) → put-digits-lts.Need-cast-put (
-  capped-reads.Asked,
-  capped-reads.Learnt,
-  put-reads.Asked,
-  put-reads.Learnt,
-  put-digits-below t,
-  put-digits.Post,
-) (put-digits-at t) put-digits.Post
-put-digits-cast-put t c = search needs
+  add-put : tie.Need-add-put (claims t) (put-digits-at t) put-digits.Post
+  add-put c = search needs
 
-put-digits-put-requires : (t : ℕ) → put-digits-lts.Need-put-requires (
-  capped-reads.Asked,
-  capped-reads.Learnt,
-  put-reads.Asked,
-  put-reads.Learnt,
-  put-digits-below t,
-  put-digits.Post,
-) (put-digits-at t) put-digits.Post
-put-digits-put-requires t c κs = search needs
+  cast-put : tie.Need-cast-put (claims t) (put-digits-at t) put-digits.Post
+  cast-put c = search needs
 
-put-digits-same-length : (t : ℕ) → put-digits-lts.Need-same-length (
-  capped-reads.Asked,
-  capped-reads.Learnt,
-  put-reads.Asked,
-  put-reads.Learnt,
-  put-digits-below t,
-  put-digits.Post,
-) (put-digits-at t) put-digits.Post
-put-digits-same-length t c = search needs
+  put-requires : tie.Need-put-requires (claims t) (put-digits-at t) put-digits.Post
+  put-requires c κs = search needs
 
-put-digits-returns-2 : (t : ℕ) → put-digits-lts.Need-returns-2 (
-  capped-reads.Asked,
-  capped-reads.Learnt,
-  put-reads.Asked,
-  put-reads.Learnt,
-  put-digits-below t,
-  put-digits.Post,
-) (put-digits-at t) put-digits.Post
-put-digits-returns-2 t c =
-    let a = c .before .before .before .before .before .before .before .args in
-    rw (digits-small (a .k) (a .n) (c .before .before .before .before .before .if1 .left) (omega arith)) (c .before .before .put .ensures)
+  same-length : tie.Need-same-length (claims t) (put-digits-at t) put-digits.Post
+  same-length c = search needs
 
-put-digits-sub-put-digits : (t : ℕ) → put-digits-lts.Need-sub-put-digits (
-  capped-reads.Asked,
-  capped-reads.Learnt,
-  put-reads.Asked,
-  put-reads.Learnt,
-  put-digits-below t,
-  put-digits.Post,
-) (put-digits-at t) put-digits.Post
-put-digits-sub-put-digits t c = search needs
+  returns-2 : tie.Need-returns-2 (claims t) (put-digits-at t) put-digits.Post
+  returns-2 c =
+      let a = c .before .before .before .before .before .before .before .args in
+      rw (digits-small (a .k) (a .n) (c .before .before .before .before .before .if1 .left) (omega arith)) (c .before .before .put .ensures)
 
-put-digits-put-digits-requires : (t : ℕ) → put-digits-lts.Need-put-digits-requires (
-  capped-reads.Asked,
-  capped-reads.Learnt,
-  put-reads.Asked,
-  put-reads.Learnt,
-  put-digits-below t,
-  put-digits.Post,
-) (put-digits-at t) put-digits.Post
-put-digits-put-digits-requires t c κs = search needs
+  sub-put-digits : tie.Need-sub-put-digits (claims t) (put-digits-at t) put-digits.Post
+  sub-put-digits c = search needs
 
-put-digits-add-put-2 : (t : ℕ) → put-digits-lts.Need-add-put-2 (
-  capped-reads.Asked,
-  capped-reads.Learnt,
-  put-reads.Asked,
-  put-reads.Learnt,
-  put-digits-below t,
-  put-digits.Post,
-) (put-digits-at t) put-digits.Post
-put-digits-add-put-2 t c = search needs
+  put-digits-requires : tie.Need-put-digits-requires (claims t) (put-digits-at t) put-digits.Post
+  put-digits-requires c κs = search needs
 
-put-digits-cast-put-2 : (t : ℕ) → put-digits-lts.Need-cast-put-2 (
-  capped-reads.Asked,
-  capped-reads.Learnt,
-  put-reads.Asked,
-  put-reads.Learnt,
-  put-digits-below t,
-  put-digits.Post,
-) (put-digits-at t) put-digits.Post
-put-digits-cast-put-2 t c = search needs
+  add-put-2 : tie.Need-add-put-2 (claims t) (put-digits-at t) put-digits.Post
+  add-put-2 c = search needs
 
-put-digits-put-requires-2 : (t : ℕ) → put-digits-lts.Need-put-requires-2 (
-  capped-reads.Asked,
-  capped-reads.Learnt,
-  put-reads.Asked,
-  put-reads.Learnt,
-  put-digits-below t,
-  put-digits.Post,
-) (put-digits-at t) put-digits.Post
-put-digits-put-requires-2 t c κs = search needs
+  cast-put-2 : tie.Need-cast-put-2 (claims t) (put-digits-at t) put-digits.Post
+  cast-put-2 c = search needs
 
-put-digits-same-length-2 : (t : ℕ) → put-digits-lts.Need-same-length-2 (
-  capped-reads.Asked,
-  capped-reads.Learnt,
-  put-reads.Asked,
-  put-reads.Learnt,
-  put-digits-below t,
-  put-digits.Post,
-) (put-digits-at t) put-digits.Post
-put-digits-same-length-2 t c = search needs
+  put-requires-2 : tie.Need-put-requires-2 (claims t) (put-digits-at t) put-digits.Post
+  put-requires-2 c κs = search needs
 
-put-digits-returns-3 : (t : ℕ) → put-digits-lts.Need-returns-3 (
-  capped-reads.Asked,
-  capped-reads.Learnt,
-  put-reads.Asked,
-  put-reads.Learnt,
-  put-digits-below t,
-  put-digits.Post,
-) (put-digits-at t) put-digits.Post
-put-digits-returns-3 t c =
-    let a = c .before .before .before .before .before .before .before .before .before .before .before .args in
-    rw (digits-large (a .k) (a .n) (c .before .before .before .before .before .before .before .before .before .if1 .left) (omega arith))
-    (chain (omega arith) (c .before .before .before .before .before .before .put-digits .ensures) (c .before .before .put2 .ensures))
+  same-length-2 : tie.Need-same-length-2 (claims t) (put-digits-at t) put-digits.Post
+  same-length-2 c = search needs
+
+  returns-3 : tie.Need-returns-3 (claims t) (put-digits-at t) put-digits.Post
+  returns-3 c =
+      let a = c .before .before .before .before .before .before .before .before .before .before .before .args in
+      rw (digits-large (a .k) (a .n) (c .before .before .before .before .before .before .before .before .before .if1 .left) (omega arith))
+      (chain (omega arith) (c .before .before .before .before .before .before .put-digits .ensures) (c .before .before .put2 .ensures))
 
 pub +put-digits-spec : {M : Type 1} → statement M
-+put-digits-spec = close μ-put-digits λ t. put-digits-lts.spec (
-  capped-reads.Asked,
-  capped-reads.Learnt,
-  put-reads.Asked,
-  put-reads.Learnt,
-  put-digits-below t,
-  put-digits.Post,
-)
++put-digits-spec = close μ-put-digits λ t. tie.spec (claims t)
     (put-digits-at t)
     put-digits.Post
-    (put-digits-capped-requires t)
-    (put-digits-returns t)
-    (put-digits-add-put t)
-    (put-digits-cast-put t)
-    (put-digits-put-requires t)
-    (put-digits-same-length t)
-    (put-digits-returns-2 t)
-    (put-digits-sub-put-digits t)
-    (put-digits-put-digits-requires t)
-    (put-digits-add-put-2 t)
-    (put-digits-cast-put-2 t)
-    (put-digits-put-requires-2 t)
-    (put-digits-same-length-2 t)
-    (put-digits-returns-3 t)
+    (capped-requires t)
+    (returns t)
+    (add-put t)
+    (cast-put t)
+    (put-requires t)
+    (same-length t)
+    (returns-2 t)
+    (sub-put-digits t)
+    (put-digits-requires t)
+    (add-put-2 t)
+    (cast-put-2 t)
+    (put-requires-2 t)
+    (same-length-2 t)
+    (returns-3 t)

@@ -17,6 +17,13 @@ Inv-loop text₀ at table i₀ next₀ text i next = (i ≤ length table) × Wro
 abbrev μ-loop : tie.MeasureT-loop
 μ-loop text₀ at table i₀ next₀ text i next = length table - i
 
+-- where the function starts, and the loop before a number is looked at
+abbrev start : tie.At-loop Inv-loop μ-loop → tie.Start Inv-loop μ-loop
+start c = c .before .before .before .before
+
+abbrev looked : tie.After-shared-slice-known2 Inv-loop μ-loop → tie.At-loop Inv-loop μ-loop
+looked c = c .before .before .before
+
 capped-requires : tie.Need-capped-requires Inv-loop μ-loop
 capped-requires c κs = search needs
 
@@ -24,14 +31,14 @@ loop-holds : tie.Need-loop-holds Inv-loop μ-loop
 unfolding numbers
 loop-holds c = (omega arith, nothing _ _ _ (c .capped .ensures))
 
-mul-wide : tie.Need-mul-wide Inv-loop μ-loop
-mul-wide c = search needs
+mul-put-number : tie.Need-mul-put-number Inv-loop μ-loop
+mul-put-number c = search needs
 
-shared-slice-read-wide : tie.Need-shared-slice-read-wide Inv-loop μ-loop
-shared-slice-read-wide c = search needs
+shared-slice-read-put-number : tie.Need-shared-slice-read-put-number Inv-loop μ-loop
+shared-slice-read-put-number c = search needs
 
-wide-requires : tie.Need-wide-requires Inv-loop μ-loop
-wide-requires c κs = search needs
+cast-put-number : tie.Need-cast-put-number Inv-loop μ-loop
+cast-put-number c = omega (arith, c .shared-slice-known2 .given (looked c .loop .i))
 
 put-number-requires : tie.Need-put-number-requires Inv-loop μ-loop
 put-number-requires c κs = search needs
@@ -44,18 +51,17 @@ loop-less c = search needs
 
 loop-again : tie.Need-loop-again Inv-loop μ-loop
 loop-again c =
-    let at-loop = c .before .before .before .before .before .before .before in
-    let table = now (at-loop .before .before .before .before .args .table) in (
+    let put = c .before .before in
+    let at-loop = looked (put .before) in (
       omega arith,
-      rw (numbers-one table (at-loop .loop .i) (omega arith))
-          (chain (omega arith) (at-loop .loop .inv .1) (rw (c .before .before .before .wide .ensures) at (c .before .before .put-number .ensures))),
+      rw (numbers-one (now (start at-loop .args .table)) (at-loop .loop .i) (omega arith)) (chain (omega arith) (at-loop .loop .inv .1) (put .put-number .ensures)),
     )
 
 same-length : tie.Need-same-length Inv-loop μ-loop
 same-length c = ap length (c .before .loop .inv .1 .list) ∙ simp length-sets
 
 returns : tie.Need-returns Inv-loop μ-loop
-returns c = rw (take-all (c .before .loop .i) (now (c .before .before .before .before .before .args .table)) (omega arith)) at (c .before .loop .inv .1)
+returns c = rw (take-all (c .before .loop .i) (now (start (c .before) .args .table)) (omega arith)) at (c .before .loop .inv .1)
 
 pub put-numbers-spec : {M : Type 1} → statement M
 put-numbers-spec =
@@ -65,9 +71,9 @@ put-numbers-spec =
     μ-loop
     capped-requires
     loop-holds
-    mul-wide
-    shared-slice-read-wide
-    wide-requires
+    mul-put-number
+    shared-slice-read-put-number
+    cast-put-number
     put-number-requires
     add-i
     loop-less

@@ -1,70 +1,72 @@
--- `reporting::counts::count_edge` meets its contract. After j steps the edge is counted for the groups of the first j words. The measure is the count of words
+-- `reporting::counts::count_edge` meets its contract. After j steps the edge is counted for the groups of the first j words. The measure is the count of groups
 -- left.
 use native.Mathlib.Omega.{arith}
 use Prim.Native.Nat.{ℕ, _+_, _*_, _-_, _≤_, _<_}
-use mathlib.Core.Path.{_≡_, sym, _∙_, subst}
+use mathlib.Core.Path.{sym, _∙_}
 use denote.Ref.{now}
 use lib.ListN.{getD}
 use Rattle.reporting.specs.Held.{EdgeCounted}
-use Rattle.reporting.proofs.Tallying.{raised-le, edge-none, edge-more, edge-room}
+use Rattle.reporting.proofs.Tallying.{raised-le, edge-none, edge-more, edge-done, edge-room}
+use borrow.Author.Needs.{needs}
 use Rattle.reporting.proofs.counts.count_edge.Statement.{statement}
 use Rattle.reporting.proofs.counts.count_edge.Tie as tie
 
 abbrev Inv-loop : tie.InvT-loop
-Inv-loop rows u v words counts₀ j₀ counts j = (j ≤ words) × EdgeCounted rows u v j counts₀ counts
+Inv-loop rows u v groups counts₀ j₀ counts j = (64 * j < groups + 64) × EdgeCounted rows u v (64 * j) counts₀ counts
 
 abbrev μ-loop : tie.MeasureT-loop
-μ-loop rows u v words counts₀ j₀ counts j = words - j
+μ-loop rows u v groups counts₀ j₀ counts j = groups - 64 * j
 
--- the loop, from where the tied pairs are counted, and that place from where the leaving edges are
+-- where the function starts; the loop, from where the tied pairs are counted, and that place from where the leaving edges are
+abbrev start : tie.At-loop Inv-loop μ-loop → tie.Start Inv-loop μ-loop
+start c = c .before .before .before
+
 abbrev turn : tie.After-add-bits-arg Inv-loop μ-loop → tie.At-loop Inv-loop μ-loop
 turn c = c .before .before .before .before
 
 abbrev joined : tie.After-add-bits-arg2 Inv-loop μ-loop → tie.After-add-bits Inv-loop μ-loop
 joined c = c .before .before .before
 
-abbrev left : tie.After-slice-known3 Inv-loop μ-loop → tie.After-add-bits2 Inv-loop μ-loop
-left c = c .before .before
-
 loop-holds : tie.Need-loop-holds Inv-loop μ-loop
 loop-holds c =
-    let start = c .before .before in
-    let a = start .args in
-    (omega arith, edge-none (now (a .rows)) (a .u) (a .v) (now (a .counts)) (start .pre .1 .1 .1 .1 .size))
+    let s = c .before .before in
+    (omega arith, edge-none (now (s .args .rows)) (s .args .u) (s .args .v) (now (s .args .counts)) (s .pre .1 .1 .1 .1 .size))
+
+mul-loop : tie.Need-mul-loop Inv-loop μ-loop
+mul-loop c = search needs
 
 mul-a : tie.Need-mul-a Inv-loop μ-loop
-mul-a c = omega arith
+mul-a c = search needs
 
 add-a : tie.Need-add-a Inv-loop μ-loop
-add-a c = omega arith
+add-a c = search needs
 
 mul-a-2 : tie.Need-mul-a-2 Inv-loop μ-loop
-mul-a-2 c = omega arith
+mul-a-2 c = search needs
 
 shared-slice-read-a : tie.Need-shared-slice-read-a Inv-loop μ-loop
-shared-slice-read-a c = omega arith
+shared-slice-read-a c = search needs
 
 mul-b : tie.Need-mul-b Inv-loop μ-loop
-mul-b c = omega arith
+mul-b c = search needs
 
 add-b : tie.Need-add-b Inv-loop μ-loop
-add-b c = omega arith
+add-b c = search needs
 
 mul-b-2 : tie.Need-mul-b-2 Inv-loop μ-loop
-mul-b-2 c = omega arith
+mul-b-2 c = search needs
 
 shared-slice-read-b : tie.Need-shared-slice-read-b Inv-loop μ-loop
-shared-slice-read-b c = omega arith
+shared-slice-read-b c = search needs
 
 mul-add-bits : tie.Need-mul-add-bits Inv-loop μ-loop
-mul-add-bits c = omega arith
+mul-add-bits c = search needs
 
 -- before a word is counted, no count is above 4,097
 low : (c : tie.At-loop Inv-loop μ-loop) (i : ℕ) → i < 1024 → getD (c .loop .counts) i 0 ≤ 4097
 low c =
-    let start = c .before .before .before in
-    let a = start .args in
-    edge-room (now (a .rows)) (a .u) (a .v) (c .loop .j) (now (a .counts)) (c .loop .counts) (start .pre .1 .1 .1 .1) (c .loop .inv .1)
+    let a = start c .args in
+    edge-room (now (a .rows)) (a .u) (a .v) (64 * c .loop .j) (now (a .counts)) (c .loop .counts) (start c .pre .1 .1 .1 .1) (c .loop .inv .1)
 
 add-bits-requires : tie.Need-add-bits-requires Inv-loop μ-loop
 add-bits-requires c κs =
@@ -72,10 +74,10 @@ add-bits-requires c κs =
     (omega (arith, at-loop .loop .inv .1 .size), (λ k h. omega (arith, low at-loop (64 * at-loop .loop .j + k) (omega arith))))
 
 mul-add-bits-2 : tie.Need-mul-add-bits-2 Inv-loop μ-loop
-mul-add-bits-2 c = omega arith
+mul-add-bits-2 c = search needs
 
 add-add-bits : tie.Need-add-add-bits Inv-loop μ-loop
-add-add-bits c = omega arith
+add-add-bits c = search needs
 
 add-bits-requires-2 : tie.Need-add-bits-requires-2 Inv-loop μ-loop
 add-bits-requires-2 c κs =
@@ -87,29 +89,30 @@ add-bits-requires-2 c κs =
     )
 
 add-j : tie.Need-add-j Inv-loop μ-loop
-add-j c = omega arith
+add-j c = search needs
 
 loop-less : tie.Need-loop-less Inv-loop μ-loop
-loop-less c = omega arith
+loop-less c = search needs
 
 loop-again : tie.Need-loop-again Inv-loop μ-loop
 loop-again c =
-    let t = joined (left c .before) in
+    let left = c .before .before in
+    let t = joined (left .before) in
     let at-loop = turn (t .before) in
-    let a = at-loop .before .before .before .args in (
+    let a = start at-loop .args in (
       omega arith,
       edge-more (now (a .rows)) (a .u) (a .v) (at-loop .loop .j) (now (a .counts)) (at-loop .loop .counts) _ _ (omega arith) (at-loop .loop .inv .1)
-          (t .add-bits .ensures) (left c .add-bits2 .ensures),
+          (t .add-bits .ensures) (left .add-bits2 .ensures),
     )
 
 same-length : tie.Need-same-length Inv-loop μ-loop
-same-length c = c .before .loop .inv .1 .size ∙ sym (c .before .before .before .before .pre .1 .1 .1 .1 .size)
+same-length c = c .before .loop .inv .1 .size ∙ sym (start (c .before) .pre .1 .1 .1 .1 .size)
 
 returns : tie.Need-returns Inv-loop μ-loop
 returns c =
-    let a = c .before .before .before .before .args in
-    let e : c .before .loop .j ≡ a .words = omega arith in
-    subst (λ (n : ℕ). EdgeCounted (now (a .rows)) (a .u) (a .v) n (now (a .counts)) (c .before .loop .counts)) e (c .before .loop .inv .1)
+    let a = start (c .before) .args in
+    let l = c .before .loop in
+    edge-done (now (a .rows)) (a .u) (a .v) (l .j) (a .groups) (now (a .counts)) (l .counts) (omega arith) (l .inv .0) (l .inv .1)
 
 pub count-edge-spec : {M : Type 1} → statement M
 count-edge-spec =
@@ -118,6 +121,7 @@ count-edge-spec =
     Inv-loop
     μ-loop
     loop-holds
+    mul-loop
     mul-a
     add-a
     mul-a-2

@@ -10,14 +10,15 @@ use Rattle.fields.specs.declared.Ends.{Ends}
 use Rattle.image.specs.Image.{endA, endB}
 use Rattle.reporting.specs.Held.{Edges, EdgesCounted}
 use Rattle.reporting.proofs.Tallying.{ends-at, edges-none, edges-more, edges-room}
+use borrow.Author.Needs.{needs}
 use Rattle.reporting.proofs.counts.count_edges.Statement.{statement}
 use Rattle.reporting.proofs.counts.count_edges.Tie as tie
 
 abbrev Inv-loop : tie.InvT-loop
-Inv-loop rows edges m words counts₀ k₀ counts k = (k ≤ m) × EdgesCounted rows edges k words counts
+Inv-loop rows edges m groups counts₀ k₀ counts k = (k ≤ m) × EdgesCounted rows edges k groups counts
 
 abbrev μ-loop : tie.MeasureT-loop
-μ-loop rows edges m words counts₀ k₀ counts k = m - k
+μ-loop rows edges m groups counts₀ k₀ counts k = m - k
 
 -- where the function starts, a turn of the loop when its edge is read, and when the edge is counted
 abbrev start : tie.At-loop Inv-loop μ-loop → tie.Start Inv-loop μ-loop
@@ -39,7 +40,7 @@ inside c = (omega (arith, given-edges (c .before) .few), omega (arith, given-edg
 loop-holds : tie.Need-loop-holds Inv-loop μ-loop
 loop-holds c =
     let s = c .before .before .before in
-    (omega arith, rw (s .pre .1 .1 .1) (edges-none (now (s .args .rows)) (now (s .args .edges)) (s .args .words)))
+    (omega arith, rw (s .pre .1 .1 .1) (edges-none (now (s .args .rows)) (now (s .args .edges)) (s .args .groups)))
 
 mul-at : tie.Need-mul-at Inv-loop μ-loop
 mul-at c = omega (arith, inside c .0)
@@ -48,16 +49,16 @@ add-past : tie.Need-add-past Inv-loop μ-loop
 add-past c = omega (arith, inside c .0)
 
 sub-read-ends : tie.Need-sub-read-ends Inv-loop μ-loop
-sub-read-ends c = omega arith
+sub-read-ends c = search needs
 
 part-read-ends-start : tie.Need-part-read-ends-start Inv-loop μ-loop
-part-read-ends-start c = omega arith
+part-read-ends-start c = search needs
 
 part-read-ends-end : tie.Need-part-read-ends-end Inv-loop μ-loop
 part-read-ends-end c = inside c .1
 
 read-ends-requires : tie.Need-read-ends-requires Inv-loop μ-loop
-read-ends-requires c κs = tt
+read-ends-requires c κs = search needs
 
 -- the two ends of edge k
 ends : (c : tie.After-read-ends Inv-loop μ-loop) → (let at-loop = turn c .before in let edges = now (start at-loop .args .edges) in
@@ -79,7 +80,7 @@ count-edge-requires c κs =
         omega (arith, e .0, low .0),
         (
           omega (arith, e .1, low .1),
-          (s .pre .1 .0, edges-room (now (s .args .rows)) (now (s .args .edges)) (l .k) (s .args .words) (l .counts) (omega (arith, given-edges at-loop .few)) (l .inv .1)),
+          (s .pre .1 .0, edges-room (now (s .args .rows)) (now (s .args .edges)) (l .k) (s .args .groups) (l .counts) (omega (arith, given-edges at-loop .few)) (l .inv .1)),
         ),
       ),
     )
@@ -88,7 +89,7 @@ add-k : tie.Need-add-k Inv-loop μ-loop
 add-k c = omega (arith, inside (turn (counted c .before .before)) .0)
 
 loop-less : tie.Need-loop-less Inv-loop μ-loop
-loop-less c = omega arith
+loop-less c = search needs
 
 loop-again : tie.Need-loop-again Inv-loop μ-loop
 loop-again c =
@@ -97,7 +98,7 @@ loop-again c =
     let l = at-loop .loop in
     let a = start at-loop .args in
     let e = ends read in
-    (omega arith, edges-more (now (a .rows)) (now (a .edges)) (l .k) (a .words) (l .counts) _ (l .inv .1) (e .0) (e .1) (counted c .count-edge .ensures))
+    (omega arith, edges-more (now (a .rows)) (now (a .edges)) (l .k) (a .groups) (l .counts) _ (l .inv .1) (e .0) (e .1) (counted c .count-edge .ensures))
 
 same-length : tie.Need-same-length Inv-loop μ-loop
 same-length c = c .before .loop .inv .1 .size ∙ sym (ap length (start (c .before) .pre .1 .1 .1) ∙ length-replicate {A = ℕ} 1024 0)
@@ -106,7 +107,7 @@ returns : tie.Need-returns Inv-loop μ-loop
 returns c =
     let a = start (c .before) .args in
     let e : c .before .loop .k ≡ a .m = omega arith in
-    subst (λ (n : ℕ). EdgesCounted (now (a .rows)) (now (a .edges)) n (a .words) (c .before .loop .counts)) e (c .before .loop .inv .1)
+    subst (λ (n : ℕ). EdgesCounted (now (a .rows)) (now (a .edges)) n (a .groups) (c .before .loop .counts)) e (c .before .loop .inv .1)
 
 pub count-edges-spec : {M : Type 1} → statement M
 count-edges-spec =

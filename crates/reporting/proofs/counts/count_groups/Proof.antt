@@ -3,26 +3,24 @@ use native.Mathlib.Omega.{arith}
 use mathlib.Core.Path.{refl}
 use denote.Ref.{now}
 use Rattle.reporting.proofs.Tallying.{groups-counted}
+use borrow.Author.Needs.{needs}
 use Rattle.reporting.proofs.counts.count_groups.Statement.{statement}
 use Rattle.reporting.proofs.counts.count_groups.Tie as tie
 
 slice-aggregate-mark-groups : tie.Need-slice-aggregate-mark-groups
-slice-aggregate-mark-groups c = refl
+slice-aggregate-mark-groups c = search needs
 
 mark-groups-requires : tie.Need-mark-groups-requires
 mark-groups-requires c κs = (c .before .before .before .before .before .pre .0, refl)
 
 slice-aggregate-count-edges : tie.Need-slice-aggregate-count-edges
-slice-aggregate-count-edges c = omega arith
-
-add-count-edges : tie.Need-add-count-edges
-add-count-edges c = omega arith
+slice-aggregate-count-edges c = search needs
 
 count-edges-requires : tie.Need-count-edges-requires
 count-edges-requires c κs =
     let marked = c .before .before .before in
     let pre = marked .before .before .before .before .before .before .pre in
-    (marked .mark-groups .kept .0, (omega arith, (pre .1 .0, pre .1 .1)))
+    (marked .mark-groups .kept .0, pre)
 
 same-length : tie.Need-same-length
 same-length c = omega arith
@@ -32,7 +30,7 @@ returns c =
     let marked = c .before .before .before .before .before .before in
     let start = marked .before .before .before .before .before .before in
     let a = start .args in
-    groups-counted _ (now (a .edges)) (now (a .starts)) (now (a .members)) (a .m) _ (a .groups) (start .pre .0) (omega arith)
+    groups-counted _ (now (a .edges)) (now (a .starts)) (now (a .members)) (a .m) (a .groups) (start .pre .0)
     (marked .mark-groups .ensures) (start .pre .1 .0) _ (c .before .before .count-edges .ensures)
 
 pub count-groups-spec : {M : Type 1} → statement M
@@ -42,7 +40,6 @@ count-groups-spec =
     slice-aggregate-mark-groups
     mark-groups-requires
     slice-aggregate-count-edges
-    add-count-edges
     count-edges-requires
     same-length
     returns)

@@ -10,6 +10,7 @@ use Rattle.community.specs.Network.{contains}
 use Rattle.sets.specs.Rows.{Table}
 use Rattle.lookup.specs.Lookup.{membersOf}
 use Rattle.reporting.proofs.Tallying.{rows-none, rows-more}
+use borrow.Author.Needs.{needs}
 use Rattle.reporting.proofs.counts.mark_groups.Statement.{statement}
 use Rattle.reporting.proofs.counts.mark_groups.Tie as tie
 
@@ -26,16 +27,16 @@ loop-holds c =
     (omega arith, ap length (start .pre .1) ∙ length-replicate {A = ℕ} 4096 0, rw (start .pre .1) (rows-none (λ v j. contains v (membersOf (now (a .starts)) (now (a .members)) j))))
 
 members-requires : tie.Need-members-requires Inv-loop μ-loop
-members-requires c κs = tt
+members-requires c κs = search needs
 
 mark-members-requires : tie.Need-mark-members-requires Inv-loop μ-loop
 mark-members-requires c κs = (c .before .before .before .loop .inv .1, omega arith)
 
 add-k : tie.Need-add-k Inv-loop μ-loop
-add-k c = omega arith
+add-k c = search needs
 
 loop-less : tie.Need-loop-less Inv-loop μ-loop
-loop-less c = omega arith
+loop-less c = search needs
 
 loop-again : tie.Need-loop-again Inv-loop μ-loop
 loop-again c =

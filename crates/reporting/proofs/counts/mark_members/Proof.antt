@@ -7,6 +7,7 @@ use lib.ListN.{length, getD, take}
 use lib.Seq.{take-all}
 use Rattle.reporting.specs.Held.{GroupAdded}
 use Rattle.reporting.proofs.Tallying.{joined-none, joined-more}
+use borrow.Author.Needs.{needs}
 use Rattle.reporting.proofs.counts.mark_members.Statement.{statement}
 use Rattle.reporting.proofs.counts.mark_members.Tie as tie
 
@@ -16,15 +17,12 @@ Inv-loop rows₀ list k i₀ rows i = (i ≤ length list) × GroupAdded rows₀ 
 abbrev μ-loop : tie.MeasureT-loop
 μ-loop rows₀ list k i₀ rows i = length list - i
 
--- where the function starts, and the loop before a handset is looked at and after it is marked
+-- where the function starts, and the loop before a handset is looked at
 abbrev start : tie.At-loop Inv-loop μ-loop → tie.Start Inv-loop μ-loop
 start c = c .before .before .before
 
 abbrev looked : tie.After-shared-slice-known2 Inv-loop μ-loop → tie.At-loop Inv-loop μ-loop
 looked c = c .before .before .before
-
-abbrev marked : tie.After-slice-known2 Inv-loop μ-loop → tie.After-mark Inv-loop μ-loop
-marked c = c .before .before
 
 -- a handset's number
 small : (c : tie.After-shared-slice-known2 Inv-loop μ-loop) → getD (now (start (looked c) .args .list)) (looked c .loop .i) 0 ≤ 65535
@@ -34,10 +32,10 @@ loop-holds : tie.Need-loop-holds Inv-loop μ-loop
 loop-holds c = (omega arith, joined-none (now (c .before .before .args .rows)) (c .before .before .args .k))
 
 mul-mark : tie.Need-mul-mark Inv-loop μ-loop
-mul-mark c = omega arith
+mul-mark c = search needs
 
 shared-slice-read-mark : tie.Need-shared-slice-read-mark Inv-loop μ-loop
-shared-slice-read-mark c = omega arith
+shared-slice-read-mark c = search needs
 
 cast-mark : tie.Need-cast-mark Inv-loop μ-loop
 cast-mark c = omega (arith, small c)
@@ -49,22 +47,23 @@ add-mark : tie.Need-add-mark Inv-loop μ-loop
 add-mark c = omega (arith, small c)
 
 mark-requires : tie.Need-mark-requires Inv-loop μ-loop
-mark-requires c κs = tt
+mark-requires c κs = search needs
 
 add-i : tie.Need-add-i Inv-loop μ-loop
-add-i c = omega arith
+add-i c = search needs
 
 loop-less : tie.Need-loop-less Inv-loop μ-loop
-loop-less c = omega arith
+loop-less c = search needs
 
 loop-again : tie.Need-loop-again Inv-loop μ-loop
 loop-again c =
-    let at-loop = looked (marked c .before) in
+    let marked = c .before .before in
+    let at-loop = looked (marked .before) in
     let l = at-loop .loop in
     let s = start at-loop in
     let a = s .args in (
       omega arith,
-      rw (marked c .mark .ensures) (joined-more (now (a .rows)) (l .rows) (now (a .list)) (a .k) (l .i) (s .pre .0) (s .pre .1) (omega arith) (l .inv .1)),
+      rw (marked .mark .ensures) (joined-more (now (a .rows)) (l .rows) (now (a .list)) (a .k) (l .i) (s .pre .0) (s .pre .1) (omega arith) (l .inv .1)),
     )
 
 same-length : tie.Need-same-length Inv-loop μ-loop

@@ -1,4 +1,4 @@
--- `scores::count_edges` meets its contract. After k edges the two sums are t and o over them; each edge adds at most 512 * 512 to t and 1 to o,
+-- `scores::tally_edges` meets its contract. After k edges the two sums are t and o over them; each edge adds at most 512 * 512 to t and 1 to o,
 -- so that 4,096 edges stay below 2 ^ 32.
 use Prim.Native.Nat.{ℕ, _+_, _*_, _-_, _≤_}
 use native.Mathlib.Omega.{arith}
@@ -13,14 +13,14 @@ use Rattle.image.specs.Image.{endA, endB}
 use Rattle.community.specs.Scores.{everyEdge, justOne}
 use Rattle.scores.specs.Held.{joinedSum, leavingSum}
 use Rattle.scores.proofs.Entries.{joined-none, leaving-none, joined-more, leaving-more, joined-le, leaving-le, ties-le, bit-le, ends-at}
-use Rattle.scores.proofs.count_edges.Statement.{statement}
-use Rattle.scores.proofs.count_edges.Tie as tie
+use Rattle.scores.proofs.tally_edges.Statement.{statement}
+use Rattle.scores.proofs.tally_edges.Tie as tie
 
 abbrev Inv-loop : tie.InvT-loop
-Inv-loop edges m table joined₀ leaving₀ k₀ joined leaving k = (k ≤ m) × (joined ≡ joinedSum table edges everyEdge k) × (leaving ≡ leavingSum table edges everyEdge k)
+Inv-loop edges m table all joined₀ leaving₀ k₀ joined leaving k = (k ≤ m) × (joined ≡ joinedSum table edges everyEdge k) × (leaving ≡ leavingSum table edges everyEdge k)
 
 abbrev μ-loop : tie.MeasureT-loop
-μ-loop edges m table joined₀ leaving₀ k₀ joined leaving k = m - k
+μ-loop edges m table all joined₀ leaving₀ k₀ joined leaving k = m - k
 
 -- ---- the places that the answers speak of: the start, the turn of edge k, its ends read
 abbrev start : tie.At-loop Inv-loop μ-loop → tie.Start Inv-loop μ-loop
@@ -140,8 +140,8 @@ returns c =
     let o : l .loop .leaving ≡ leavingSum (table-of l) (edges-of l) everyEdge m = l .loop .inv .2 ∙ ap (leavingSum (table-of l) (edges-of l) everyEdge) e in
     cc
 
-pub count-edges-spec : {M : Type 1} → statement M
-count-edges-spec =
+pub tally-edges-spec : {M : Type 1} → statement M
+tally-edges-spec =
     tie.close
     (tie.spec
     Inv-loop
