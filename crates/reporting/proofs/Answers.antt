@@ -68,7 +68,7 @@ module _ {t u l m m′ : List ℕ} {need : ℕ} (same : t ≡ u) (small : length
       let e : k ≡ length t = omega (arith, q .next) in
       rw (← same) (record { answer = simp (le-leb _ _ fits) (ap R.Written e); text = simp (le-leb _ _ fits) (q .list ∙ sets-front l t fits) })
 
-  pub filled-refused : length l < need → Filled u l (R.Refused refusal16) l
+  pub filled-refused : length l < need → Filled u l (R.Refused (refusal 16)) l
   unfolding writtenOf writtenIn
   filled-refused h =
       let short : length l < length t = omega (arith, measured .next) in

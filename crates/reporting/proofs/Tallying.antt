@@ -26,7 +26,8 @@ use borrow.Author.Tests.{lt-ltb, le-ltb, le-leb, lt-leb, eq-eqb, ne-eqb}
 use Rattle.sets.specs.Below.{bit, count}
 use Rattle.sets.specs.Bits.{bitOf, bitAt, cell, withBit}
 use Rattle.sets.specs.Rows.{Table}
-use Rattle.sets.proofs.Bits.{bitOf-none, bitOf-lt, bitOf-and, bitOf-xor, bitOf-clear-same, bitOf-clear-other, bitAt-lt, bitAt-set-same, bitAt-set-other, bitAt-zeros, cell-word, length-withBit}
+use Rattle.sets.proofs.Bits.{bitOf-none, bitOf-lt, bitOf-and, bitOf-xor, bitAt-lt, bitAt-set-same, bitAt-set-other, bitAt-zeros, cell-word, length-withBit}
+use Rattle.sets.proofs.Lowest.{Lowest, cleared, cleared-same, cleared-other}
 use Rattle.sets.proofs.Counting.{count-cong, count-le, count-none}
 use Rattle.sets.proofs.Tests.{three}
 use Rattle.fields.specs.Bytes.{number}
@@ -158,28 +159,24 @@ bitFor-le base w i =
 pub raised-le : {ts ts′ : List ℕ} {base w : ℕ} → Raised ts base w ts′ → (i : ℕ) → getD ts′ i 0 ≤ getD ts i 0 + 1
 raised-le {ts} {ts′} {base} {w} r i = omega (arith, r .counts i, bitFor-le base w i)
 
--- the word with bit t cleared
-abbrev pub without : ℕ → ℕ → ℕ
-without w t = bitXor w (bitAnd w (2 ^ t))
-
-pub raised-more : (ts : List ℕ) (base w t : ℕ) → t < 64 → bitOf w t ≡ 1 → base + t < length ts
-    → (i : ℕ) → getD (set ts (base + t) (getD ts (base + t) 0 + 1)) i 0 + bitFor base (without w t) i ≡ getD ts i 0 + bitFor base w i
-raised-more ts base w t h one room i = pick (ℕ-discrete i (base + t))
+pub raised-more : (ts : List ℕ) (base w t : ℕ) → t < 64 → Lowest w t → base + t < length ts
+    → (i : ℕ) → getD (set ts (base + t) (getD ts (base + t) 0 + 1)) i 0 + bitFor base (cleared w) i ≡ getD ts i 0 + bitFor base w i
+raised-more ts base w t h low room i = pick (ℕ-discrete i (base + t))
   where
-    same : (i ≡ base + t → ⊥) → bitFor base (without w t) i ≡ bitFor base w i
+    same : (i ≡ base + t → ⊥) → bitFor base (cleared w) i ≡ bitFor base w i
     same n =
-        ⊎-elim (λ l. bitFor-before base (without w t) i l ∙ sym (bitFor-before base w i l))
+        ⊎-elim (λ l. bitFor-before base (cleared w) i l ∙ sym (bitFor-before base w i l))
         (⊎-elim
-        (λ p. bitFor-of base (without w t) i (p .0) (p .1) (p .2) ∙ bitOf-clear-other w t (p .0) (λ e. n (omega (arith, p .2))) ∙ sym (bitFor-of base w i (p .0) (p .1) (p .2)))
-        (λ l. bitFor-past base (without w t) i l ∙ sym (bitFor-past base w i l)))
+        (λ p. bitFor-of base (cleared w) i (p .0) (p .1) (p .2) ∙ cleared-other w t low (p .0) (λ e. n (omega (arith, p .2))) ∙ sym (bitFor-of base w i (p .0) (p .1) (p .2)))
+        (λ l. bitFor-past base (cleared w) i l ∙ sym (bitFor-past base w i l)))
         (where-is base i)
 
-    pick : Dec (i ≡ base + t) → getD (set ts (base + t) (getD ts (base + t) 0 + 1)) i 0 + bitFor base (without w t) i ≡ getD ts i 0 + bitFor base w i
+    pick : Dec (i ≡ base + t) → getD (set ts (base + t) (getD ts (base + t) 0 + 1)) i 0 + bitFor base (cleared w) i ≡ getD ts i 0 + bitFor base w i
     pick (yes e) =
         let set-here : getD (set ts (base + t) (getD ts (base + t) 0 + 1)) i 0 ≡ getD ts i 0 + 1 =
         ap (λ (x : ℕ). getD (set ts (base + t) (getD ts (base + t) 0 + 1)) x 0) e ∙ getD-set-same ts (base + t) (getD ts (base + t) 0 + 1) 0 room
         ∙ ap (λ (x : ℕ). getD ts x 0 + 1) (sym e) in
-        omega (arith, set-here, bitFor-of base (without w t) i t h e, bitOf-clear-same w t, bitFor-of base w i t h e, one)
+        omega (arith, set-here, bitFor-of base (cleared w) i t h e, cleared-same w t low, bitFor-of base w i t h e, low .here)
     pick (no n) = ap₂ _+_ (getD-set-other ts (base + t) i (getD ts (base + t) 0 + 1) 0 n) (same n)
 
 pub raised-done : (base i : ℕ) → bitFor base 0 i ≡ 0

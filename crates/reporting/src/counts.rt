@@ -47,7 +47,7 @@ fn add_bits(word: u64, base: usize, counts: &mut [u32])
         let k = u64::trailing_zeros(w);
         let i = base + k as usize;
         counts[i] = counts[i] + 1;
-        w = w ^ (w & (1u64 << k));
+        w = w & (w - 1);
     }
 }
 

@@ -2,12 +2,13 @@
 -- its bit of the word. A turn adds 1 for the lowest set bit and clears it; the measure is the sum of the bits left.
 use Prim.Native.Nat.{ℕ, _+_, _^_, _<_}
 use native.Mathlib.Omega.{arith}
+use borrow.Author.Needs.{needs}
 use mathlib.Core.Path.{_≡_, refl, ap, _∙_}
 use lib.ListN.{length, getD, length-set}
 use lib.Count.{trailingZeros}
 use Rattle.sets.specs.Below.{sum}
 use Rattle.sets.specs.Bits.{bitOf}
-use Rattle.sets.proofs.Lowest.{lowest, cleared-is, cleared-lt, cleared-falls}
+use Rattle.sets.proofs.Lowest.{Lowest, lowest, cleared-lt, cleared-falls}
 use Rattle.reporting.specs.Held.{bitFor}
 use Rattle.reporting.proofs.Tallying.{bitFor-le, bitFor-at, raised-more, raised-done}
 use Rattle.reporting.proofs.counts.add_bits.Statement.{statement}
@@ -27,10 +28,8 @@ loop-holds c = (omega arith, refl, (λ i. refl))
 abbrev lowestOf : tie.In-loop Inv-loop μ-loop → ℕ
 lowestOf c = trailingZeros 64 (c .before .loop .w)
 
-first : (c : tie.In-loop Inv-loop μ-loop) → (lowestOf c < 64) × (bitOf (c .before .loop .w) (lowestOf c) ≡ 1)
-first c =
-    let r = lowest 64 (c .before .loop .w) (omega arith) (c .before .loop .inv .0) in
-    (r .0, r .1 .here)
+first : (c : tie.In-loop Inv-loop μ-loop) → (lowestOf c < 64) × Lowest (c .before .loop .w) (lowestOf c)
+first c = lowest 64 (c .before .loop .w) (omega arith) (c .before .loop .inv .0)
 
 -- the place is in the table, and has room
 room : (c : tie.In-loop Inv-loop μ-loop) → c .before .before .args .base + lowestOf c < length (c .before .loop .counts)
@@ -47,7 +46,7 @@ least c =
       c .before .before .pre .1 (lowestOf c) (f .0),
       bitFor-le (a .base) (a .word) i,
       bitFor-at (a .base) (c .before .loop .w) (lowestOf c) (f .0),
-      f .1,
+      f .1 .here,
     )
 
 cast-i : tie.Need-cast-i Inv-loop μ-loop
@@ -71,14 +70,11 @@ mul-counts-2 c = omega (arith, room (c .before), c .before .before .loop .inv .1
 slice-write-counts : tie.Need-slice-write-counts Inv-loop μ-loop
 slice-write-counts c = room (c .before)
 
-cast-w : tie.Need-cast-w Inv-loop μ-loop
-cast-w c = omega (arith, first (c .before) .0)
-
-shl-w : tie.Need-shl-w Inv-loop μ-loop
-shl-w c = first (c .before) .0
+sub-w : tie.Need-sub-w Inv-loop μ-loop
+sub-w c = search needs
 
 loop-less : tie.Need-loop-less Inv-loop μ-loop
-loop-less c = let f = first (c .before) in cleared-falls (c .before .before .loop .w) (lowestOf (c .before)) (f .0) (f .1)
+loop-less c = let f = first (c .before) in cleared-falls (c .before .before .loop .w) (lowestOf (c .before)) (f .1) (f .0)
 
 loop-again : tie.Need-loop-again Inv-loop μ-loop
 loop-again c =
@@ -86,9 +82,9 @@ loop-again c =
     let a = c .before .before .before .args in
     let t : ℕ = trailingZeros 64 (l .w) in
     let f = first (c .before) in (
-      cleared-lt (l .w) t (f .0) (l .inv .0),
+      cleared-lt (l .w) (l .inv .0),
       length-set (l .counts) (a .base + t) _ ∙ l .inv .1,
-      (λ i. rw (cleared-is (l .w) t (f .0)) (raised-more (l .counts) (a .base) (l .w) t (f .0) (f .1) (room (c .before)) i) ∙ l .inv .2 i),
+      (λ i. raised-more (l .counts) (a .base) (l .w) t (f .0) (f .1) (room (c .before)) i ∙ l .inv .2 i),
     )
 
 same-length : tie.Need-same-length Inv-loop μ-loop
@@ -118,8 +114,7 @@ add-bits-spec =
     add-counts
     mul-counts-2
     slice-write-counts
-    cast-w
-    shl-w
+    sub-w
     loop-less
     loop-again
     same-length
