@@ -1,20 +1,20 @@
 -- These definitions only serve the proofs; a caller need not believe them.
 -- What the report's working tables hold, for the contracts inside the crate.
 --
---     groupTally ts k l       the tally of group k with the members l, from a table that holds its tied pairs at k and its leaving edges at 512 + k
+--     groupTally ts k l              the tally of group k with the members l, from a table that holds its tied pairs at k and its leaving edges at 512 + k
 --     inGroup, joinedIn, leavesIn    by the rows of the groups of each handset: whether it is in a group, whether an edge is tied in it, or leaves it
---     GroupAdded rows l k ..   the rows with group k added to those of the handsets in l
---     Raised ts base w ..  a table with 1 added at base + k for each set bit k of the word w
---     CountsFit ts              a table of 1,024 numbers that none of 4,096 edges makes too large
---     Edges part m         m edge records stand in the part, and the ends of each have rows
---     EdgeCounted ..       a table with one edge added, for the groups of the rows' words that begin below a bound
---     EdgesCounted ..      the counts over the first m edges, for those groups
---     GroupsCounted ..     the tied pairs and the leaving edges of each group of a plan's two tables
---     tableLines ..        the lines of the first k groups, from the plan's two tables and the counts
---     tableText ..         the whole text from the tables and the two sets
---     Filled t l r l′      a text t was written into the buffer l where it fits: the answer r, and the buffer after
---     Without ws l ws′     the set ws with the numbers of l taken out
---     PlanHeld s ..        an accepted image's header, the numbers of line one, the plan in the two tables, and the set of cores
+--     GroupAdded rows l k ..         the rows with group k added to those of the handsets in l
+--     Raised ts base w ..            a table with 1 added at base + k for each set bit k of the word w
+--     CountsFit ts                   a table of 1,024 numbers that none of 4,096 edges makes too large
+--     Edges part m                   m edge records stand in the part, and the ends of each have rows
+--     EdgeCounted ..                 a table with one edge added, for the groups of the rows' words that begin below a bound
+--     EdgesCounted ..                the counts over the first m edges, for those groups
+--     GroupsCounted ..               the tied pairs and the leaving edges of each group of a plan's two tables
+--     tableLines ..                  the lines of the first k groups, from the plan's two tables and the counts
+--     tableText ..                   the whole text from the tables and the two sets
+--     Filled t l r l′                a text t was written into the buffer l where it fits: the answer r, and the buffer after
+--     Without ws l ws′               the set ws with the numbers of l taken out
+--     PlanHeld s ..                  an accepted image's header, the numbers of line one, the plan in the two tables, and the set of cores
 use Prim.Native.Nat.{ℕ, zero, suc, _+_, _*_, _-_, _/_, _≤_, _<_}
 use mathlib.Core.Path.{_≡_}
 use mathlib.Core.Bool.{Bool, _&&_, _||_, not, cond}

@@ -1,12 +1,12 @@
 -- These definitions only serve the proofs; a caller need not believe them.
 -- What the tally's functions work out one after another, for the contracts inside the crate.
 --
---     multiplicity l v           how often v stands in a list
---     tallyAt part m test l      the tally over the first m edges of a part of the image, those that pass, edge by edge
---     GoodEntries l                   the entries of a list that question 13 passes
---     Blank table                512 places that hold 0
---     Multiplicities table l     place v holds how often v stands in l, for every v
---     joinedSum, leavingSum          t and o over the first m edges of a part, those that pass, by such a table
+--     multiplicity l v          how often v stands in a list
+--     tallyAt part m test l     the tally over the first m edges of a part of the image, those that pass, edge by edge
+--     GoodEntries l             the entries of a list that question 13 passes
+--     Blank table               512 places that hold 0
+--     Multiplicities table l    place v holds how often v stands in l, for every v
+--     joinedSum, leavingSum     t and o over the first m edges of a part, those that pass, by such a table
 use Prim.Native.Nat.{ℕ, _*_, _≤_, _<_}
 use mathlib.Core.Path.{_≡_}
 use mathlib.Core.Bool.{Bool, _&&_, cond}

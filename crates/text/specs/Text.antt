@@ -4,7 +4,7 @@
 --     bytes s               the bytes of a text of ASCII characters
 --     decimal n             the decimal digits of n, with no leading zero; for a number of 64 bits
 --     numbers l             each number of l after a space
---     elementsOf ws          the members below 512 of a set of bits, ascending
+--     elementsOf ws         the members below 512 of a set of bits, ascending
 --
 -- The laws are in proofs/Writing.
 use Prim.Native.Nat.{ℕ, zero, suc, _+_, _/_, _%_, min}
