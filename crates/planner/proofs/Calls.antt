@@ -28,10 +28,9 @@ use Rattle.image.specs.declared.Refusal.{Refusal}
 use Rattle.image.specs.declared.Opened.{Opened}
 use Rattle.image.specs.declared.Opened.the-variants as O
 use Rattle.image.proofs.Acceptance.{opened, accepted-fits}
-use Rattle.community.specs.Network.{isCore, isLeader, leaders, role, neighbourhoodSize, communityNumber, membershipCount, borderOf, roleValues}
+use Rattle.community.specs.Network.{isCore, isLeader, leaders, role, neighbourhoodSize, roleAmong, roleValues}
 use Rattle.community.specs.Tables.{startTable, memberTable}
 use Rattle.community.specs.Site.{network}
-use Rattle.community.specs.declared.Role.the-variants.{Core}
 use Rattle.community.specs.declared.Standing.{Standing}
 use Rattle.search.specs.Communities.{coreIn, Grouped}
 use Rattle.tables.specs.Plan.{byRoom, planned, planAnswer, over, rowsOf, roleFor, PlanWritten}
@@ -126,7 +125,7 @@ module _ (s : List ℕ) (ok : Accepted s) where
       → roleFor cores rows (min k 512) v ≡ role (network s) v
   unfolding roleFor role communitiesOf
   role-found c f v h =
-      ap₂ (λ (b : Bool) (gs : List (List ℕ)). cond b (Core (communityNumber v gs)) (borderOf (membershipCount v gs))) (core-bit c v h) (rows-are f)
+      ap₂ (λ (b : Bool) (gs : List (List ℕ)). roleAmong gs b v) (core-bit c v h) (rows-are f)
 
   pub known-found : (v : ℕ) → v < handsetCount s → (x : Standing) → x .neighbours ≡ neighbourhoodSize (network s) v
       → roleValues (x .role) ≡ roleValues (role (network s) v) → knownAnswer (K.Handset x) ≡ knownAnswer (knownOf s v)
