@@ -26,7 +26,7 @@ use lib.Seq.{getD-at}
 use Rattle.sets.specs.Below.{bit, select, sum}
 use Rattle.sets.specs.Bits.{bitOf, cell}
 use Rattle.sets.proofs.Tests.{decide, below, eqb-of, eqb-not}
-use Rattle.sets.proofs.Counting.{count-le, count-sum, sum-cong}
+use Rattle.sets.proofs.Counting.{test-bit, count-le, count-sum, sum-cong}
 use Rattle.sets.proofs.Selecting.{select-yes, select-no, select-cong, length-select, map-append}
 use Rattle.sets.proofs.Bits.{bitOf-none, bitAt-lt, cell-word}
 use Rattle.sets.proofs.Lowest.{Lowest, cleared, cleared-same, cleared-other}
@@ -77,18 +77,18 @@ select-split a (suc b) f =
     (decide (f (a + b)))
 
 -- ---- the members of a word
-abbrev inWord : ℕ → ℕ → Bool
-inWord w k = eqb (bitOf w k) 1
+abbrev hasBit : ℕ → ℕ → Bool
+hasBit w k = eqb (bitOf w k) 1
 
 pub wordMembers-none : (base w : ℕ) → w ≡ 0 → wordMembers base w ≡ []
 wordMembers-none base w e =
     ap (map (λ (k : ℕ). base + k))
-    (select-none 64 (inWord w) (λ k l. eqb-not (bitOf w k) 1 (λ q. omega (arith, bitOf-none k, ap (λ (x : ℕ). bitOf x k) e))))
+    (select-none 64 (hasBit w) (λ k l. eqb-not (bitOf w k) 1 (λ q. omega (arith, bitOf-none k, ap (λ (x : ℕ). bitOf x k) e))))
 
 pub wordMembers-lowest : (base w t : ℕ) → t < 64 → Lowest w t → wordMembers base w ≡ (base + t) ∷ wordMembers base (cleared w t)
 wordMembers-lowest base w t h l =
     ap (map (λ (k : ℕ). base + k))
-    (select-lowest t (inWord w) (inWord (cleared w t))
+    (select-lowest t (hasBit w) (hasBit (cleared w t))
     (eqb-of (bitOf w t) 1 (l .here))
     (λ j q. eqb-not (bitOf w j) 1 (λ e. omega (arith, l .lower j q)))
     (eqb-not (bitOf (cleared w t) t) 1 (λ e. omega (arith, cleared-same w t h)))
@@ -107,7 +107,7 @@ row-word rows k j =
     ap (λ (n : ℕ). select n (inRow rows k)) e
     ∙ select-split (j * 64) 64 (inRow rows k)
     ∙ ap (λ (l : List ℕ). select (j * 64) (inRow rows k) ++ map (λ (i : ℕ). j * 64 + i) l)
-    (select-cong 64 (λ (i : ℕ). inRow rows k (j * 64 + i)) (inWord (getD rows (k * 8 + j) 0)) (λ i h. ap (λ (b : ℕ). eqb b 1) (cell-word rows k j i h)))
+    (select-cong 64 (λ (i : ℕ). inRow rows k (j * 64 + i)) (hasBit (getD rows (k * 8 + j) 0)) (λ i h. ap (λ (b : ℕ). eqb b 1) (cell-word rows k j i h)))
 
 -- what is below a bound is no more than the row
 pub row-room : (rows : List ℕ) (k n : ℕ) → n ≤ 512 → length (select n (inRow rows k)) ≤ length (rowMembers rows k)
@@ -123,16 +123,11 @@ row-room rows k n h =
         (λ t. omega (arith, ap length (select-no m f t)))
         (decide (f m))
 
-bit-test : (b : ℕ) → b < 2 → bit (eqb b 1) ≡ b
-bit-test zero h = refl
-bit-test (suc zero) h = refl
-bit-test (suc (suc b)) h = absurd (omega arith)
-
 pub row-length : (rows : List ℕ) (k : ℕ) → length (rowMembers rows k) ≡ sum 512 (cell rows k)
 unfolding rowMembers
 row-length rows k =
     length-select 512 (inRow rows k) ∙ count-sum 512 (inRow rows k)
-    ∙ sum-cong 512 (λ v. bit (inRow rows k v)) (cell rows k) (λ v h. bit-test (cell rows k v) (bitAt-lt rows (k * 512 + v)))
+    ∙ sum-cong 512 (λ v. bit (inRow rows k v)) (cell rows k) (λ v h. test-bit (cell rows k v) (bitAt-lt rows (k * 512 + v)))
 
 pub row-small : (rows : List ℕ) (k : ℕ) → length (rowMembers rows k) ≤ 512
 unfolding rowMembers
