@@ -118,9 +118,13 @@ abbrev pub borderOf : ℕ → Role
 borderOf zero = Outlier
 borderOf (suc k) = Border (suc k)
 
+-- the role of v among the communities gs, by whether it is a core
+abbrev pub roleAmong : List (List ℕ) → Bool → ℕ → Role
+roleAmong gs core v = cond core (Core (communityNumber v gs)) (borderOf (membershipCount v gs))
+
 unfoldable pub role : Network → ℕ → Role
 unfolding isCore communityNumber membershipCount communities
-role g v = cond (isCore g v) (Core (communityNumber v (communities g))) (borderOf (membershipCount v (communities g)))
+role g v = roleAmong (communities g) (isCore g v) v
 
 abbrev pub roleValues : Role → List ℕ
 roleValues (Core k) = 0 ∷ k ∷ []

@@ -9,7 +9,7 @@
 use Prim.Native.Nat.{ℕ, _≤_, _<_, min}
 use native.Mathlib.Omega.{arith}
 use mathlib.Core.Path.{_≡_, refl, sym, ap, ap₂, _∙_}
-use mathlib.Core.Bool.{Bool, true, false, _&&_, cond}
+use mathlib.Core.Bool.{Bool, _&&_, cond}
 use mathlib.Core.List.{List, _∷_}
 use lib.Dec.{ltb, eqb, lt→ltb, ltb→lt, not-T}
 use lib.ListN.{length}
@@ -18,7 +18,7 @@ use Rattle.sets.specs.Bits.{bitAt}
 use Rattle.sets.specs.Rows.{SetOf}
 use Rattle.sets.proofs.Tests.{T-true, T-false}
 use Rattle.sets.proofs.Bits.{zeros, bitAt-zeros}
-use Rattle.sets.proofs.Counting.{count-le}
+use Rattle.sets.proofs.Counting.{bit-test, count-le}
 use Rattle.sets.proofs.Selecting.{length-select}
 use Rattle.image.specs.Image.{handsetCount}
 use Rattle.image.specs.Answers.{refusal, given}
@@ -28,10 +28,9 @@ use Rattle.image.specs.declared.Refusal.{Refusal}
 use Rattle.image.specs.declared.Opened.{Opened}
 use Rattle.image.specs.declared.Opened.the-variants as O
 use Rattle.image.proofs.Acceptance.{opened, accepted-fits}
-use Rattle.community.specs.Network.{isCore, isLeader, leaders, role, neighbourhoodSize, communityNumber, membershipCount, borderOf, roleValues}
+use Rattle.community.specs.Network.{isCore, isLeader, leaders, role, neighbourhoodSize, roleAmong, roleValues}
 use Rattle.community.specs.Tables.{startTable, memberTable}
 use Rattle.community.specs.Site.{network}
-use Rattle.community.specs.declared.Role.the-variants.{Core}
 use Rattle.community.specs.declared.Standing.{Standing}
 use Rattle.search.specs.Communities.{coreIn, Grouped}
 use Rattle.tables.specs.Plan.{byRoom, planned, planAnswer, over, rowsOf, roleFor, PlanWritten}
@@ -114,17 +113,13 @@ module _ (s : List ℕ) (ok : Accepted s) where
   core-bit {ws} c v h =
       ap (λ (b : ℕ). eqb b 1) (c .bits v (omega (arith, handsets-most)))
       ∙ ap (λ (b : Bool). eqb (bit (b && isCore (network s) v)) 1) (T-true (ltb v (handsetCount s)) (lt→ltb v (handsetCount s) h))
-      ∙ read (isCore (network s) v)
-    where
-      read : (b : Bool) → eqb (bit b) 1 ≡ b
-      read true = refl
-      read false = refl
+      ∙ bit-test (isCore (network s) v)
 
   pub role-found : {cores rows : List ℕ} {k : ℕ} → SetOf cores (coreIn (network s)) → Grouped (network s) rows k → (v : ℕ) → v < handsetCount s
       → roleFor cores rows (min k 512) v ≡ role (network s) v
   unfolding roleFor role communitiesOf
   role-found c f v h =
-      ap₂ (λ (b : Bool) (gs : List (List ℕ)). cond b (Core (communityNumber v gs)) (borderOf (membershipCount v gs))) (core-bit c v h) (rows-are f)
+      ap₂ (λ (b : Bool) (gs : List (List ℕ)). roleAmong gs b v) (core-bit c v h) (rows-are f)
 
   pub known-found : (v : ℕ) → v < handsetCount s → (x : Standing) → x .neighbours ≡ neighbourhoodSize (network s) v
       → roleValues (x .role) ≡ roleValues (role (network s) v) → knownAnswer (K.Handset x) ≡ knownAnswer (knownOf s v)

@@ -5,26 +5,23 @@
 use Prim.Native.Nat.{ℕ, zero, suc, _+_, _-_, _≤_, _<_}
 use native.Mathlib.Omega.{arith}
 use native.Mathlib.Nat.{add-zero, add-suc}
-use mathlib.Core.Path.{_≡_, refl, sym, ap, ap₂, _∙_}
-use mathlib.Core.Bool.{Bool, true, false, _&&_, not}
+use mathlib.Core.Path.{_≡_, sym, ap, ap₂, _∙_}
+use mathlib.Core.Bool.{Bool, _&&_, not}
 use mathlib.Core.List.{List, []}
 use lib.Dec.{T, not-T, eqb, ltb, ltb→lt}
 use lib.ListN.{length, getD}
 use lib.Seq.{ext-getD}
 use borrow.Author.Tests.{lt-ltb}
-use Rattle.sets.specs.Below.{bit, select}
+use Rattle.sets.specs.Below.{select}
 use Rattle.sets.specs.Bits.{cell}
 use Rattle.sets.proofs.Tests.{and-left, and-right}
+use Rattle.sets.proofs.Counting.{bit-test}
 use Rattle.sets.proofs.Selecting.{select-no, select-cong}
 use Rattle.community.specs.Network.{Network, reachable, leaders, members, communities}
 use Rattle.community.proofs.Communities.{leader, length-communities, community-at, leader-below}
 use Rattle.search.specs.Communities.{reachableIn, Grouped}
 use Rattle.tables.specs.Plan.{rowMembers, rowsOf}
 use Rattle.tables.proofs.Listing.{rows-length, rows-at}
-
-test-bit : (b : Bool) → eqb (bit b) 1 ≡ b
-test-bit true = refl
-test-bit false = refl
 
 reachableIn-past : (g : Network) (u v : ℕ) → g .n ≤ v → T (not (reachableIn g u v))
 unfolding reachableIn
@@ -48,7 +45,7 @@ row-members {g} {rows} {k} small r j h l =
     let u : ℕ = getD (leaders g) j 0 in
     let d : ℕ = 512 - g .n in
     let e : 512 ≡ g .n + d = omega arith in
-    select-cong 512 (λ v. eqb (cell rows j v) 1) (reachableIn g u) (λ v q. ap (λ (b : ℕ). eqb b 1) (r .row j v h q) ∙ test-bit (reachableIn g u v))
+    select-cong 512 (λ v. eqb (cell rows j v) 1) (reachableIn g u) (λ v q. ap (λ (b : ℕ). eqb b 1) (r .row j v h q) ∙ bit-test (reachableIn g u v))
     ∙ ap (λ (n : ℕ). select n (reachableIn g u)) e
     ∙ select-wide (g .n) d (reachableIn g u) (λ v q. reachableIn-past g u v q)
     ∙ select-cong (g .n) (reachableIn g u) (reachable g u) (λ v q. reachableIn-below g u v l q)

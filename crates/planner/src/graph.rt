@@ -1,5 +1,5 @@
-// The network of a site: the size of each neighbourhood, who is similar to whom, who is a core, and so which are its communities. A table has a row of eight words for each handset,
-// one bit a handset, and the size of each row stands beside it; only the edges are gone through, never the pairs of handsets.
+// The network of a site: the size of each neighbourhood, who is similar to whom, who is a core, and so which are its communities. A table has a row of
+// eight words for each handset, one bit a handset, and the size of each row stands beside it; only the edges are gone through, never the pairs of handsets.
 //
 // The reader leaves every edge in the table. First the edges that are too long are dropped, and then those whose ends are not similar: each time a word
 // of up to 64 edges is made of them, one bit an edge, without a branch on the test, and then the edges of the word are dropped.
@@ -226,8 +226,8 @@ fn mark_cores(sizes: &[u32], n: usize, mu: u32, cores: &mut [u64])
     }
 }
 
-// Puts questions 1 to 10 to an image. Of an accepted one the two tables get the neighbour relation and the sizes of the neighbourhoods: the edges that are too
-// long are dropped from the table of all edges. The empty set `short` gets the other edges.
+// Puts questions 1 to 10 to an image. Of an accepted one the two tables get the neighbour relation and the sizes of the neighbourhoods, which are left of the
+// table of all edges without those that are too long, and the empty set `short` gets the other edges.
 pub(crate) fn open_neighbours(
     image: &[u8],
     short: &mut [u64],

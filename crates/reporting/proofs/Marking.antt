@@ -4,7 +4,7 @@
 --     contains-more                  the first numbers of a table, one more
 --     without-start, without-more    a set with the first numbers of a table taken out: none, and one more
 --     outside                        the numbers below n that are not in a table, from the two loops
-use Prim.Native.Nat.{ℕ, zero, suc, _+_, _/_, _<_}
+use Prim.Native.Nat.{ℕ, _+_, _/_, _<_}
 use native.Mathlib.Omega.{arith}
 use native.Mathlib.Decide.{ℕ-discrete, decLt}
 use native.Mathlib.Numerals.{add-one}
@@ -19,19 +19,10 @@ use Rattle.sets.specs.Below.{bit}
 use Rattle.sets.specs.Bits.{bitAt, withBit, withoutBit}
 use Rattle.sets.specs.Rows.{SetOf}
 use Rattle.sets.proofs.Bits.{bitAt-lt, bitAt-set-same, bitAt-set-other, bitAt-clear-same, bitAt-clear-other, bitAt-past, bitAt-zeros, length-withoutBit}
+use Rattle.sets.proofs.Counting.{bit-test, test-bit}
 use Rattle.community.specs.Network.{contains}
 use Rattle.reporting.specs.Held.{Without}
 use Rattle.reporting.proofs.Outliers.{contains-append}
-
--- a bit as a test, and back
-pub bit-test : (b : Bool) → eqb (bit b) 1 ≡ b
-bit-test true = refl
-bit-test false = refl
-
-pub test-bit : (x : ℕ) → x < 2 → bit (eqb x 1) ≡ x
-test-bit zero h = refl
-test-bit (suc zero) h = refl
-test-bit (suc (suc x)) h = absurd (omega arith)
 
 and-true : (b : Bool) → (b && true) ≡ b
 and-true true = refl

@@ -28,7 +28,7 @@ use Rattle.sets.specs.Bits.{bitOf, bitAt, cell, withBit}
 use Rattle.sets.specs.Rows.{Table}
 use Rattle.sets.proofs.Bits.{bitOf-none, bitOf-lt, bitOf-and, bitOf-xor, bitAt-lt, bitAt-set-same, bitAt-set-other, bitAt-zeros, cell-word, length-withBit}
 use Rattle.sets.proofs.Lowest.{Lowest, cleared, cleared-same, cleared-other}
-use Rattle.sets.proofs.Counting.{count-cong, count-le, count-none}
+use Rattle.sets.proofs.Counting.{bit-test, test-bit, count-cong, count-le, count-none}
 use Rattle.sets.proofs.Tests.{three}
 use Rattle.fields.specs.Bytes.{number}
 use Rattle.fields.specs.Fields.{edgeBytes, endsOf}
@@ -39,7 +39,7 @@ use Rattle.community.specs.Scores.{justOne}
 use Rattle.lookup.specs.Lookup.{membersOf}
 use Rattle.scores.proofs.Entries.{bit-le}
 use Rattle.reporting.specs.Held.{inGroup, bitFor, joinedIn, leavesIn, GroupAdded, Raised, CountsFit, Edges, EdgeCounted, EdgesCounted, GroupsCounted}
-use Rattle.reporting.proofs.Marking.{bit-test, test-bit, and-false, or-false, contains-more}
+use Rattle.reporting.proofs.Marking.{and-false, or-false, contains-more}
 
 -- ---- the rows
 

@@ -25,6 +25,16 @@ pub bit-false : (b : Bool) → T (not b) → bit b ≡ 0
 bit-false true t = absurd t
 bit-false false t = refl
 
+-- a test as a bit, and a bit as a test
+pub bit-test : (b : Bool) → eqb (bit b) 1 ≡ b
+bit-test true = refl
+bit-test false = refl
+
+pub test-bit : (x : ℕ) → x < 2 → bit (eqb x 1) ≡ x
+test-bit zero h = refl
+test-bit (suc zero) h = refl
+test-bit (suc (suc x)) h = absurd (omega arith)
+
 pub count-le : (n : ℕ) (f : ℕ → Bool) → count n f ≤ n
 unfolding count
 count-le zero f = omega arith

@@ -20,10 +20,9 @@ use lib.ListN.{length, drop}
 use Rattle.sets.specs.Below.{select}
 use Rattle.sets.specs.Bits.{bitAt, cell}
 use Rattle.image.specs.Answers.{Answer, refused, refusal, given, Injective}
-use Rattle.community.specs.Network.{communityNumber, membershipCount, borderOf, roleValues}
+use Rattle.community.specs.Network.{roleAmong, roleValues}
 use Rattle.community.specs.Tables.{startTable, memberTable}
 use Rattle.community.specs.declared.Role.{Role}
-use Rattle.community.specs.declared.Role.the-variants.{Core}
 use Rattle.tables.specs.declared.Planned.{Planned}
 use Rattle.tables.specs.declared.Planned.the-variants.{Made, Refused}
 
@@ -65,8 +64,7 @@ pub record PlanWritten (gs : List (List ℕ)) (ss ms : List ℕ) (r : Planned) (
 
 unfoldable pub roleFor : List ℕ → List ℕ → ℕ → ℕ → Role
 unfolding rowsOf
-roleFor cores rows k v =
-    cond (eqb (bitAt cores v) 1) (Core (communityNumber v (rowsOf rows k))) (borderOf (membershipCount v (rowsOf rows k)))
+roleFor cores rows k v = roleAmong (rowsOf rows k) (eqb (bitAt cores v) 1) v
 
 pub record OneAnswer : Type 0 where
   pub plan : Injective planAnswer
