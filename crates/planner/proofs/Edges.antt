@@ -18,14 +18,13 @@ use lib.Dec.{T, leb, ltb, eqb, leb→le, le→leb, ltb→lt, lt→ltb, eqb→eq,
 use lib.ListN.{length}
 use Rattle.sets.specs.Below.{bit}
 use Rattle.sets.specs.Bits.{bitOf, bitAt, cell, withoutBit}
-use Rattle.sets.specs.Rows.{WordOf}
 use Rattle.sets.proofs.Tests.{and-make, and-left, and-right, decide, eqb-of}
 use Rattle.sets.proofs.Bits.{bitOf-lt, bitOf-none, bitAt-clear-same, bitAt-clear-other, length-withoutBit}
 use Rattle.sets.proofs.Counting.{bit-true}
 use Rattle.sets.proofs.Lowest.{Lowest, cleared, cleared-lt, cleared-same, cleared-other, cleared-le}
 use Rattle.image.specs.Image.{endA, endB, joins}
 use Rattle.image.proofs.Edges.{joins-cases, joins-one, joins-other}
-use Rattle.planner.specs.Held.{inWord, Dropped}
+use Rattle.planner.specs.Held.{WordOf, inWord, Dropped}
 use Rattle.planner.proofs.Words.{lt-or-le, one-true, bitOf-past}
 
 -- ---- the edges of a word

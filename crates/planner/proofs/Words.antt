@@ -27,12 +27,11 @@ use lib.Pow.{pow-pos, pow-add, ones-lt, ones-split}
 use lib.Seq.{getD-set-same, getD-set-other}
 use Rattle.sets.specs.Below.{bit}
 use Rattle.sets.specs.Bits.{bitOf, bitAt}
-use Rattle.sets.specs.Rows.{WordOf}
 use Rattle.sets.proofs.Tests.{and-make, and-left, and-right, or-right, or-cases, decide, T-ext, T-true, T-false, eqb-of}
 use Rattle.sets.proofs.Counting.{bit-true, bit-false}
 use Rattle.sets.proofs.Bits.{bitOf-lt, bitOf-none, bitOf-set-same, bitOf-set-other, bitOf-xor, bitAt-lt, bitAt-past, bitAt-zeros, shl-one, word-bit, zeros}
 use Rattle.sets.proofs.Lowest.{Lowest, cleared, cleared-lt, cleared-le, cleared-same, cleared-other}
-use Rattle.planner.specs.Held.{EdgeSet}
+use Rattle.planner.specs.Held.{WordOf, EdgeSet}
 
 pub lt-or-le : (a b : ℕ) → (a < b) ⊎ (b ≤ a)
 lt-or-le a b = pick (decLt a b)

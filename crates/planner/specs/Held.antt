@@ -3,6 +3,7 @@
 --
 --     HasEnds edges n k        edge k stands in the part, and its ends are below n
 --     inWord word base k       edge k is in a word that holds edges from base on, one bit an edge
+--     WordOf w f               a word holds the k below 64 that pass f
 --     EdgeSet ws f             64 words hold the edges that pass f
 --     isShort ..               the ends of edge k are no farther apart than the root of the limit
 --     Dropped edges f a b      the table b is the table a without the edges that pass f
@@ -36,6 +37,9 @@ HasEnds edges n k = (k < 4096) × (edgeBytes * k + edgeBytes ≤ length edges) �
 unfoldable pub inWord : ℕ → ℕ → ℕ → Bool
 unfolding bitOf
 inWord word base k = leb base k && eqb (bitOf word (k - base)) 1
+
+pub record WordOf (w : ℕ) (f : ℕ → Bool) : Type 0 where
+  pub bits : (k : ℕ) → k < 64 → bitOf w k ≡ bit (f k)
 
 pub record EdgeSet (ws : List ℕ) (f : ℕ → Bool) : Type 0 where
   pub size : length ws ≡ 64

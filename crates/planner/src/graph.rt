@@ -10,14 +10,14 @@ ghost use lib.Dec.{T, leb, ltb, eqb};
 ghost use lib.ListN.{length, getD, replicate};
 ghost use Rattle.sets.specs.Below.{sum};
 ghost use Rattle.sets.specs.Bits.{bitOf, bitAt, cell, withoutBit};
-ghost use Rattle.sets.specs.Rows.{WordOf, SetOf, Counted};
+ghost use Rattle.sets.specs.Rows.{SetOf, Counted};
 ghost use Rattle.fields.specs.Fields.{handsetBytes, edgeBytes};
 ghost use Rattle.image.specs.Image.{endA, endB};
 ghost use Rattle.image.specs.Rows.{Room};
 ghost use Rattle.community.specs.Network.{meetsEpsilon};
 ghost use Rattle.community.specs.Site.{network};
 ghost use Rattle.search.specs.Communities.{coreIn, Grouped};
-ghost use Rattle.planner.specs.Held.{HasEnds, inWord, EdgeSet, isShort, Dropped, enough, Ready, NeighboursRead};
+ghost use Rattle.planner.specs.Held.{WordOf, HasEnds, inWord, EdgeSet, isShort, Dropped, enough, Ready, NeighboursRead};
 use fields::Ends;
 use image::Header;
 use image::Opened;
@@ -133,7 +133,7 @@ fn common(table: &[u64], u: usize, v: usize) -> u32
     n
 }
 
-// Whether c common neighbours of a and b are enough: c / √(a b) ≥ p / q, in whole numbers.
+// Whether c common neighbours are enough for neighbourhoods of the sizes a and b: c / √(a b) ≥ p / q, in whole numbers.
 fn meets_epsilon(c: u64, a: u64, b: u64, p: u64, q: u64) -> bool
     requires { ⌜ (c ≤ 512) × (a ≤ 512) × (b ≤ 512) × (p ≤ 1000) × (q ≤ 1000) ⌝ }
     ensures { λ r. ⌜ r ≡ meetsEpsilon p q c a b ⌝ }
@@ -226,8 +226,9 @@ fn mark_cores(sizes: &[u32], n: usize, mu: u32, cores: &mut [u64])
     }
 }
 
-// Puts questions 1 to 10 to an image. Of an accepted one the two tables get the neighbour relation and the sizes of the neighbourhoods, which are left of the
-// table of all edges without those that are too long, and the empty set `short` gets the other edges.
+// Opens an image by the reader and gives the reader's answer. After a yes the edges that are too long are dropped from the rows that it leaves, so that the
+// two tables hold the neighbour relation and the sizes of the neighbourhoods, and the empty set `short` gets the other edges. After a no the tables are as
+// the reader leaves them, and `short` is empty.
 pub(crate) fn open_neighbours(
     image: &[u8],
     short: &mut [u64],
@@ -260,7 +261,7 @@ pub(crate) fn open_neighbours(
 
 // Makes the neighbour table of an accepted site its communities, as the first rows, and gives their count; the empty set `cores` gets the cores. On the way the
 // edges whose ends are not similar are dropped, which leaves the similarity relation; of the set of short edges it keeps those that it drops.
-pub(crate) fn find_communities(
+pub(crate) fn find_site_communities(
     image: &[u8],
     h: Header,
     short: &mut [u64],

@@ -39,7 +39,14 @@ pub fn plan_and_cores(image: &[u8], starts: &mut [u32], members: &mut [u16]) -> 
             cores,
         };
     };
-    let count = graph::find_communities(image, h, &mut short, &mut table, &mut sizes, &mut cores);
+    let count = graph::find_site_communities(
+        image,
+        h,
+        &mut short,
+        &mut table,
+        &mut sizes,
+        &mut cores,
+    );
     let answer = tables::write_plan(&table, count, starts, members);
     Outcome { answer, cores }
 }
@@ -71,7 +78,14 @@ pub fn role(image: &[u8], v: usize) -> Known
     }
     let neighbours = sizes[v];
     let mut cores = [0u64; 8];
-    let count = graph::find_communities(image, h, &mut short, &mut table, &mut sizes, &mut cores);
+    let count = graph::find_site_communities(
+        image,
+        h,
+        &mut short,
+        &mut table,
+        &mut sizes,
+        &mut cores,
+    );
     let role = tables::role_in(&cores, &table, count, v);
     Known::Handset(Standing { neighbours, role })
 }

@@ -1,10 +1,11 @@
--- What the search for communities leaves in a table of rows of bits: the closures of the cores, one after the other, each from the smallest core that
--- none before it has found. With the similarity relation of a site and its cores these are the site's communities (proofs/Communities).
+-- What the search for communities leaves in a table of rows of bits: the closures of the cores, one after the other, each from the smallest core left.
+-- With the similarity relation of a site and its cores these are the site's communities (proofs/Communities).
 --
 --     steps rows left u v           one step of a search: u is one of the cores left, and v is in row u
 --     closure rows left u v         a chain of one or more steps leads from u to v
+--     found rows left v             a search finds v: it is in the closure of the smallest core left
 --     leftAfter rows cores k v      v is a core that none of the first k searches has begun at or found
---     foundBy rows cores k v        search k finds v: the closure of the smallest core left
+--     foundBy rows cores k v        search k finds v
 --     Searched rows cores after r   after r searches no core is left; row k of the table after them is what search k found, and the words past row r are as before
 --     Sized rows cores              the tables have 512 rows of eight words, and eight words
 --     SearchCall ..                 the outcome of a call: tables of another size are left alone, and the count is 0
@@ -26,16 +27,18 @@ unfoldable pub closure : List ℕ → (ℕ → Bool) → ℕ → ℕ → Bool
 unfolding steps
 closure rows left u v = chain (steps rows left) 512 u v
 
+abbrev pub found : List ℕ → (ℕ → Bool) → ℕ → Bool
+found rows left v = closure rows left (find 512 left) v
+
 unfoldable pub leftAfter : List ℕ → List ℕ → ℕ → ℕ → Bool
 unfolding closure
 leftAfter rows cores zero v = eqb (bitAt cores v) 1
 leftAfter rows cores (suc k) v =
-    leftAfter rows cores k v
-    && not (eqb (find 512 (leftAfter rows cores k)) v || closure rows (leftAfter rows cores k) (find 512 (leftAfter rows cores k)) v)
+    leftAfter rows cores k v && not (eqb (find 512 (leftAfter rows cores k)) v || found rows (leftAfter rows cores k) v)
 
 unfoldable pub foundBy : List ℕ → List ℕ → ℕ → ℕ → Bool
 unfolding closure leftAfter
-foundBy rows cores k v = closure rows (leftAfter rows cores k) (find 512 (leftAfter rows cores k)) v
+foundBy rows cores k v = found rows (leftAfter rows cores k) v
 
 pub record Searched (rows cores after : List ℕ) (r : ℕ) : Type 0 where
   pub some-left : (k : ℕ) → k < r → T (any 512 (leftAfter rows cores k))

@@ -80,9 +80,9 @@ fn collect(table: &[u64], left: &mut [u64], u: usize) -> [u64; 8]
     set
 }
 
-// Makes the first rows of a table of 512 rows of eight words the closures of its cores, each from the smallest core that none before it has found, and
-// gives their count. Row k is written when search k is over: by then no core up to k is left, so no row is lost that is still to be added. Tables of
-// another size are left alone, and the count is 0.
+// Makes the first rows of a table of 512 rows of eight words the closures of its cores, each from the smallest core left, and gives their count. Row k
+// is written when search k is over: by then no core up to k is left, so no row is lost that is still to be added. Tables of another size are left alone,
+// and the count is 0.
 pub fn find_communities(table: &mut [u64], cores: &[u64]) -> usize
     ensures { λ r. ⌜ SearchCall (now (table .entry)) (now (cores .entry)) (now (table .exit)) r ⌝ }
 {

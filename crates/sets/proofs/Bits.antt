@@ -2,6 +2,7 @@
 --
 --     bitOf-and, bitOf-or, bitOf-xor      an operation on words works bit by bit; bitOf-none: 0 has no bit set
 --     differ-self, differ-none            a bit's `xor` with itself and with 0
+--     bitOf-first, bitOf-half             bit 0 is the lowest digit; the other bits are those of the half
 --     bitAt-set-same, bitAt-set-other     the words with bit i set
 --     bitAt-clear-same, bitAt-clear-other the words with bit i cleared
 --     shl-one                             how the code makes 2 ^ k; stored-with, stored-without: how it sets and clears bit i
@@ -182,7 +183,11 @@ sum-first zero f = refl
 sum-first (suc n) f = omega (arith, sum-first n f)
 
 -- ---- the ones of a word are its bits' sum
-bitOf-half : (w k : ℕ) → bitOf w (suc k) ≡ bitOf (w / 2) k
+pub bitOf-first : (w : ℕ) → bitOf w 0 ≡ w % 2
+unfolding bitOf
+bitOf-first w = ap (λ (x : ℕ). x % 2) (div-one w)
+
+pub bitOf-half : (w k : ℕ) → bitOf w (suc k) ≡ bitOf (w / 2) k
 unfolding bitOf
 bitOf-half w k = ap (λ (x : ℕ). w / x % 2) (pow-suc 2 k ∙ mul-comm (2 ^ k) 2) ∙ ap (λ (x : ℕ). x % 2) (sym (div-div-eq-div-mul w 2 (2 ^ k)))
 
@@ -190,10 +195,9 @@ pub ones-sum : (n w : ℕ) → w < 2 ^ n → ones w ≡ sum n (bitOf w)
 unfolding sum bitOf ones
 ones-sum zero w h = ap ones (lt-one h)
 ones-sum (suc n) w h =
-    let low : bitOf w 0 ≡ w % 2 = ap (λ (x : ℕ). x % 2) (div-one w) in
     let rest : sum n (λ (k : ℕ). bitOf w (suc k)) ≡ sum n (bitOf (w / 2)) = sum-cong n (λ (k : ℕ). bitOf w (suc k)) (bitOf (w / 2)) (λ k l. bitOf-half w k) in
     let half : w / 2 < 2 ^ n = shr-lt n 1 (subst (λ (x : ℕ). w < 2 ^ x) (sym (add-one n)) h) in
-    omega (arith, sum-first n (bitOf w), ones-step w, ones-sum n (w / 2) half)
+    omega (arith, sum-first n (bitOf w), bitOf-first w, rest, ones-step w, ones-sum n (w / 2) half)
 
 -- the ones of an and are the places where both have a one
 pub ones-and : (n x y : ℕ) → x < 2 ^ n → y < 2 ^ n → ones (bitAnd x y) ≡ sum n (λ (k : ℕ). min (bitOf x k) (bitOf y k))

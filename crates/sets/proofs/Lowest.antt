@@ -1,7 +1,6 @@
 -- The lowest set bit of a word, which `u64::trailing_zeros` finds.
 --
 --     Lowest w t     t is the place of the lowest set bit of w
---     bitOf-first    bit 0 is the lowest digit; bitOf-half: the other bits are those of the half
 --     lowest         the number of trailing zeros of a word that is not 0 is that place
 --     cleared w      w with its lowest set bit cleared, as the code makes it
 --     cleared-lt, cleared-le, cleared-same, cleared-other, cleared-falls     it fits, has no other bit than w, not the lowest, and one bit less
@@ -9,27 +8,19 @@ use Prim.Native.Nat.{ℕ, zero, suc, _-_, _/_, _%_, _^_, _≤_, _<_, min}
 use mathlib.Core.Path.{_≡_, refl, sym, ap, _∙_, subst}
 use native.Mathlib.Omega.{arith}
 use native.Mathlib.Numerals.{add-one}
-use native.Mathlib.Nat.{mod-lt, zero-lt-suc, div-one, pow-suc, mul-comm, div-div-eq-div-mul}
+use native.Mathlib.Nat.{mod-lt, zero-lt-suc}
 use lib.Arith.{lt-one}
 use lib.Pow.{shr-lt}
 use lib.Bits.{bitAnd, and-lt}
 use lib.Count.{trailingZeros, under}
 use Rattle.sets.specs.Below.{sum}
 use Rattle.sets.specs.Bits.{bitOf}
-use Rattle.sets.proofs.Bits.{bitOf-and, sum-drop}
+use Rattle.sets.proofs.Bits.{bitOf-and, bitOf-first, bitOf-half, sum-drop}
 
 -- t is the place of the lowest set bit of w
 pub record Lowest (w t : ℕ) : Type 0 where
   pub here : bitOf w t ≡ 1
   pub lower : (j : ℕ) → j < t → bitOf w j ≡ 0
-
-pub bitOf-first : (w : ℕ) → bitOf w 0 ≡ w % 2
-unfolding bitOf
-bitOf-first w = ap (λ (x : ℕ). x % 2) (div-one w)
-
-pub bitOf-half : (w k : ℕ) → bitOf w (suc k) ≡ bitOf (w / 2) k
-unfolding bitOf
-bitOf-half w k = ap (λ (x : ℕ). w / x % 2) (pow-suc 2 k ∙ mul-comm (2 ^ k) 2) ∙ ap (λ (x : ℕ). x % 2) (sym (div-div-eq-div-mul w 2 (2 ^ k)))
 
 lower-more : (w t : ℕ) → w % 2 ≡ 0 → Lowest (w / 2) t → (j : ℕ) → j < suc t → bitOf w j ≡ 0
 lower-more w t e l zero h = bitOf-first w ∙ e

@@ -13,8 +13,8 @@ use lib.ListN.{getD}
 use lib.Bits.{bitXor, xor-lt, differ}
 use lib.Pow.{shr-lt, pow-lt}
 use Rattle.sets.specs.Bits.{bitOf, cell}
-use Rattle.sets.proofs.Bits.{bitOf-lt, bitOf-xor, bitOf-pow-same, bitOf-pow-other, differ-self, cell-word}
-use Rattle.sets.proofs.Lowest.{Lowest, bitOf-first, bitOf-half, cleared, cleared-lt, cleared-same, cleared-other}
+use Rattle.sets.proofs.Bits.{bitOf-lt, bitOf-first, bitOf-half, bitOf-xor, bitOf-pow-same, bitOf-pow-other, differ-self, cell-word}
+use Rattle.sets.proofs.Lowest.{Lowest, cleared, cleared-lt, cleared-same, cleared-other}
 
 half-lt : (n y : ℕ) → y < 2 ^ suc n → y / 2 < 2 ^ n
 half-lt n y b = shr-lt n 1 (subst (λ (z : ℕ). y < 2 ^ z) (sym (add-one n)) b)

@@ -1,6 +1,5 @@
 -- What words of bits hold.
 --
---     WordOf w f           a word holds the k below 64 that pass f
 --     SetOf ws f           eight words hold the v below 512 that pass f
 --     Table rows f         rows of eight words hold the relation f between numbers below 512
 --     Counted rows sizes   the sizes are those of the rows
@@ -10,10 +9,7 @@ use mathlib.Core.Bool.{Bool}
 use mathlib.Core.List.{List}
 use lib.ListN.{length, getD}
 use Rattle.sets.specs.Below.{bit, sum}
-use Rattle.sets.specs.Bits.{bitOf, bitAt, cell}
-
-pub record WordOf (w : ℕ) (f : ℕ → Bool) : Type 0 where
-  pub bits : (k : ℕ) → k < 64 → bitOf w k ≡ bit (f k)
+use Rattle.sets.specs.Bits.{bitAt, cell}
 
 pub record SetOf (ws : List ℕ) (f : ℕ → Bool) : Type 0 where
   pub size : length ws ≡ 8

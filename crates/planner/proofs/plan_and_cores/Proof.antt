@@ -18,7 +18,7 @@ read c = c .before .before .before
 abbrev opened : tie.After-cores → tie.After-opened
 opened c = c .before .before .before .before .before
 
-abbrev found : tie.After-cores2 → tie.After-find-communities
+abbrev found : tie.After-cores2 → tie.After-find-site-communities
 found c = c .before .before .before .before
 
 abbrev written : tie.After-slice-known4 → tie.After-write-plan
@@ -52,20 +52,20 @@ returns c =
     let e = told-no (r .open-neighbours .ensures) (told .0 .0) (c .refusal-of .result) (told .1) (c .refusal-of .ensures) in
     (plan-refused (now (a .image)) (c .refusal-of .result) e (now (a .starts)) (now (a .members)), cores-refused (now (a .image)) (c .refusal-of .result) e)
 
-slice-aggregate-find-communities : tie.Need-slice-aggregate-find-communities
-slice-aggregate-find-communities c = search needs
+slice-aggregate-find-site-communities : tie.Need-slice-aggregate-find-site-communities
+slice-aggregate-find-site-communities c = search needs
 
-slice-aggregate-find-communities-2 : tie.Need-slice-aggregate-find-communities-2
-slice-aggregate-find-communities-2 c = search needs
+slice-aggregate-find-site-communities-2 : tie.Need-slice-aggregate-find-site-communities-2
+slice-aggregate-find-site-communities-2 c = search needs
 
-slice-aggregate-find-communities-3 : tie.Need-slice-aggregate-find-communities-3
-slice-aggregate-find-communities-3 c = search needs
+slice-aggregate-find-site-communities-3 : tie.Need-slice-aggregate-find-site-communities-3
+slice-aggregate-find-site-communities-3 c = search needs
 
-slice-aggregate-find-communities-4 : tie.Need-slice-aggregate-find-communities-4
-slice-aggregate-find-communities-4 c = search needs
+slice-aggregate-find-site-communities-4 : tie.Need-slice-aggregate-find-site-communities-4
+slice-aggregate-find-site-communities-4 c = search needs
 
-find-communities-requires : tie.Need-find-communities-requires
-find-communities-requires c κs = let o = opened c in (at-hand o, read o .open-neighbours .ensures .room, refl)
+find-site-communities-requires : tie.Need-find-site-communities-requires
+find-site-communities-requires c κs = let o = opened c in (at-hand o, read o .open-neighbours .ensures .room, refl)
 
 slice-aggregate-write-plan : tie.Need-slice-aggregate-write-plan
 slice-aggregate-write-plan c = search needs
@@ -86,8 +86,8 @@ returns-2 c =
     let o = opened (f .before) in
     let a = start (read o) .args in
     let ok = at-hand o .accepted in (
-      plan-found (now (a .image)) ok (f .find-communities .ensures .1) (now (a .starts)) (now (a .members)) _ _ _ (w .write-plan .ensures),
-      cores-found (now (a .image)) ok (f .find-communities .ensures .0),
+      plan-found (now (a .image)) ok (f .find-site-communities .ensures .1) (now (a .starts)) (now (a .members)) _ _ _ (w .write-plan .ensures),
+      cores-found (now (a .image)) ok (f .find-site-communities .ensures .0),
     )
 
 pub plan-and-cores-spec : {M : Type 1} → statement M
@@ -100,11 +100,11 @@ plan-and-cores-spec =
     enum-told
     refusal-of-requires
     returns
-    slice-aggregate-find-communities
-    slice-aggregate-find-communities-2
-    slice-aggregate-find-communities-3
-    slice-aggregate-find-communities-4
-    find-communities-requires
+    slice-aggregate-find-site-communities
+    slice-aggregate-find-site-communities-2
+    slice-aggregate-find-site-communities-3
+    slice-aggregate-find-site-communities-4
+    find-site-communities-requires
     slice-aggregate-write-plan
     write-plan-requires
     same-length

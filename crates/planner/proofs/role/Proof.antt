@@ -27,7 +27,7 @@ opened c = c .before .before .before
 abbrev asked : tie.After-cores → tie.Else1
 asked c = c .before .before .before .before
 
-abbrev found : tie.After-role-in → tie.After-find-communities
+abbrev found : tie.After-role-in → tie.After-find-site-communities
 found c = c .before .before .before .before .before .before .before
 
 -- what was left of an accepted image
@@ -77,20 +77,20 @@ mul-neighbours c = search needs
 array-read-neighbours : tie.Need-array-read-neighbours
 array-read-neighbours c = omega (arith, below c, handsets-most (now (start (read (opened c)) .args .image)) (at-hand (opened c) .accepted))
 
-slice-aggregate-find-communities : tie.Need-slice-aggregate-find-communities
-slice-aggregate-find-communities c = search needs
+slice-aggregate-find-site-communities : tie.Need-slice-aggregate-find-site-communities
+slice-aggregate-find-site-communities c = search needs
 
-slice-aggregate-find-communities-2 : tie.Need-slice-aggregate-find-communities-2
-slice-aggregate-find-communities-2 c = search needs
+slice-aggregate-find-site-communities-2 : tie.Need-slice-aggregate-find-site-communities-2
+slice-aggregate-find-site-communities-2 c = search needs
 
-slice-aggregate-find-communities-3 : tie.Need-slice-aggregate-find-communities-3
-slice-aggregate-find-communities-3 c = search needs
+slice-aggregate-find-site-communities-3 : tie.Need-slice-aggregate-find-site-communities-3
+slice-aggregate-find-site-communities-3 c = search needs
 
-slice-aggregate-find-communities-4 : tie.Need-slice-aggregate-find-communities-4
-slice-aggregate-find-communities-4 c = search needs
+slice-aggregate-find-site-communities-4 : tie.Need-slice-aggregate-find-site-communities-4
+slice-aggregate-find-site-communities-4 c = search needs
 
-find-communities-requires : tie.Need-find-communities-requires
-find-communities-requires c κs = let o = opened (asked c) in (at-hand o, read o .open-neighbours .ensures .room, refl)
+find-site-communities-requires : tie.Need-find-site-communities-requires
+find-site-communities-requires c κs = let o = opened (asked c) in (at-hand o, read o .open-neighbours .ensures .room, refl)
 
 slice-aggregate-role-in : tie.Need-slice-aggregate-role-in
 slice-aggregate-role-in c = search needs
@@ -110,7 +110,7 @@ returns-3 c =
     let r = at-hand (opened e) in
     known-found image (r .accepted) (a .v) (below e) (record { neighbours = _; role = c .role-in .result })
     (neighbour-sizes image _ (r .accepted) (r .header) r (a .v) (below e))
-    (c .role-in .ensures ∙ ap roleValues (role-found image (r .accepted) (f .find-communities .ensures .0) (f .find-communities .ensures .1) (a .v) (below e)))
+    (c .role-in .ensures ∙ ap roleValues (role-found image (r .accepted) (f .find-site-communities .ensures .0) (f .find-site-communities .ensures .1) (a .v) (below e)))
 
 pub role-spec : {M : Type 1} → statement M
 role-spec =
@@ -126,11 +126,11 @@ role-spec =
     returns-2
     mul-neighbours
     array-read-neighbours
-    slice-aggregate-find-communities
-    slice-aggregate-find-communities-2
-    slice-aggregate-find-communities-3
-    slice-aggregate-find-communities-4
-    find-communities-requires
+    slice-aggregate-find-site-communities
+    slice-aggregate-find-site-communities-2
+    slice-aggregate-find-site-communities-3
+    slice-aggregate-find-site-communities-4
+    find-site-communities-requires
     slice-aggregate-role-in
     slice-aggregate-role-in-2
     role-in-requires

@@ -10,10 +10,10 @@ use lib.Bits.{bitXor, xor-lt}
 use lib.Dec.{T, ltb, lt→ltb, ltb→lt}
 use lib.ListN.{length, length-replicate}
 use borrow.Author.Needs.{needs}
-use Rattle.sets.specs.Rows.{WordOf, Counted}
+use Rattle.sets.specs.Rows.{Counted}
 use Rattle.sets.proofs.Tests.{and-left, T-ext}
 use Rattle.image.specs.Rows.{Room}
-use Rattle.planner.specs.Held.{EdgeSet, isShort, Dropped}
+use Rattle.planner.specs.Held.{WordOf, EdgeSet, isShort, Dropped}
 use Rattle.planner.proofs.Words.{word-cong, others-word, filled-none, filled-more, filled-end}
 use Rattle.planner.proofs.Edges.{word-passes, dropped-start, dropped-word, dropped-end}
 use Rattle.planner.proofs.graph.drop_long.Statement.{statement}

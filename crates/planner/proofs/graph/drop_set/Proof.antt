@@ -8,10 +8,10 @@ use lib.Dec.{T, ltb, eqb, eqb→eq}
 use lib.ListN.{getD}
 use borrow.Author.Needs.{needs}
 use Rattle.sets.specs.Bits.{bitAt}
-use Rattle.sets.specs.Rows.{WordOf, Counted}
+use Rattle.sets.specs.Rows.{Counted}
 use Rattle.sets.proofs.Bits.{bitAt-lt}
 use Rattle.image.specs.Rows.{Room}
-use Rattle.planner.specs.Held.{Dropped}
+use Rattle.planner.specs.Held.{WordOf, Dropped}
 use Rattle.planner.proofs.Words.{bit-of, word-at}
 use Rattle.planner.proofs.Edges.{word-passes, dropped-start, dropped-word, dropped-end}
 use Rattle.planner.proofs.graph.drop_set.Statement.{statement}

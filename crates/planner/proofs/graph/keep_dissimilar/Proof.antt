@@ -8,10 +8,9 @@ use lib.Dec.{eqb, eqb→eq}
 use lib.ListN.{getD}
 use borrow.Author.Needs.{needs}
 use Rattle.sets.specs.Bits.{bitAt}
-use Rattle.sets.specs.Rows.{WordOf}
 use Rattle.sets.proofs.Tests.{and-left}
 use Rattle.image.specs.Image.{endA, endB}
-use Rattle.planner.specs.Held.{EdgeSet, enough}
+use Rattle.planner.specs.Held.{WordOf, EdgeSet, enough}
 use Rattle.planner.proofs.Words.{word-at, partly, partly-start, partly-on, partly-end}
 use Rattle.planner.proofs.Edges.{word-passes}
 use Rattle.planner.proofs.graph.keep_dissimilar.Statement.{statement}

@@ -12,9 +12,10 @@ use lib.ListN.{length, getD, length-set, length-replicate}
 use borrow.Author.Needs.{needs}
 use Rattle.sets.specs.Below.{bit}
 use Rattle.sets.specs.Bits.{bitAt}
-use Rattle.sets.specs.Rows.{WordOf, SetOf}
+use Rattle.sets.specs.Rows.{SetOf}
 use Rattle.sets.proofs.Bits.{bitAt-zeros}
 use Rattle.sets.proofs.Counting.{bit-true, bit-false}
+use Rattle.planner.specs.Held.{WordOf}
 use Rattle.planner.proofs.Words.{passed-none, passed-new, passed-self, passed-other, word-at, word-put, put-word}
 use Rattle.planner.proofs.graph.mark_cores.Statement.{statement}
 use Rattle.planner.proofs.graph.mark_cores.Tie as tie

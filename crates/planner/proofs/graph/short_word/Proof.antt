@@ -8,8 +8,7 @@ use mathlib.Core.Bool.{Bool, _&&_}
 use lib.Dec.{ltb}
 use borrow.Author.Needs.{needs}
 use Rattle.sets.specs.Below.{bit}
-use Rattle.sets.specs.Rows.{WordOf}
-use Rattle.planner.specs.Held.{isShort}
+use Rattle.planner.specs.Held.{WordOf, isShort}
 use Rattle.planner.proofs.Words.{passed-none, passed-new, passed-self, passed-other, word-none, word-put}
 use Rattle.planner.proofs.graph.short_word.Statement.{statement}
 use Rattle.planner.proofs.graph.short_word.Tie as tie

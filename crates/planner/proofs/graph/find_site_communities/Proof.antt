@@ -1,12 +1,12 @@
--- `planner::graph::find_communities` meets its contract. The edges dropped are just those of the neighbour table whose ends are not similar; without them the
+-- `planner::graph::find_site_communities` meets its contract. The edges dropped are just those of the neighbour table whose ends are not similar; without them the
 -- table is that of the similarity relation, and its sizes tell the cores. The search over these two finds the communities.
 use native.Mathlib.Omega.{arith}
 use mathlib.Core.Path.{_∙_}
 use borrow.Author.Needs.{needs}
 use Rattle.search.proofs.Communities.{search-grouped}
 use Rattle.planner.proofs.GraphLaws.{Read, header-is, short-ready, dissimilar-ready, surveyed}
-use Rattle.planner.proofs.graph.find_communities.Statement.{statement}
-use Rattle.planner.proofs.graph.find_communities.Tie as tie
+use Rattle.planner.proofs.graph.find_site_communities.Statement.{statement}
+use Rattle.planner.proofs.graph.find_site_communities.Tie as tie
 
 -- ---- the places that the answers speak of: the header's numbers are read; the set of the edges to drop is made; they are dropped; the cores are marked
 abbrev entry : tie.After-struct-known → tie.Start
@@ -117,8 +117,8 @@ returns c =
     (k .before .before .core-size .ensures) (k .mark-cores .ensures) in
     (found .core-set, search-grouped found (d .drop-set .kept .1 .1 .1 .0 ∙ s .pre .1 .0) (f .find-communities .ensures))
 
-pub find-communities-spec : {M : Type 1} → statement M
-find-communities-spec =
+pub find-site-communities-spec : {M : Type 1} → statement M
+find-site-communities-spec =
     tie.close
     (tie.spec
     cast-m
