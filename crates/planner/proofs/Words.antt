@@ -3,6 +3,7 @@
 --
 --     passed-none, -new, -self, -other     the numbers below k that pass a test: none at first, k not yet, k with one more, and no other; all-below: all of them
 --     word-none, word-put          an empty word, and a word with one bit more, as the code makes it; word-cong: equal tests have equal words
+--     below, below-lt, -first, -rest       a word with one bit more below its own, as the code makes it
 --     bitOf-past, first-bits       a word has no bit from 64 on; the word whose first c bits are set, as the code makes it
 --     others-word                  of the numbers below c, those that a word does not hold
 --     word-at, put-word            a word of a list, and the list with one word put
@@ -21,15 +22,15 @@ use mathlib.Core.Bool.{Bool, true, false, _&&_, _||_, not, and-true}
 use mathlib.Core.List.{List}
 use lib.Dec.{T, leb, ltb, eqb, leb→le, le→leb, ltb→lt, lt→ltb, eqb→eq, T-not, not-T}
 use lib.Arith.{digits-div}
-use lib.Bits.{bitOr, bitXor, differ, or-zero-r}
+use lib.Bits.{bitOr, bitXor, differ, or-lt, or-zero-r}
 use lib.ListN.{length, getD, set, length-set, length-replicate}
-use lib.Pow.{pow-pos, pow-add, ones-lt, ones-split}
+use lib.Pow.{pow-pos, pow-add, shl-exact, ones-lt, ones-split}
 use lib.Seq.{getD-set-same, getD-set-other}
 use Rattle.sets.specs.Below.{bit}
 use Rattle.sets.specs.Bits.{bitOf, bitAt}
 use Rattle.sets.proofs.Tests.{and-make, and-left, and-right, or-right, or-cases, decide, T-ext, T-true, T-false, eqb-of}
 use Rattle.sets.proofs.Counting.{bit-true, bit-false}
-use Rattle.sets.proofs.Bits.{bitOf-lt, bitOf-none, bitOf-set-same, bitOf-set-other, bitOf-xor, bitAt-lt, bitAt-past, bitAt-zeros, shl-one, word-bit, zeros}
+use Rattle.sets.proofs.Bits.{bitOf-lt, bitOf-none, bitOf-or, bitOf-first, bitOf-half, bitOf-set-same, bitOf-set-other, bitOf-xor, bitAt-lt, bitAt-past, bitAt-zeros, shl-one, word-bit, zeros}
 use Rattle.sets.proofs.Lowest.{Lowest, cleared, cleared-lt, cleared-le, cleared-same, cleared-other}
 use Rattle.planner.specs.Held.{WordOf, EdgeSet}
 
@@ -95,6 +96,27 @@ module _ (w k : ℕ) (f g : ℕ → Bool) (hk : k < 64) (new : T (not (f k))) (o
         (λ n. ap (λ (j : ℕ). bitOf (bitOr w (j * 2 ^ k % 2 ^ 64)) i) (e ∙ bit-false (g k) n) ∙ off n i h)
         (decide (g k));
   }
+
+-- ---- a word with one bit more below its own, as the code makes it
+module _ (n w b : ℕ) (h : w < 2 ^ n) (l : n < 64) (small : b < 2) where
+  abbrev pub below : ℕ
+  below = bitOr (w * 2 ^ 1 % 2 ^ 64) b
+
+  doubled : w * 2 ^ 1 % 2 ^ 64 ≡ w * 2
+  doubled = shl-exact {a = w} n 1 64 h (omega (arith, l))
+
+  pub below-lt : below < 2 ^ suc n
+  below-lt = rw doubled (or-lt (suc n) (w * 2) b (omega (arith, pow-suc 2 n, h)) (omega (arith, pow-suc 2 n, h, small)))
+
+  pub below-first : bitOf below 0 ≡ b
+  below-first = rw doubled (omega (arith, bitOf-or (w * 2) b 0, bitOf-first (w * 2), bitOf-first b, small))
+
+  pub below-rest : (i : ℕ) → bitOf below (suc i) ≡ bitOf w i
+  below-rest i =
+      let e : w * 2 / 2 ≡ w = omega arith in
+      let z : b / 2 ≡ 0 = omega (arith, small) in
+      rw doubled
+      (omega (arith, bitOf-or (w * 2) b (suc i), bitOf-half (w * 2) i, ap (λ (x : ℕ). bitOf x i) e, bitOf-half b i, ap (λ (x : ℕ). bitOf x i) z, bitOf-none i))
 
 -- ---- the first bits of a word
 pub bitOf-past : (w k : ℕ) → w < 2 ^ 64 → 64 ≤ k → bitOf w k ≡ 0

@@ -58,21 +58,22 @@ fn is_short<'a>(handsets: &'a [u8], edges: &'a [u8], k: usize, limit: u64) -> bo
     image::within(&handsets[a..a_past], &handsets[b..b_past], limit)
 }
 
-// The edges from `base` on that are no longer than the root of the limit, as a word: of `count` edges, at most 64. It is made without a branch.
+// The edges from `base` on that are no longer than the root of the limit, as a word: of `count` edges, at most 64. It is made from its highest bit
+// down, without a branch on the test.
 fn short_word<'a>(handsets: &'a [u8], edges: &'a [u8], base: usize, count: usize, limit: u64) -> u64
     requires { ⌜ (count ≤ 64) × (base ≤ 4096) × (length (now handsets) ≤ handsetBytes * 512) × ((k : ℕ) → k < count → HasEnds (now edges) (length (now handsets) / handsetBytes) (base + k)) ⌝ }
     ensures { λ r. ⌜ WordOf r (λ k. ltb k count && isShort (now (handsets .entry)) (now (edges .entry)) limit (base + k)) ⌝ }
 {
     let mut word: u64 = 0;
-    let mut k: usize = 0;
-    while k < count {
+    let mut k = count;
+    while 0 < k {
+        k -= 1;
         let one = if is_short(handsets, edges, base + k, limit) {
             1u64
         } else {
             0u64
         };
-        word = word | (one << k);
-        k += 1;
+        word = (word << 1) | one;
     }
     word
 }

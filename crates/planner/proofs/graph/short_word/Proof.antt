@@ -1,70 +1,101 @@
--- `planner::graph::short_word` meets its contract. After k edges the word has those of them that are near: a turn puts the bit of one more. The measure is how
--- many are left.
-use Prim.Native.Nat.{ℕ, _+_, _-_, _≤_}
+-- `planner::graph::short_word` meets its contract. At k the word has the edges from k on that are short, each k places down: a turn puts the bit of one more
+-- below them. The measure is k.
+use Prim.Native.Nat.{ℕ, zero, suc, _+_, _*_, _-_, _%_, _^_, _≤_, _<_}
 use native.Mathlib.Omega.{arith}
-use mathlib.Core.Path.{_≡_, sym, ap, _∙_}
+use mathlib.Core.Path.{_≡_, sym, ap, _∙_, subst}
 use mathlib.Core.Logic.{⊎-elim}
-use mathlib.Core.Bool.{Bool, _&&_}
+use mathlib.Core.Bool.{Bool, true, false, _&&_}
+use lib.Bits.{bitOr}
 use lib.Dec.{ltb}
+use lib.Pow.{pow-pos}
 use borrow.Author.Needs.{needs}
+use borrow.Author.Tests.{lt-ltb, le-ltb}
 use Rattle.sets.specs.Below.{bit}
-use Rattle.planner.specs.Held.{WordOf, isShort}
-use Rattle.planner.proofs.Words.{passed-none, passed-new, passed-self, passed-other, word-none, word-put}
+use Rattle.sets.specs.Bits.{bitOf}
+use Rattle.sets.proofs.Bits.{bitOf-none}
+use Rattle.planner.specs.Held.{isShort}
+use Rattle.planner.proofs.Words.{below-lt, below-first, below-rest}
 use Rattle.planner.proofs.graph.short_word.Statement.{statement}
 use Rattle.planner.proofs.graph.short_word.Tie as tie
 
 abbrev Inv-loop : tie.InvT-loop
-Inv-loop handsets edges base count limit word₀ k₀ word k = (k ≤ count) × WordOf word (λ i. ltb i k && isShort handsets edges limit (base + i))
+Inv-loop handsets edges base count limit word₀ k₀ word k =
+    (k ≤ count) × (word < 2 ^ (count - k)) × ((i : ℕ) → bitOf word i ≡ bit (ltb (k + i) count && isShort handsets edges limit (base + (k + i))))
 
 abbrev μ-loop : tie.MeasureT-loop
-μ-loop handsets edges base count limit word₀ k₀ word k = count - k
+μ-loop handsets edges base count limit word₀ k₀ word k = k
+
+-- the places that the answers speak of
+abbrev start : tie.At-loop Inv-loop μ-loop → tie.Start Inv-loop μ-loop
+start c = c .before .before .before
+
+abbrev turn : tie.Joined1 Inv-loop μ-loop → tie.In-loop Inv-loop μ-loop
+turn c = c .before .before
 
 -- the test of an edge
 abbrev test : tie.At-loop Inv-loop μ-loop → ℕ → Bool
-test c i = let a = c .before .before .before .args in isShort (a .handsets .now) (a .edges .now) (a .limit) (a .base + i)
+test c i = let a = start c .args in isShort (a .handsets .now) (a .edges .now) (a .limit) (a .base + i)
 
 loop-holds : tie.Need-loop-holds Inv-loop μ-loop
 loop-holds c =
-    let a = c .before .before .args in
-    let f : ℕ → Bool = λ i. isShort (a .handsets .now) (a .edges .now) (a .limit) (a .base + i) in
-    (omega arith, word-none (λ i. ltb i 0 && f i) (λ i. passed-none i (f i)))
+    let a = c .before .before .args in (
+      omega arith,
+      pow-pos (a .count - a .count),
+      (λ i.
+      bitOf-none i
+      ∙ sym (ap (λ (b : Bool). bit (b && isShort (a .handsets .now) (a .edges .now) (a .limit) (a .base + (a .count + i)))) (le-ltb (a .count + i) (a .count) (omega arith)))),
+    )
+
+sub-k : tie.Need-sub-k Inv-loop μ-loop
+sub-k c = search needs
 
 add-is-short : tie.Need-add-is-short Inv-loop μ-loop
 add-is-short c = search needs
 
 is-short-requires : tie.Need-is-short-requires Inv-loop μ-loop
-is-short-requires c κs = let s = c .before .before .before .before in (s .pre .2, s .pre .3 (c .before .loop .k) (c .loop-test .taken))
+is-short-requires c κs = let s = start (c .before) in (s .pre .2, s .pre .3 (c .before .loop .k - 1) (omega (arith, c .loop-test .taken, c .before .loop .inv .0)))
 
 -- the bit is the test of the edge
-told : (c : tie.Joined1 Inv-loop μ-loop) → (let l = c .before .before .before in c .if1 .one ≡ bit (test l (l .loop .k)))
+told : (c : tie.Joined1 Inv-loop μ-loop) → (let l = turn c .before in c .if1 .one ≡ bit (test l (l .loop .k - 1)))
 told c =
     let e = c .before .is-short .ensures in
     ⊎-elim (λ w. w .1 ∙ ap bit (sym (w .0 .taken) ∙ e)) (λ w. w .1 ∙ ap bit (sym (w .0 .left) ∙ e)) (c .if1 .came)
 
-shl-word : tie.Need-shl-word Inv-loop μ-loop
-shl-word c = search needs
+bit-small : (b : Bool) → bit b < 2
+bit-small true = omega arith
+bit-small false = omega arith
 
-add-k : tie.Need-add-k Inv-loop μ-loop
-add-k c = search needs
+-- the word with one bit more, each k - 1 places down
+bits : (w b k n : ℕ) (held : ℕ → ℕ) → 0 < k → w < 2 ^ n → n < 64 → b < 2 → b ≡ held (k - 1) → ((i : ℕ) → bitOf w i ≡ held (k + i))
+    → (i : ℕ) → bitOf (bitOr (w * 2 ^ 1 % 2 ^ 64) b) i ≡ held (k - 1 + i)
+bits w b k n held p h l small e rest zero = below-first n w b h l small ∙ e ∙ ap held (let q : k - 1 ≡ k - 1 + 0 = omega arith in q)
+bits w b k n held p h l small e rest (suc i) = below-rest n w b h l small i ∙ rest i ∙ ap held (let q : k + i ≡ k - 1 + suc i = omega arith in q)
 
 loop-less : tie.Need-loop-less Inv-loop μ-loop
 loop-less c = search needs
 
 loop-again : tie.Need-loop-again Inv-loop μ-loop
 loop-again c =
-    let m = c .before .before .before .before in
+    let j = c .before in
+    let m = turn j .before in
     let l = m .loop in
-    let f : ℕ → Bool = test m in (
-      omega arith,
-      word-put (l .word) (l .k) (λ i. ltb i (l .k) && f i) (λ i. ltb i (l .k + 1) && f i) (omega arith) (passed-new (l .k) (f (l .k)))
-          (λ i. passed-other (l .k) i (f i)) (l .inv .1) (c .before .if1 .one) (told (c .before) ∙ sym (ap bit (passed-self (l .k) (f (l .k))))),
+    let n : ℕ = start m .args .count in
+    let held : ℕ → ℕ = λ i. bit (ltb i n && test m i) in
+    let step : n - (l .k - 1) ≡ suc (n - l .k) = omega (arith, turn j .loop-test .taken, l .inv .0) in
+    let room : n - l .k < 64 = omega (arith, turn j .loop-test .taken, l .inv .0, start m .pre .0) in
+    let small : j .if1 .one < 2 = subst (λ (x : ℕ). x < 2) (sym (told j)) (bit-small (test m (l .k - 1))) in (
+      omega (arith, l .inv .0),
+      subst (λ (x : ℕ). bitOr (l .word * 2 ^ 1 % 2 ^ 64) (j .if1 .one) < 2 ^ x) (sym step) (below-lt (n - l .k) (l .word) (j .if1 .one) (l .inv .1) room small),
+      bits (l .word) (j .if1 .one) (l .k) (n - l .k) held (turn j .loop-test .taken) (l .inv .1) room small
+          (told j ∙ sym (ap (λ (b : Bool). bit (b && test m (l .k - 1))) (lt-ltb (l .k - 1) n (omega (arith, turn j .loop-test .taken, l .inv .0))))) (l .inv .2),
     )
 
 returns : tie.Need-returns Inv-loop μ-loop
 returns c =
     let l = c .before .loop in
-    let e : l .k ≡ c .before .before .before .before .args .count = omega arith in
-    rw (← e) (l .inv .1)
+    let n : ℕ = start (c .before) .args .count in
+    let e : (i : ℕ) → l .k + i ≡ i = λ i. omega (arith, c .loop-test .left) in
+    record { bits = λ i h. l .inv .2 i ∙ ap (λ (x : ℕ). bit (ltb x n && test (c .before) x)) (e i) }
 
 pub short-word-spec : {M : Type 1} → statement M
 short-word-spec =
@@ -73,10 +104,9 @@ short-word-spec =
     Inv-loop
     μ-loop
     loop-holds
+    sub-k
     add-is-short
     is-short-requires
-    shl-word
-    add-k
     loop-less
     loop-again
     returns)
