@@ -24,7 +24,7 @@ use Rattle.community.specs.Network.{neighbourhoodSize, isCore, communities, rol
 use Rattle.community.specs.Tables.{startTable, memberTable}
 use Rattle.community.specs.Site.{network}
 use Rattle.community.specs.declared.Standing.{Standing}
-use Rattle.tables.specs.Plan.{byRoom, planned, planAnswer, over}
+use Rattle.tables.specs.Plan.{planned, planAnswer, tableAfter}
 use Rattle.tables.specs.declared.Planned.{Planned}
 use Rattle.tables.specs.declared.Planned.the-variants as P
 use Rattle.planner.specs.declared.Known.{Known}
@@ -42,7 +42,7 @@ planOf s a b = planFor s (openOf s) a b
 
 -- a table after the call: as before where the call is refused
 abbrev pub tableFor : List ℕ → Opened → ℕ → ℕ → List ℕ → List ℕ → List ℕ
-tableFor s (O.Site h) a b new l = byRoom (communitiesOf s) a b l l (over new l)
+tableFor s (O.Site h) a b new l = tableAfter (communitiesOf s) a b new l
 tableFor s (O.Refused r) a b new l = l
 
 unfoldable pub startsAfter : List ℕ → List ℕ → ℕ → List ℕ
