@@ -4,11 +4,19 @@
 --     planOf s a b          the answer for an image and the two tables' lengths: its refusal, 11, 12, or the counts of groups and memberships
 --     startsAfter s l b     the start table after the call, where it was l and the member table has length b
 --     membersAfter s a l    the member table after the call, where it was l and the start table has length a
---     PlanCall              the outcome of a call for a plan: its answer and both tables
---     CoreWords s ws        the set of cores that comes with a plan's answer
+--     PlanCall s ..         the outcome of a call for a plan: its answer and both tables
+--     CoreWords s ws        the set of cores that comes with a plan's answer: eight words that hold it, empty where the image is refused
+--     standing s v          the near count and the role of a handset
 --     knownOf s v           the role call's answer: the image's refusal, 13, or the near count and the role
 --     knownAnswer k         its number, place and values: the near count and the role's values
 --     OneAnswer             the theorem: the number, place and values leave nothing of the role call's answer free (proved in proofs/Answers)
+--
+-- What each says of an image by the reader's answer o, which is the header or the refusal:
+--
+--     planFor s o a b           planOf
+--     tableFor s o a b new l    the table l after the call: it begins with new, or is as it was where the call is refused
+--     coreFor s o v             v is a core of an accepted image
+--     knownFor s o v            knownOf
 use Prim.Native.Nat.{ℕ}
 use mathlib.Core.Path.{_≡_}
 use mathlib.Core.Bool.{Bool, false, _&&_, cond}
@@ -40,7 +48,6 @@ planFor s (O.Refused r) a b = P.Refused r
 unfoldable pub planOf : List ℕ → ℕ → ℕ → Planned
 planOf s a b = planFor s (openOf s) a b
 
--- a table after the call: as before where the call is refused
 abbrev pub tableFor : List ℕ → Opened → ℕ → ℕ → List ℕ → List ℕ → List ℕ
 tableFor s (O.Site h) a b new l = tableAfter (communitiesOf s) a b new l
 tableFor s (O.Refused r) a b new l = l
@@ -57,7 +64,6 @@ pub record PlanCall (s ss ms : List ℕ) (r : Planned) (ss′ ms′ : List ℕ) 
   pub starts : ss′ ≡ startsAfter s ss (length ms)
   pub members : ms′ ≡ membersAfter s (length ss) ms
 
--- eight words that hold the set of cores; empty where the image is refused
 abbrev pub coreFor : List ℕ → Opened → ℕ → Bool
 coreFor s (O.Site h) v = ltb v (h .n) && isCore (network s) v
 coreFor s (O.Refused r) v = false
@@ -65,7 +71,6 @@ coreFor s (O.Refused r) v = false
 abbrev pub CoreWords : List ℕ → List ℕ → Type 0
 CoreWords s ws = SetOf ws (coreFor s (openOf s))
 
--- the near count and the role of a handset
 unfoldable pub standing : List ℕ → ℕ → Standing
 standing s v = record { neighbours = neighbourhoodSize (network s) v; role = role (network s) v }
 
