@@ -1,28 +1,30 @@
 -- The text of a report, and the answers of the calls that write it (paper 01, "Scores, lookup, report").
 --
---     newline                         byte 10, which ends each line
---     headLine h                      line one: n, m, and the plan's two counts
---     scoreText c                     a score: two numbers with a slash between, not reduced; a hyphen for no score
---     scoresPart k c                  what stands before the colon in the line of group k: its number and its scores
---     groupLine k c l                 the line of group k: those, a colon, the group's members
---     listLine word l                 a line of a word and the numbers of a list
---     groupLines s gs k               the lines of the first k groups
---     isOutlier r                     a role is outlier
---     outliers g                      the handsets in no community, ascending
---     headOf s gs                     the numbers of line one, for an image with the communities gs
---     reportWith s gs                 the whole text for an image with the communities gs
---     reportText s                    the whole text for an accepted image: its exact bytes
---     writtenOf t room                the answer for the text t and a buffer of room bytes: 16, or the text's length
---     writtenIn t buffer              the buffer after: it begins with the text and past it holds what it held; as before where the text does not fit
---     reportFor, reportOf s room      the answer for an image and a buffer of room bytes: its refusal, 16, or the text's length; For: by the reader's answer
---     afterFor, textAfter s buffer    every byte of the buffer after the call; For: by the reader's answer
---     reportAnswer r                  the answer's number, place and values: the text's length
---     ReportCall s ..                 the outcome of a call: its answer and the buffer
---     refusedText r                   what the program prints for a refusal: "refused", number, place
---     printed s r                     what the program prints for an answer
---     programText s room              what the report program prints for an input, with a buffer of room bytes; 15 for an input that does not end within
---                                     65,536 bytes
---     OneAnswer                       the theorem: the number, place and values leave nothing of the answer free (proved in proofs/Answers)
+--     newline                byte 10, which ends each line
+--     headLine h             line one: n, m, and the plan's two counts
+--     scoreText c            a score: two numbers with a slash between, not reduced; a hyphen for no score
+--     scoresPart k c         what stands before the colon in the line of group k: its number and its scores
+--     groupLine k c l        the line of group k: those, a colon, the group's members
+--     listLine word l        a line of a word and the numbers of a list
+--     groupLines s gs k      the lines of the first k groups
+--     isOutlier r            the role is that of an outlier
+--     outliers g             the handsets in no community, ascending
+--     headOf s gs            the numbers of line one, for an image with the communities gs
+--     reportWith s gs        the whole text for an image with the communities gs
+--     reportText s           the whole text for an accepted image: its exact bytes
+--     writtenOf t room       the answer for the text t and a buffer of room bytes: 16, or the text's length
+--     writtenIn t buffer     the buffer after: it begins with the text and past it holds what it held; as before where the text does not fit
+--     reportOf s room        the answer for an image and a buffer of room bytes: its refusal, 16, or the text's length
+--     reportFor s o room     the same, by the reader's answer o to the image
+--     textAfter s buffer     every byte of the buffer after the call
+--     afterFor s o buffer    the same, by the reader's answer o
+--     reportAnswer r         the answer's number, place and values: the text's length
+--     ReportCall s ..        the outcome of a call: its answer and the buffer
+--     refusedText r          what the program prints for a refusal: "refused", number, place
+--     printed s r            what the program prints for an answer
+--     programText s room     what the report program prints for an input, with a buffer of room bytes; 15 for an input that does not end within
+--                            65,536 bytes
+--     OneAnswer              the theorem: the number, place and values leave nothing of the answer free (proved in proofs/Answers)
 use Prim.Native.Nat.{ℕ, zero, suc}
 use mathlib.Core.Path.{_≡_}
 use mathlib.Core.Bool.{Bool, true, false, cond}
