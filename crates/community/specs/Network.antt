@@ -1,16 +1,31 @@
 -- The density-based communities of a network (source document 003, 3.2 to 3.12; paper 01, "Near, alike, core" and "Reached, and the groups").
 --
+--     Network                   n handsets, who is a neighbour of whom, epsilon as p/q, and mu
 --     neighbourhoodSize g u     the size of u's neighbourhood, u included (paper 01: of its near set)
 --     commonNeighbours g u v    how many are in both neighbourhoods
---     similar g u v             neighbours with c² q² ≥ p² a b (paper 01: alike)
+--     meetsEpsilon p q c a b    c / √(a b) ≥ p / q, in whole numbers: c² q² ≥ p² a b
+--     similar g u v             neighbours that meet epsilon: c in common, in neighbourhoods of a and b (paper 01: alike)
 --     isCore g u                at least mu handsets, u among them, are similar to u
---     Reachable g u v           a chain of one or more steps from u to v, each from a core to a handset similar to it (paper 01: reached)
---     reachable g u v           the same as a test
+--     cores g                   the cores, ascending
+--     step g u v                u is a core, and v is similar to it
+--     Reachable g u v           a chain of one or more steps from u to v (paper 01: reached)
+--     IsCommunity g P           P is a community: it has a core, each two members are reachable from some one handset, and it is closed
+--                               (paper 01: a group)
+--     chain st k u v            a chain of steps st from u to v whose inner handsets, if it has any, are all below k
+--     reachable g u v           Reachable as a test
 --     ReachableTest             the theorem: the test passes exactly when there is a chain (proved in proofs/Reachability)
---     IsCommunity g P           P is a community: it has a core, each two members are reachable from some one handset, and it is closed (paper 01: a group)
---     communities g             the communities by their smallest core, the members of each ascending (proofs/Communities: listed exactly when IsCommunity)
+--     isLeader g u              u is the smallest core of its community: a core that no smaller handset reaches
+--     leaders g                 the leaders, ascending
+--     members g u               the community of a leader, ascending
+--     communities g             the communities by their smallest core (proofs/Communities: listed exactly when IsCommunity)
+--     contains v l              whether v stands in a list
+--     communityNumber v gs      the number of the first list that contains v
+--     membershipCount v gs      how many of the lists contain v
+--     borderOf k                the role of a handset that is no core and is in k communities: border with k, or outlier where k is 0
+--     roleAmong gs core v       the role of v among the communities gs, by whether it is a core
 --     role g v                  core with its community's number, border with the count of its communities, or outlier
 --     roleValues r              a role's values: its kind (0 core, 1 border, 2 outlier), then that number or count, 0 for an outlier
+--                               (OneAnswer of tables/specs/Plan: two roles with the same values are the same)
 use Prim.Native.Nat.{ℕ, zero, suc, _+_, _*_, _<_}
 use mathlib.Core.Bool.{Bool, false, _&&_, _||_, not, cond}
 use mathlib.Core.List.{List, [], _∷_, map}
@@ -20,7 +35,6 @@ use Rattle.sets.specs.Below.{any, count, select, bit}
 use Rattle.community.specs.declared.Role.{Role}
 use Rattle.community.specs.declared.Role.the-variants.{Core, Border, Outlier}
 
--- n handsets, who is a neighbour of whom, epsilon as p/q, and mu
 pub record Network : Type 0 where
   pub n : ℕ
   pub neighbour : ℕ → ℕ → Bool
@@ -36,7 +50,6 @@ unfoldable pub commonNeighbours : Network → ℕ → ℕ → ℕ
 unfolding count
 commonNeighbours g u v = count (g .n) (λ w. g .neighbour u w && g .neighbour v w)
 
--- c / √(a b) ≥ p / q, in whole numbers
 unfoldable pub meetsEpsilon : ℕ → ℕ → ℕ → ℕ → ℕ → Bool
 meetsEpsilon p q c a b = leb (p * p * (a * b)) (c * c * (q * q))
 
@@ -62,7 +75,6 @@ pub record IsCommunity (g : Network) (P : ℕ → Type 0) : Type 0 where
   pub together : (v w : ℕ) → P v → P w → (u : ℕ) × Reachable g u v × Reachable g u w
   pub closed : (v w : ℕ) → P v → Reachable g v w → P w
 
--- a chain from u to v whose inner handsets, if it has any, are all below k
 unfoldable pub chain : (ℕ → ℕ → Bool) → ℕ → ℕ → ℕ → Bool
 chain st zero u v = st u v
 chain st (suc k) u v = chain st k u v || (chain st k u k && chain st k k v)
@@ -74,12 +86,10 @@ reachable g u v = chain (step g) (g .n) u v
 pub record ReachableTest : Type 0 where
   pub exactly : (g : Network) (u v : ℕ) → u < g .n → v < g .n → T (reachable g u v) ↔ Reachable g u v
 
--- the smallest core of its community: a core that no smaller handset reaches
 unfoldable pub isLeader : Network → ℕ → Bool
 unfolding isCore any reachable
 isLeader g u = isCore g u && not (any u (λ w. reachable g w u))
 
--- the community of a leader
 unfoldable pub members : Network → ℕ → List ℕ
 unfolding select reachable
 members g u = select (g .n) (reachable g u)
@@ -96,29 +106,24 @@ unfoldable pub cores : Network → List ℕ
 unfolding select isCore
 cores g = select (g .n) (isCore g)
 
--- whether v stands in a list
 unfoldable pub contains : ℕ → List ℕ → Bool
 contains v [] = false
 contains v (x ∷ xs) = eqb v x || contains v xs
 
--- the number of the first list that contains v
 unfoldable pub communityNumber : ℕ → List (List ℕ) → ℕ
 unfolding contains
 communityNumber v [] = 0
 communityNumber v (x ∷ xs) = cond (contains v x) 0 (suc (communityNumber v xs))
 
--- how many of the lists contain v
 unfoldable pub membershipCount : ℕ → List (List ℕ) → ℕ
 unfolding contains
 membershipCount v [] = 0
 membershipCount v (x ∷ xs) = bit (contains v x) + membershipCount v xs
 
--- no core: a border with the count of its communities, or an outlier in none
 abbrev pub borderOf : ℕ → Role
 borderOf zero = Outlier
 borderOf (suc k) = Border (suc k)
 
--- the role of v among the communities gs, by whether it is a core
 abbrev pub roleAmong : List (List ℕ) → Bool → ℕ → Role
 roleAmong gs core v = cond core (Core (communityNumber v gs)) (borderOf (membershipCount v gs))
 

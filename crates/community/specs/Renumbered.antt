@@ -1,5 +1,11 @@
--- A renumbered image (paper 01, "Reached, and the groups"): the same header and length; each handset record whole at the place that the map gives
--- its number; each edge record once, both ends mapped, the records in any order and the two ends in either. Gap bytes may be anything.
+-- An image whose handsets are renumbered, and what is the same of it (paper 01, "Reached, and the groups").
+--
+--     SamePair a b c d    the two numbers a and b are c and d, in either order
+--     Renumbered s t      t is the image s renumbered: the same header and length; each handset record whole at the place that the map gives its
+--                         number; each edge record once, both ends mapped, the records in any order and the two ends in either; gap bytes may be
+--                         anything
+--     NumberedBack r Q    the set Q numbered back: v is in it where the number that the map took v to is in Q
+--     SameRole            the same role, but for the number of a core's community
 use Prim.Native.Nat.{ℕ, _+_, _*_, _<_}
 use mathlib.Core.Path.{_≡_}
 use mathlib.Core.Logic.{_⊎_}
@@ -11,7 +17,6 @@ use Rattle.image.specs.Image.{handsetCount, edgeCount, handsetRecords, edgeReco
 use Rattle.community.specs.declared.Role.{Role}
 use Rattle.community.specs.declared.Role.the-variants.{Core, Border, Outlier}
 
--- the two numbers a and b are c and d, in either order
 abbrev pub SamePair : ℕ → ℕ → ℕ → ℕ → Type 0
 SamePair a b c d = ((a ≡ c) × (b ≡ d)) ⊎ ((a ≡ d) × (b ≡ c))
 
@@ -26,11 +31,9 @@ pub record Renumbered (s t : List ℕ) : Type 0 where
       → SamePair (endA (edgeRecords t) (order .to k)) (endB (edgeRecords t) (order .to k))
       (map .to (endA (edgeRecords s) k)) (map .to (endB (edgeRecords s) k))
 
--- a set numbered back: v is in it where the number that the map took v to is in Q
 abbrev pub NumberedBack : {n : ℕ} → Renumbering n → (ℕ → Type 0) → ℕ → Type 0
 NumberedBack {n} r Q v = (v < n) × Q (r .to v)
 
--- the same role, but for the number of a core's community
 pub data SameRole : Role → Role → Type 0 where
   both-core : {i j : ℕ} → SameRole (Core i) (Core j)
   both-border : {k : ℕ} → SameRole (Border k) (Border k)

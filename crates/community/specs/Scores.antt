@@ -1,11 +1,13 @@
 -- The scores of a list of handsets (source document 003, 5.3; paper 01, "Scores, lookup, report"). The edges that count are those whose number passes a
 -- test; for the paper's t and o that is every edge.
 --
---     pairs l                s, the count of all pairs of places in l
---     everyEdge              the test that every edge passes
---     joinedBy s test u v    u and v are the two ends of an edge that passes; with every edge, u and v are adjacent (the paper: tied)
---     joinedPairs s test l   t, the count of pairs of places whose handsets are joined so
---     leaving s test l       o, the count of edges that pass and have just one end in l
+--     countPairs n f          how many pairs of places i < j of a list of length n pass
+--     pairs l                 s, the count of all pairs of places in l
+--     everyEdge               the test that every edge passes
+--     joinedBy s test u v     u and v are the two ends of an edge that passes; with every edge, u and v are adjacent (the paper: tied)
+--     joinedPairs s test l    t, the count of pairs of places whose handsets are joined so
+--     justOne a b             one of two tests passes, and the other does not
+--     leaving s test l        o, the count of edges that pass and have just one end in l
 --
 -- Density is (s - t) / s and conductance o / (2 t + o), neither reduced. The laws are in proofs/Tallying of the crate `scores`.
 use Prim.Native.Nat.{ℕ}
@@ -16,7 +18,6 @@ use Rattle.sets.specs.Below.{any, count, sum}
 use Rattle.image.specs.Image.{edgeCount, edgeRecords, endA, endB, joins}
 use Rattle.community.specs.Network.{contains}
 
--- how many pairs of places i < j of a list of the given length pass
 unfoldable pub countPairs : ℕ → (ℕ → ℕ → Bool) → ℕ
 unfolding count sum
 countPairs n f = sum n (λ j. count j (λ i. f i j))

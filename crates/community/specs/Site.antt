@@ -1,4 +1,6 @@
 -- The network of a site image.
+--
+--     network s    the image's handsets, neighbours, epsilon and mu
 use mathlib.Core.List.{List}
 use Prim.Native.Nat.{ℕ}
 use Rattle.image.specs.Image.{handsetCount, neighbour, epsilonNum, epsilonDen, mu}

@@ -1,7 +1,8 @@
 -- The two tables of a plan (paper 01, "Reached, and the groups").
 --
---     startTable gs     the place of each community's first member, then the count of memberships
---     memberTable gs    the members of each community, one community after the other
+--     startsFrom k gs    the place of each community's first member, where the first one's is k, then the place past the last member
+--     startTable gs      those from 0 on: the last is the count of memberships
+--     memberTable gs     the members of each community, one community after the other
 use Prim.Native.Nat.{ℕ, _+_}
 use mathlib.Core.List.{List, [], _∷_, _++_}
 use lib.ListN.{length}

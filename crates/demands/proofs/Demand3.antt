@@ -6,7 +6,7 @@ use mathlib.Core.Path.{_≡_, refl, sym, ap, ap₂, _∙_, subst}
 use mathlib.Core.Logic.{_↔_}
 use mathlib.Core.Bool.{Bool, true, false, cond}
 use mathlib.Core.List.{List, [], _∷_, _++_, List·Memᴰ}
-use lib.Dec.{T, ltb, leb, lt→ltb, ltb→lt, le→leb, leb→le}
+use lib.Dec.{T, ltb, leb, lt→ltb, ltb→lt, leb→le}
 use lib.ListN.{length, getD, drop}
 use Rattle.sets.proofs.Tests.{T-true}
 use Rattle.sets.proofs.Counting.{inverse}
@@ -24,10 +24,11 @@ use Rattle.community.proofs.Tables.{table-community}
 use Rattle.community.proofs.Site.{accepted-sound}
 use Rattle.community.proofs.Bound.{memberships-bound}
 use Rattle.community.proofs.RenumberSite.{accepted-too, same-handsets, image-communities, image-memberships, image-roles, image-neighbours, community-numbered-back, community-numbered-on}
-use Rattle.tables.specs.Plan.{made, planned, planAnswer, byRoom, over}
+use Rattle.tables.specs.Plan.{made, planned, planAnswer, over}
 use Rattle.tables.proofs.Answers.{plan-same}
-use Rattle.planner.specs.Plan.{PlanCall, communitiesOf, planOf, startsAfter, membersAfter, planFor, tableFor, knownOf, knownFor, knownAnswer, standing}
+use Rattle.planner.specs.Plan.{PlanCall, communitiesOf, planOf, planFor, knownOf, knownFor, knownAnswer, standing}
 use Rattle.planner.proofs.Answers.{known-same}
+use Rattle.planner.proofs.Calls.{plan-made, starts-made, members-made}
 use Rattle.tables.specs.declared.Planned.{Planned}
 use Rattle.tables.specs.declared.Planned.the-variants as P
 use Rattle.planner.specs.declared.Known.{Known}
@@ -35,38 +36,10 @@ use Rattle.planner.specs.declared.Known.the-variants.{Handset, Refused}
 use Rattle.demands.specs.Demand3 as D
 use Rattle.demands.specs.Demand3.{group, ListedAs, Plan, SameStanding, Again, LongEnough, Demand3}
 
--- ---- what an accepted image and tables long enough make of a call
+-- ---- what a call answers
 
 answer-is : {s ss ms : List ℕ} {a : Planned} {ss′ ms′ : List ℕ} → PlanCall s ss ms a ss′ ms′ → a ≡ planOf s (length ss) (length ms)
 answer-is call = plan-same _ _ (call .answer)
-
-module _ (s ss ms : List ℕ) (ok : Accepted s) (room : LongEnough s ss ms) where
-  room-1 : ltb (length (communitiesOf s)) (length ss) ≡ true
-  room-1 = T-true (ltb (length (communitiesOf s)) (length ss)) (lt→ltb (length (communitiesOf s)) (length ss) (omega (arith, room .0)))
-
-  room-2 : leb (length (memberTable (communitiesOf s))) (length ms) ≡ true
-  room-2 = T-true (leb (length (memberTable (communitiesOf s))) (length ms)) (le→leb (length (memberTable (communitiesOf s))) (length ms) (room .1))
-
-  by-room : {X : Type 0} (a b c : X) → byRoom (communitiesOf s) (length ss) (length ms) a b c ≡ c
-  by-room a b c = rw (room-1, room-2)
-
-  plan-made : planOf s (length ss) (length ms) ≡ made (length (communitiesOf s)) (length (memberTable (communitiesOf s)))
-  unfolding planOf
-  plan-made =
-      ap (λ (o : Opened). planFor s o (length ss) (length ms)) (opened s ok)
-      ∙ by-room (P.Refused (refusal 11)) (P.Refused (refusal 12)) (made (length (communitiesOf s)) (length (memberTable (communitiesOf s))))
-
-  pub starts-made : startsAfter s ss (length ms) ≡ over (startTable (communitiesOf s)) ss
-  unfolding startsAfter
-  starts-made =
-      ap (λ (o : Opened). tableFor s o (length ss) (length ms) (startTable (communitiesOf s)) ss) (opened s ok)
-      ∙ by-room ss ss (over (startTable (communitiesOf s)) ss)
-
-  pub members-made : membersAfter s (length ss) ms ≡ over (memberTable (communitiesOf s)) ms
-  unfolding membersAfter
-  members-made =
-      ap (λ (o : Opened). tableFor s o (length ss) (length ms) (memberTable (communitiesOf s)) ms) (opened s ok)
-      ∙ by-room ms ms (over (memberTable (communitiesOf s)) ms)
 
 -- a call that was not refused had room for the plan
 made-room : (gs : List (List ℕ)) (a b g c : ℕ) → planned gs a b ≡ made g c

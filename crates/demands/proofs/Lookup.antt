@@ -11,12 +11,13 @@ use Rattle.community.specs.Tables.{startTable, memberTable}
 use Rattle.community.proofs.Tables.{table-community, starts-ordered, starts-within, length-startTable}
 use Rattle.tables.specs.Plan.{made, over}
 use Rattle.planner.specs.Plan.{PlanCall, communitiesOf}
+use Rattle.planner.proofs.Calls.{starts-made, members-made}
 use Rattle.lookup.specs.Lookup.{placed, membersOf, lookedOf}
 use Rattle.lookup.specs.declared.Looked.the-variants.{Found}
 use Rattle.lookup.proofs.Answers.{looked-same}
 use Rattle.lookup.proofs.Agreement.{placed-yes, looked-yes, members-slice}
 use Rattle.demands.specs.Lookup.{LookupOfPlan}
-use Rattle.demands.proofs.Demand3.{room-of, starts-made, members-made}
+use Rattle.demands.proofs.Demand3.{room-of}
 
 -- of two tables that begin with the plan's
 module _ (gs : List (List ℕ)) (x y : List ℕ) (k : ℕ) (h : k < length gs) where

@@ -1,5 +1,7 @@
--- The lookup on the tables that a plan wrote: for each k below the count of groups, the part that `lookup::members` gives back is exactly the k-th
--- community, and the companion refuses nothing and answers its size. Of the three calls through their contracts; proved in proofs/Lookup as `lookup-of-plan`.
+-- The lookup on the tables that a plan wrote, of the three calls through their contracts. Proved in proofs/Lookup as `lookup-of-plan`.
+--
+--     LookupOfPlan    the theorem: for each k below the count of groups, the part that `lookup::members` gives back is exactly the k-th community,
+--                     and the companion refuses nothing and answers its size
 use Prim.Native.Nat.{ℕ, _<_}
 use mathlib.Core.Path.{_≡_}
 use mathlib.Core.List.{List, []}

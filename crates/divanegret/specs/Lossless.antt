@@ -3,7 +3,10 @@
 -- as a number, a place and values is that of the library's own definitions (planAnswer, knownAnswer, tallyAnswer, lookAnswer, reportAnswer).
 --
 --     int32 k                    the (int32_t) of a macro: the low 32 bits of k, as a signed number
---     openMacros .. itself       the macros of each call, DVG_HANDSETS to DVG_PAIRS, in the order of the answer's values
+--     openMacros, planMacros     the macros of dvg_open and dvg_plan, in the order of the answer's values
+--     roleMacros, scoresMacros   those of dvg_role and dvg_scores
+--     itself                     of dvg_members and dvg_report: the number itself
+--     Taken                      what a caller takes out of a call's number: a number, a place and values, each signed
 --     takenBy macros z           what a caller takes out of the number z: 0 or more is a success, with its values by their macros; less is a refusal, with
 --                                its number and place by DVG_NUMBER and DVG_PLACE
 --     siteAnswer o               the answer of dvg_open: n and m, or the refusal
@@ -53,7 +56,6 @@ roleMacros = (λ r. int32 (r / 4294967296)) ∷ (λ r. int32 (r % 65536)) ∷ (�
 abbrev pub scoresMacros : List (ℕ → ℤ)
 scoresMacros = (λ r. pos (r / 68719476736)) ∷ (λ r. pos (r / 65536 % 1048576)) ∷ (λ r. pos (r % 65536)) ∷ []
 
--- dvg_members and dvg_report: the number itself
 abbrev pub itself : List (ℕ → ℤ)
 itself = pos ∷ []
 

@@ -34,6 +34,7 @@ fn refusal_code(r: Refusal) -> i64
     -(code as i64)
 }
 
+// n and m of an opened image, or its refusal.
 fn open_code(o: Opened) -> i64
     ensures { λ z. ⌜ z ≡ openCode o ⌝ }
 {
@@ -43,6 +44,7 @@ fn open_code(o: Opened) -> i64
     }
 }
 
+// The two counts of a plan, or its refusal.
 fn plan_code(p: Planned) -> i64
     ensures { λ z. ⌜ z ≡ planCode p ⌝ }
 {
@@ -54,6 +56,7 @@ fn plan_code(p: Planned) -> i64
     }
 }
 
+// A role's kind, and its community's number or its count of communities.
 fn kind_code(role: Role) -> u64
     ensures { λ n. ⌜ (n ≡ kindCode role) × (n < 4294967296) ⌝ }
 {
@@ -64,6 +67,7 @@ fn kind_code(role: Role) -> u64
     }
 }
 
+// The near count and the role of a handset, or the refusal.
 fn role_code(known: Known) -> i64
     ensures { λ z. ⌜ z ≡ roleCode known ⌝ }
 {
@@ -76,6 +80,7 @@ fn role_code(known: Known) -> i64
     }
 }
 
+// s, t and o of a list, or the refusal.
 fn tally_code(t: Tallied) -> i64
     ensures { λ z. ⌜ z ≡ tallyCode t ⌝ }
 {
@@ -89,6 +94,7 @@ fn tally_code(t: Tallied) -> i64
     }
 }
 
+// The count of a group's members, or the refusal.
 fn looked_code(looked: Looked) -> i64
     ensures { λ z. ⌜ z ≡ lookedCode looked ⌝ }
 {

@@ -1,18 +1,24 @@
 -- The ten questions put to an image (paper 01, "Questions put to an image"), and the reader's answer.
 --
---     coordinateLimit                    how far from 0 a coordinate may be
---     limitSquaredMost                   the most that G may be
---     reservedValue                      what the reserved bytes, 30 and 31, hold
---     countsFit, thresholdsFit, tablesFit            questions 3, 5 and 6, of a header
---     outOfLimits, badEnd, isLoop, repeatsEarlier    where questions 7 to 10 get a no, of a record
---     ask, askEach                       a question, and a question to each record: a yes goes on, a no is the refusal
---     askImage, askHeader                questions 1 to 6 and 3 to 6, in their order
---     askRecords, askEdges               questions 7 to 10 and 8 to 10
---     openOf s                           the questions in the paper's order, each of the whole image before the next: the header, or the number and
---                                        place of the first no
---     refusalOf o                        the number and place of an answer
---     HeaderAccepted s                   questions 1 to 6 get a yes
---     Accepted s                         every question gets a yes (specs/Acceptance: exactly when the reader answers the header)
+--     coordinateLimit          how far from 0 a coordinate may be
+--     limitSquaredMost         the most that G may be
+--     reservedValue            what the reserved bytes, 30 and 31, hold
+--     countsFit h              question 3, of a header: n and m are within their limits
+--     thresholdsFit h          question 5: so are G, p, q and mu
+--     tablesFit h              question 6: the two tables lie past the header and within the image, and do not overlap
+--     inLimits x               a coordinate, plus 2 ^ 31, is from -1,000,000 to 1,000,000 (specs/Signed: exactly when the signed number is)
+--     outOfLimits r            question 7 gets a no for a handset's record: some coordinate is out of its limits
+--     badEnd part n k          question 8 gets a no for edge k: an end is no handset
+--     isLoop part k            question 9 gets a no: its two ends are the same
+--     repeatsEarlier part k    question 10 gets a no: it joins what an earlier edge joins
+--     ask, askEach             a question, and a question to each record: a yes goes on, a no is the refusal
+--     askImage, askHeader      questions 1 to 6 and 3 to 6, in their order
+--     askRecords, askEdges     questions 7 to 10 and 8 to 10
+--     openOf s                 the questions in the paper's order, each of the whole image before the next: the header, or the number and
+--                              place of the first no
+--     refusalOf o              the refusal in an answer, for the else of let .. else; number 0 where the image is accepted
+--     HeaderAccepted s         questions 1 to 6 get a yes
+--     Accepted s               every question gets a yes (specs/Acceptance: exactly when the reader answers the header)
 use Prim.Native.Nat.{ℕ, _+_, _*_, _-_, _<_}
 use mathlib.Core.Bool.{Bool, true, false, _&&_, _||_, not}
 use mathlib.Core.List.{List}
@@ -35,40 +41,32 @@ limitSquaredMost = 8000000000000
 abbrev pub reservedValue : ℕ
 reservedValue = 0
 
--- question 3
 abbrev pub countsFit : Header → Bool
 countsFit h = leb (h .n) 512 && leb (h .m) 4096
 
--- question 5
 abbrev pub thresholdsFit : Header → Bool
 thresholdsFit h = leb (h .limit) limitSquaredMost && (leb 1 (h .p) && (leb (h .p) (h .q) && (leb (h .q) 1000 && leb (h .mu) 512)))
 
--- question 6
 abbrev pub tablesFit : Header → Bool
 tablesFit h =
     leb 32 (h .handsets) && (leb 32 (h .edges) && (leb (h .handsets + handsetBytes * h .n) (h .len) && (leb (h .edges + edgeBytes * h .m) (h .len)
     && (leb (h .handsets + handsetBytes * h .n) (h .edges) || leb (h .edges + edgeBytes * h .m) (h .handsets)))))
 
--- a coordinate, shifted by 2 ^ 31, is from -1,000,000 to 1,000,000 (specs/Signed: exactly when the signed number is)
 abbrev pub inLimits : ℕ → Bool
 inLimits x = leb (2147483648 - coordinateLimit) x && leb x (2147483648 + coordinateLimit)
 
--- question 7, of a handset's record: some coordinate is out of its limits
 unfoldable pub outOfLimits : List ℕ → Bool
 unfolding any coordinateOf
 outOfLimits r = any coordinateCount (λ i. not (inLimits (coordinateOf r i)))
 
--- question 8, of edge k of the edge records
 unfoldable pub badEnd : List ℕ → ℕ → ℕ → Bool
 unfolding endA endB
 badEnd part n k = not (ltb (endA part k) n && ltb (endB part k) n)
 
--- question 9
 unfoldable pub isLoop : List ℕ → ℕ → Bool
 unfolding endA endB
 isLoop part k = eqb (endA part k) (endB part k)
 
--- question 10: edge k joins what an earlier edge joins
 unfoldable pub repeatsEarlier : List ℕ → ℕ → Bool
 unfolding any joins endA endB
 repeatsEarlier part k = any k (joins part (endA part k) (endB part k))
@@ -120,12 +118,10 @@ unfoldable pub openOf : List ℕ → Opened
 unfolding askImage headerOf askRecords handsetRecords edgeRecords
 openOf s = askImage s (askRecords (handsetRecords s) (edgeRecords s) (headerOf s))
 
--- the paper's number and place for each case of the answer; 0 where the image is accepted
 abbrev pub refusalOf : Opened → Refusal
 refusalOf (Site h) = record { number = 0; place = 0 }
 refusalOf (Refused r) = r
 
--- questions 1 to 6 get a yes
 pub record HeaderAccepted (s : List ℕ) : Type 0 where
   pub q1 : T (leb 32 (length s))
   pub q2 : T (eqb (headerOf s .len) (length s))

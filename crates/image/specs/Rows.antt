@@ -2,6 +2,7 @@
 --
 --     related s              the relation of an image: the same handset, or adjacent
 --     Room rows sizes        the tables have room for 512 rows
+--     zeros n                n zeros
 --     Cleared rows sizes     the tables are 0 everywhere
 --     Held f answer ..       after a yes the rows hold f, and the sizes are theirs
 --     Reading s answer ..    what the reader tells and leaves: after a yes the rows of `related` and their sizes, after a no two cleared tables

@@ -1,9 +1,11 @@
 -- The members of group k, looked up in a plan's two tables (paper 01, "Scores, lookup, report" and question 14).
 --
---     placed starts size k         question 14: k + 1 is a place in the start table, and start k ≤ start k+1 ≤ size, the member table's length
---     membersOf starts table k     the part of the member table from start k up to start k+1; empty where the question gets a no
---     lookedOf starts table k      the companion's answer: the count of these members, or 14 with place 0
---     Agree part looked            what a part and the companion's answer on the same tables and k have to do with each other
+--     startOf starts k            start k: entry k of the start table
+--     placed starts size k        question 14: k + 1 is a place in the start table, and start k ≤ start k+1 ≤ size, the member table's length
+--     between first past table    the part of a table from one place up to another
+--     membersOf starts table k    the part of the member table from start k up to start k+1; empty where the question gets a no
+--     lookedOf starts table k     the companion's answer: the count of these members, or 14 with place 0
+--     Agree starts table k ..     what a part and the companion's answer on the same tables and k have to do with each other
 --
 -- The laws are in proofs/Agreement.
 use Prim.Native.Nat.{ℕ, _+_, _-_}
@@ -23,7 +25,6 @@ startOf starts k = getD starts k 0
 unfoldable pub placed : List ℕ → ℕ → ℕ → Bool
 placed starts size k = ltb (k + 1) (length starts) && (leb (startOf starts k) (startOf starts (k + 1)) && leb (startOf starts (k + 1)) size)
 
--- the part of a table from one place up to another
 abbrev pub between : ℕ → ℕ → List ℕ → List ℕ
 between first past table = take (past - first) (drop first table)
 

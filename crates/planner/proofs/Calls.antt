@@ -5,14 +5,16 @@
 --     plan-refused, cores-refused, known-refused    the outcome of the calls for a refused image
 --     handsets-most, groups-most                    an accepted image has at most 512 handsets, and so at most 512 communities
 --     plan-found, cores-found                       the outcome of a plan, from the communities found
+--     plan-made, starts-made, members-made          the answer and the tables of a plan for which both tables have room
 --     known-past, known-found, role-found           the role call's answer, for a number past the handsets and for a handset
-use Prim.Native.Nat.{ℕ, _≤_, _<_, min}
+use Prim.Native.Nat.{ℕ, _+_, _≤_, _<_, min}
 use native.Mathlib.Omega.{arith}
 use mathlib.Core.Path.{_≡_, refl, sym, ap, ap₂, _∙_}
 use mathlib.Core.Bool.{Bool, _&&_, cond}
 use mathlib.Core.List.{List, _∷_}
 use lib.Dec.{ltb, eqb, lt→ltb, ltb→lt, not-T}
 use lib.ListN.{length}
+use borrow.Author.Tests.{lt-ltb, le-leb}
 use Rattle.sets.specs.Below.{bit}
 use Rattle.sets.specs.Bits.{bitAt}
 use Rattle.sets.specs.Rows.{SetOf}
@@ -33,7 +35,7 @@ use Rattle.community.specs.Tables.{startTable, memberTable}
 use Rattle.community.specs.Site.{network}
 use Rattle.community.specs.declared.Standing.{Standing}
 use Rattle.search.specs.Communities.{coreIn, Grouped}
-use Rattle.tables.specs.Plan.{byRoom, planned, planAnswer, over, rowsOf, roleFor, PlanWritten}
+use Rattle.tables.specs.Plan.{byRoom, made, planned, planAnswer, over, tableAfter, rowsOf, roleFor, PlanWritten}
 use Rattle.tables.specs.declared.Planned.{Planned}
 use Rattle.tables.specs.declared.Planned.the-variants as P
 use Rattle.planner.specs.Plan.{PlanCall, CoreWords, communitiesOf, planOf, planFor, startsAfter, membersAfter, tableFor, coreFor, knownOf, knownFor, knownAnswer, standing}
@@ -90,9 +92,9 @@ module _ (s : List ℕ) (ok : Accepted s) where
       let e = rows-are f in
       record {
         answer = w .answer ∙ ap planAnswer (ap (λ (gs : List (List ℕ)). planned gs (length ss) (length ms)) e ∙ sym (ap (λ (o : Opened). planFor s o (length ss) (length ms)) (opened s ok)));
-        starts = w .starts ∙ ap (λ (gs : List (List ℕ)). byRoom gs (length ss) (length ms) ss ss (over (startTable gs) ss)) e
+        starts = w .starts ∙ ap (λ (gs : List (List ℕ)). tableAfter gs (length ss) (length ms) (startTable gs) ss) e
             ∙ sym (ap (λ (o : Opened). tableFor s o (length ss) (length ms) (startTable (communitiesOf s)) ss) (opened s ok));
-        members = w .members ∙ ap (λ (gs : List (List ℕ)). byRoom gs (length ss) (length ms) ms ms (over (memberTable gs) ms)) e
+        members = w .members ∙ ap (λ (gs : List (List ℕ)). tableAfter gs (length ss) (length ms) (memberTable gs) ms) e
             ∙ sym (ap (λ (o : Opened). tableFor s o (length ss) (length ms) (memberTable (communitiesOf s)) ms) (opened s ok));
       }
 
@@ -128,3 +130,21 @@ module _ (s : List ℕ) (ok : Accepted s) where
       ap₂ (λ (n : ℕ) (vs : List ℕ). given (n ∷ vs)) p q
       ∙ ap knownAnswer (sym (ap (λ (o : Opened). knownFor s o v) (opened s ok)
       ∙ ap (λ (b : Bool). cond b (K.Handset (standing s v)) (K.Refused (refusal 13))) (T-true (ltb v (handsetCount s)) (lt→ltb v (handsetCount s) h))))
+
+-- ---- an accepted image and tables long enough
+module _ (s ss ms : List ℕ) (ok : Accepted s)
+    (room : (length (communitiesOf s) + 1 ≤ length ss) × (length (memberTable (communitiesOf s)) ≤ length ms)) where
+  in-room : {X : Type 0} (x y z : X) → byRoom (length (communitiesOf s)) (length (memberTable (communitiesOf s))) (length ss) (length ms) x y z ≡ z
+  in-room x y z = simp (lt-ltb (length (communitiesOf s)) (length ss) (omega (arith, room .0)), le-leb _ _ (room .1))
+
+  pub plan-made : planOf s (length ss) (length ms) ≡ made (length (communitiesOf s)) (length (memberTable (communitiesOf s)))
+  unfolding planOf
+  plan-made = ap (λ (o : Opened). planFor s o (length ss) (length ms)) (opened s ok) ∙ in-room _ _ _
+
+  pub starts-made : startsAfter s ss (length ms) ≡ over (startTable (communitiesOf s)) ss
+  unfolding startsAfter
+  starts-made = ap (λ (o : Opened). tableFor s o (length ss) (length ms) (startTable (communitiesOf s)) ss) (opened s ok) ∙ in-room _ _ _
+
+  pub members-made : membersAfter s (length ss) ms ≡ over (memberTable (communitiesOf s)) ms
+  unfolding membersAfter
+  members-made = ap (λ (o : Opened). tableFor s o (length ss) (length ms) (memberTable (communitiesOf s)) ms) (opened s ok) ∙ in-room _ _ _

@@ -2,14 +2,13 @@
 --
 --     plan-held        the plan's counts and tables, and the set of cores
 --     plan-granted     the plan is not refused
-use Prim.Native.Nat.{ℕ, _≤_, _<_}
+use Prim.Native.Nat.{ℕ, _+_, _≤_}
 use native.Mathlib.Omega.{arith}
 use mathlib.Core.Path.{_≡_, sym, ap, _∙_}
 use mathlib.Core.Bool.{_&&_}
 use mathlib.Core.List.{List, [], _∷_}
 use lib.Dec.{ltb}
 use lib.ListN.{length, replicate, length-replicate}
-use borrow.Author.Tests.{lt-ltb, le-leb}
 use Rattle.sets.specs.Below.{bit}
 use Rattle.sets.specs.Rows.{SetOf}
 use Rattle.image.specs.Image.{headerOf, handsetCount}
@@ -20,19 +19,17 @@ use Rattle.image.specs.declared.Opened.{Opened}
 use Rattle.image.proofs.Acceptance.{accepted-fits, opened}
 use Rattle.community.specs.Network.{isCore, communities}
 use Rattle.community.specs.Site.{network}
-use Rattle.community.specs.Tables.{startTable, memberTable}
+use Rattle.community.specs.Tables.{memberTable}
 use Rattle.community.proofs.Bound.{memberships-bound}
-use Rattle.tables.specs.Plan.{byRoom, over, made, planAnswer}
+use Rattle.tables.specs.Plan.{made, planAnswer}
 use Rattle.tables.specs.declared.Counts.{Counts}
 use Rattle.tables.specs.declared.Planned.{Planned}
 use Rattle.tables.specs.declared.Planned.the-variants as P
 use Rattle.tables.proofs.Answers.{plan-same}
-use Rattle.planner.specs.Plan.{communitiesOf, planFor, planOf, tableFor, startsAfter, membersAfter, coreFor, PlanCall, CoreWords}
+use Rattle.planner.specs.Plan.{communitiesOf, planOf, coreFor, PlanCall, CoreWords}
+use Rattle.planner.proofs.Calls.{plan-made, starts-made, members-made}
 use Rattle.reporting.specs.Held.{PlanHeld}
 use Rattle.reporting.proofs.Whole.{communities-few}
-
-in-room : {X : Type 0} (gs : List (List ℕ)) (a b : ℕ) (x y z : X) → length gs < a → length (memberTable gs) ≤ b → byRoom gs a b x y z ≡ z
-in-room gs a b x y z h l = simp (lt-ltb _ _ h, le-leb _ _ l)
 
 abbrev pub blankStarts : List ℕ
 blankStarts = replicate 513 0
@@ -41,27 +38,17 @@ abbrev pub blankMembers : List ℕ
 blankMembers = replicate 8704 0
 
 module _ (s : List ℕ) (a : Accepted s) where
-  few : length (communities (network s)) < length blankStarts
-  few = omega (arith, communities-few (network s), accepted-fits s a .n-limit, length-replicate {A = ℕ} 513 0)
+  room : (length (communitiesOf s) + 1 ≤ length blankStarts) × (length (memberTable (communitiesOf s)) ≤ length blankMembers)
+  unfolding communitiesOf
+  room =
+      let f = accepted-fits s a in (
+        omega (arith, communities-few (network s), f .n-limit, length-replicate {A = ℕ} 513 0),
+        omega (arith, memberships-bound s a, f .n-limit, f .m-limit, length-replicate {A = ℕ} 8704 0),
+      )
 
-  bound : length (memberTable (communities (network s))) ≤ length blankMembers
-  bound = omega (arith, memberships-bound s a, accepted-fits s a .n-limit, accepted-fits s a .m-limit, length-replicate {A = ℕ} 8704 0)
-
-  plan-made : planOf s (length blankStarts) (length blankMembers) ≡ made (length (communities (network s))) (length (memberTable (communities (network s))))
-  unfolding planOf communitiesOf
-  plan-made = ap (λ (o : Opened). planFor s o (length blankStarts) (length blankMembers)) (opened s a) ∙ in-room (communities (network s)) _ _ _ _ _ few bound
-
-  starts-made : startsAfter s blankStarts (length blankMembers) ≡ over (startTable (communities (network s))) blankStarts
-  unfolding startsAfter communitiesOf
-  starts-made =
-      ap (λ (o : Opened). tableFor s o (length blankStarts) (length blankMembers) (startTable (communities (network s))) blankStarts) (opened s a)
-      ∙ in-room (communities (network s)) _ _ _ _ _ few bound
-
-  members-made : membersAfter s (length blankStarts) blankMembers ≡ over (memberTable (communities (network s))) blankMembers
-  unfolding membersAfter communitiesOf
-  members-made =
-      ap (λ (o : Opened). tableFor s o (length blankStarts) (length blankMembers) (memberTable (communities (network s))) blankMembers) (opened s a)
-      ∙ in-room (communities (network s)) _ _ _ _ _ few bound
+  plan-is : planOf s (length blankStarts) (length blankMembers) ≡ made (length (communities (network s))) (length (memberTable (communities (network s))))
+  unfolding communitiesOf
+  plan-is = plan-made s blankStarts blankMembers a room
 
   cores-held : (ws : List ℕ) → CoreWords s ws → SetOf ws (λ v. ltb v (handsetCount s) && isCore (network s) v)
   cores-held ws c = record { size = c .size; bits = λ v h. c .bits v h ∙ ap (λ (o : Opened). bit (coreFor s o v)) (opened s a) }
@@ -69,21 +56,22 @@ module _ (s : List ℕ) (a : Accepted s) where
   pub plan-held : (h : Header) (counts : Counts) (answer : Planned) (starts table ws : List ℕ) → h ≡ headerOf s → answer ≡ P.Made counts
       → PlanCall s blankStarts blankMembers answer starts table → CoreWords s ws
       → PlanHeld s h (record { handsets = h .n; ties = h .m; counts = counts }) starts table ws
+  unfolding communitiesOf
   plan-held h counts answer starts table ws e d p c =
       let m : counts .groups ∷ (counts .memberships ∷ []) ≡ length (communities (network s)) ∷ (length (memberTable (communities (network s))) ∷ []) =
-      ap (λ (x : Planned). planAnswer x .values) (sym d ∙ plan-same _ _ (p .answer) ∙ plan-made) in
+      ap (λ (x : Planned). planAnswer x .values) (sym d ∙ plan-same _ _ (p .answer) ∙ plan-is) in
       let g : counts .groups ≡ length (communities (network s)) = cc in
       let k : counts .memberships ≡ length (memberTable (communities (network s))) = cc in
       record {
         accepted = a;
         header = e;
         head-is = λ i. record { handsets = e i .n; ties = e i .m; counts = record { groups = g i; memberships = k i } };
-        starts-are = p .starts ∙ starts-made;
-        members-are = p .members ∙ members-made;
+        starts-are = p .starts ∙ starts-made s blankStarts blankMembers a room;
+        members-are = p .members ∙ members-made s blankStarts blankMembers a room;
         cores-are = cores-held ws c;
       }
 
   pub plan-granted : {A : Type 0} (r : Refusal) (answer : Planned) (starts table : List ℕ) → answer ≡ P.Refused r → PlanCall s blankStarts blankMembers answer starts table → A
   plan-granted r answer starts table d p =
-      let m : P.Refused r ≡ made (length (communities (network s))) (length (memberTable (communities (network s)))) = sym d ∙ plan-same _ _ (p .answer) ∙ plan-made in
+      let m : P.Refused r ≡ made (length (communities (network s))) (length (memberTable (communities (network s)))) = sym d ∙ plan-same _ _ (p .answer) ∙ plan-is in
       let z : _≡_ {A = ℕ} 0 1 = cc in absurd (omega arith)

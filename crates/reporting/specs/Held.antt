@@ -4,6 +4,7 @@
 --     groupTally ts k l              the tally of group k with the members l, from a table that holds its tied pairs at k and its leaving edges at 512 + k
 --     inGroup, joinedIn, leavesIn    by the rows of the groups of each handset: whether it is in a group, whether an edge is tied in it, or leaves it
 --     GroupAdded rows l k ..         the rows with group k added to those of the handsets in l
+--     bitFor base w i                the bit of the word w that place i of a table gets, where bit 0 belongs to the place base
 --     Raised ts base w ..            a table with 1 added at base + k for each set bit k of the word w
 --     CountsFit ts                   a table of 1,024 numbers that none of 4,096 edges makes too large
 --     Edges part m                   m edge records stand in the part, and the ends of each have rows
@@ -57,7 +58,6 @@ pub record GroupAdded (rows l : List ℕ) (k : ℕ) (rows′ : List ℕ) : Type 
   pub size : length rows′ ≡ length rows
   pub bits : (v j : ℕ) → v < 512 → j < 512 → cell rows′ v j ≡ bit (inGroup rows v j || (eqb j k && contains v l))
 
--- the bit of a word that place i of a table gets, where bit 0 belongs to the place base
 unfoldable pub bitFor : ℕ → ℕ → ℕ → ℕ
 bitFor base w i = cond (leb base i && ltb i (base + 64)) (bitOf w (i - base)) 0
 

@@ -1,17 +1,30 @@
 -- The text of a report, and the answers of the calls that write it (paper 01, "Scores, lookup, report").
 --
---     headLine, groupLine, listLine    the kinds of lines, each ended by byte 10
---     scoresPart k c                   what stands before the colon in the line of group k
---     headOf s gs                      the numbers of line one
---     reportText s                     the whole text for an accepted image: its exact bytes
---     outliers g                       the handsets in no community, ascending
---     reportOf s room                  the answer for an image and a buffer of room bytes: its refusal, 16, or the text's length
---     textAfter s buffer               every byte of the buffer after the call
---     reportAnswer r                   its number, place and values: the text's length
---     ReportCall                       the outcome of a call: its answer and the buffer
---     OneAnswer                        the theorem: the number, place and values leave nothing of the answer free (proved in proofs/Answers)
---     refusedText                      what the program prints for a refusal
---     programText s room               what the report program prints for an input, with a buffer of room bytes
+--     newline                byte 10, which ends each line
+--     headLine h             line one: n, m, and the plan's two counts
+--     scoreText c            a score: two numbers with a slash between, not reduced; a hyphen for no score
+--     scoresPart k c         what stands before the colon in the line of group k: its number and its scores
+--     groupLine k c l        the line of group k: those, a colon, the group's members
+--     listLine word l        a line of a word and the numbers of a list
+--     groupLines s gs k      the lines of the first k groups
+--     isOutlier r            the role is that of an outlier
+--     outliers g             the handsets in no community, ascending
+--     headOf s gs            the numbers of line one, for an image with the communities gs
+--     reportWith s gs        the whole text for an image with the communities gs
+--     reportText s           the whole text for an accepted image: its exact bytes
+--     writtenOf t room       the answer for the text t and a buffer of room bytes: 16, or the text's length
+--     writtenIn t buffer     the buffer after: it begins with the text and past it holds what it held; as before where the text does not fit
+--     reportOf s room        the answer for an image and a buffer of room bytes: its refusal, 16, or the text's length
+--     reportFor s o room     the same, by the reader's answer o to the image
+--     textAfter s buffer     every byte of the buffer after the call
+--     afterFor s o buffer    the same, by the reader's answer o
+--     reportAnswer r         the answer's number, place and values: the text's length
+--     ReportCall s ..        the outcome of a call: its answer and the buffer
+--     refusedText r          what the program prints for a refusal: "refused", number, place
+--     printed s r            what the program prints for an answer
+--     programText s room     what the report program prints for an input, with a buffer of room bytes; 15 for an input that does not end within
+--                            65,536 bytes
+--     OneAnswer              the theorem: the number, place and values leave nothing of the answer free (proved in proofs/Answers)
 use Prim.Native.Nat.{ℕ, zero, suc}
 use mathlib.Core.Path.{_≡_}
 use mathlib.Core.Bool.{Bool, true, false, cond}
@@ -45,32 +58,26 @@ use Rattle.reporting.specs.declared.Reported.the-variants as R
 abbrev pub newline : List ℕ
 newline = bytes "\n"
 
--- n, m, and the plan's two counts
 unfoldable pub headLine : Head → List ℕ
 headLine h =
     bytes "handsets " ++ (decimal (h .handsets) ++ (bytes " ties " ++ (decimal (h .ties)
     ++ (bytes " groups " ++ (decimal (h .counts .groups) ++ (bytes " memberships " ++ (decimal (h .counts .memberships) ++ newline)))))))
 
--- two numbers with a slash between, not reduced; a hyphen for no score
 unfoldable pub scoreText : Score → List ℕ
 scoreText (Ratio a b) = decimal a ++ (bytes "/" ++ decimal b)
 scoreText Nothing = bytes "-"
 
--- the number of a group and its scores
 unfoldable pub scoresPart : ℕ → Scores → List ℕ
 scoresPart k c = bytes "group " ++ (decimal k ++ (bytes " density " ++ (scoreText (c .density) ++ (bytes " conductance " ++ scoreText (c .conductance)))))
 
--- those, a colon, the group's members
 unfoldable pub groupLine : ℕ → Scores → List ℕ → List ℕ
 groupLine k c l = scoresPart k c ++ (bytes ":" ++ (numbers l ++ newline))
 
--- a word and the numbers of a list
 unfoldable pub listLine : List ℕ → List ℕ → List ℕ
 listLine word l = word ++ (numbers l ++ newline)
 
 -- ---- the report of an accepted image
 
--- the lines of the first k groups
 unfoldable pub groupLines : List ℕ → List (List ℕ) → ℕ → List ℕ
 groupLines s gs zero = []
 groupLines s gs (suc k) = groupLines s gs k ++ groupLine k (scoresFor (tallyOf s (getD gs k []))) (getD gs k [])
@@ -83,11 +90,9 @@ isOutlier Outlier = true
 unfoldable pub outliers : Network → List ℕ
 outliers g = select (g .n) (λ v. isOutlier (role g v))
 
--- n, m, and the counts of the communities gs
 abbrev pub headOf : List ℕ → List (List ℕ) → Head
 headOf s gs = record { handsets = handsetCount s; ties = edgeCount s; counts = record { groups = length gs; memberships = length (memberTable gs) } }
 
--- of an image with the communities gs
 unfoldable pub reportWith : List ℕ → List (List ℕ) → List ℕ
 reportWith s gs =
     headLine (headOf s gs)
@@ -98,11 +103,9 @@ reportText s = reportWith s (communities (network s))
 
 -- ---- the call's answer
 
--- for a text and a buffer of room bytes
 unfoldable pub writtenOf : List ℕ → ℕ → Reported
 writtenOf t room = cond (leb (length t) room) (R.Written (length t)) (R.Refused (refusal 16))
 
--- a buffer that begins with the text and past it holds what it held; as before where the text does not fit
 unfoldable pub writtenIn : List ℕ → List ℕ → List ℕ
 writtenIn t buffer = cond (leb (length t) (length buffer)) (over t buffer) buffer
 
@@ -120,19 +123,17 @@ afterFor s (O.Refused r) buffer = buffer
 unfoldable pub textAfter : List ℕ → List ℕ → List ℕ
 textAfter s buffer = afterFor s (openOf s) buffer
 
--- the paper's number, place and values for each case of the answer
 abbrev pub reportAnswer : Reported → Answer
 reportAnswer (R.Written k) = given (k ∷ [])
 reportAnswer (R.Refused r) = refused r
 
--- the outcome of a call: of the image s, the buffer l as lent, the answer r, and the buffer l′ after the call
+-- of the image s, the buffer l as lent, the answer r, and the buffer l′ after the call
 pub record ReportCall (s l : List ℕ) (r : Reported) (l′ : List ℕ) : Type 0 where
   pub answer : reportAnswer r ≡ reportAnswer (reportOf s (length l))
   pub text : l′ ≡ textAfter s l
 
 -- ---- the report program
 
--- "refused", number, place
 unfoldable pub refusedText : Refusal → List ℕ
 refusedText r = bytes "refused " ++ (decimal (r .number) ++ (bytes " " ++ (decimal (r .place) ++ newline)))
 
@@ -140,7 +141,6 @@ abbrev pub printed : List ℕ → Reported → List ℕ
 printed s (R.Written k) = reportText s
 printed s (R.Refused r) = refusedText r
 
--- 15 for an input that does not end within 65,536 bytes
 unfoldable pub programText : List ℕ → ℕ → List ℕ
 programText s room = cond (ltb 65536 (length s)) (refusedText (refusal 15)) (printed s (reportOf s room))
 

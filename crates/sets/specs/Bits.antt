@@ -1,10 +1,11 @@
 -- Bits of 64-bit words, as numbers 0 and 1.
 --
---     bitOf w k      bit k of the word w
---     bitAt ws i     bit i of a list of words, 64 to a word: a set of numbers
---     Words ws       each word fits 64 bits
---     cell ws u v    bit v of row u of a table of rows of eight words: a relation between numbers below 512
---     withBit        the words with bit i set, withoutBit with it cleared; unchanged where they have no bit i
+--     bitOf w k          bit k of the word w
+--     bitAt ws i         bit i of a list of words, 64 to a word: a set of numbers
+--     Words ws           each word fits 64 bits
+--     cell ws u v        bit v of row u of a table of rows of eight words: a relation between numbers below 512
+--     withBit ws i       the words with bit i set; unchanged where they have no bit i
+--     withoutBit ws i    the words with bit i cleared; unchanged where they have no bit i
 --
 -- The laws are in proofs/Bits.
 use Prim.Native.Nat.{ℕ, _+_, _*_, _/_, _%_, _^_, _<_}

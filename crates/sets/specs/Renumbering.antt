@@ -1,4 +1,6 @@
--- A renumbering of the numbers below n: a map of them one-to-one onto themselves, with its inverse.
+-- Numbers changed for each other.
+--
+--     Renumbering n    a map of the numbers below n one-to-one onto themselves, with its inverse
 use Prim.Native.Nat.{ℕ, _<_}
 use mathlib.Core.Path.{_≡_}
 

@@ -11,7 +11,7 @@ ghost use lib.Seq.{sets};
 ghost use Rattle.community.specs.Network.{contains, communityNumber, membershipCount, roleValues};
 ghost use Rattle.community.specs.Tables.{startTable, memberTable};
 ghost use Rattle.tables.specs.Held.{wordMembers};
-ghost use Rattle.tables.specs.Plan.{askRoom, byRoom, rowMembers, rowsOf, over, PlanWritten, roleFor};
+ghost use Rattle.tables.specs.Plan.{askRoom, rowMembers, rowsOf, over, tableAfter, PlanWritten, roleFor};
 
 // The counts of a plan.
 pub struct Counts {
@@ -147,8 +147,8 @@ fn write_where_it_fits(
     members: &mut [u16],
 )
     requires { ⌜ (groups ≤ 512) × (memberships ≡ length (memberTable (rowsOf (now rows) groups))) ⌝ }
-    ensures started { λ _. ⌜ now (starts .exit) ≡ byRoom (rowsOf (now (rows .entry)) groups) (length (now (starts .entry))) (length (now (members .entry))) (now (starts .entry)) (now (starts .entry)) (over (startTable (rowsOf (now (rows .entry)) groups)) (now (starts .entry))) ⌝ }
-    ensures written { λ _. ⌜ now (members .exit) ≡ byRoom (rowsOf (now (rows .entry)) groups) (length (now (starts .entry))) (length (now (members .entry))) (now (members .entry)) (now (members .entry)) (over (memberTable (rowsOf (now (rows .entry)) groups)) (now (members .entry))) ⌝ }
+    ensures started { λ _. ⌜ now (starts .exit) ≡ tableAfter (rowsOf (now (rows .entry)) groups) (length (now (starts .entry))) (length (now (members .entry))) (startTable (rowsOf (now (rows .entry)) groups)) (now (starts .entry)) ⌝ }
+    ensures written { λ _. ⌜ now (members .exit) ≡ tableAfter (rowsOf (now (rows .entry)) groups) (length (now (starts .entry))) (length (now (members .entry))) (memberTable (rowsOf (now (rows .entry)) groups)) (now (members .entry)) ⌝ }
 {
     let fits = (groups < starts.len()) & (memberships <= members.len());
     if !fits {

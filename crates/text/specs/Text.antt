@@ -2,6 +2,7 @@
 --
 --     Wrote l at vs l′ r    the buffer l with the bytes vs stored from index at on, as far as it reaches, is l′; r is the position after vs
 --     bytes s               the bytes of a text of ASCII characters
+--     digitsOf k n          the lowest k decimal digits of n, or all where it has fewer; digit d is the byte 48 + d
 --     decimal n             the decimal digits of n, with no leading zero; for a number of 64 bits
 --     numbers l             each number of l after a space
 --     elementsOf ws         the members below 512 of a set of bits, ascending
@@ -29,7 +30,6 @@ abbrev pub bytes : String → List ℕ
 bytes empty = []
 bytes (c then s) = code c ∷ bytes s
 
--- the lowest k digits of n, or all where it has fewer; digit d is the byte 48 + d
 unfoldable pub digitsOf : ℕ → ℕ → List ℕ
 digitsOf zero n = []
 digitsOf (suc k) n = cond (ltb n 10) ((48 + n) ∷ []) (digitsOf k (n / 10) ++ ((48 + n % 10) ∷ []))
