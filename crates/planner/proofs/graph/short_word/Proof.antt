@@ -42,8 +42,8 @@ loop-holds c =
       omega arith,
       pow-pos (a .count - a .count),
       (λ i.
-      bitOf-none i
-      ∙ sym (ap (λ (b : Bool). bit (b && isShort (a .handsets .now) (a .edges .now) (a .limit) (a .base + (a .count + i)))) (le-ltb (a .count + i) (a .count) (omega arith)))),
+          bitOf-none i
+          ∙ sym (ap (λ (b : Bool). bit (b && isShort (a .handsets .now) (a .edges .now) (a .limit) (a .base + (a .count + i)))) (le-ltb (a .count + i) (a .count) (omega arith)))),
     )
 
 sub-k : tie.Need-sub-k Inv-loop μ-loop
