@@ -6,13 +6,11 @@
 --     raised-more, raised-done      a table where the bits of a word are added one by one, the lowest first; raised-le: none is raised by more than 1
 --     edge-none, edge-more          one edge, for the groups of the first words: of none, and of one more; edge-done: of all that begin below a bound
 --     edge-room                     one edge makes no count too large
---     ends-at                       the ends that a record holds are those of its edge
 --     edges-none, edges-more        the first edges: none, and one more; edges-room: the next edge has room
 --     groups-counted                the counts by the rows are the groups' counts
-use Prim.Native.Nat.{ℕ, _+_, _*_, _-_, _/_, _^_, _≤_, _<_, min}
+use Prim.Native.Nat.{ℕ, _+_, _*_, _-_, _/_, _≤_, _<_, min}
 use native.Mathlib.Omega.{arith}
 use native.Mathlib.Decide.{ℕ-discrete, decLt}
-use native.Mathlib.Nat.{add-zero}
 use native.Mathlib.Numerals.{add-one}
 use mathlib.Core.Path.{_≡_, refl, sym, ap, ap₂, _∙_, subst₂}
 use mathlib.Core.Logic.{_⊎_, inl, inr, ⊎-elim}
@@ -20,7 +18,7 @@ use mathlib.Core.Bool.{Bool, true, false, _&&_, _||_, cond}
 use mathlib.Core.List.{List, []}
 use lib.Dec.{eqb, leb, ltb}
 use lib.Bits.{bitAnd, bitXor, differ}
-use lib.ListN.{length, getD, set, take, drop, replicate, length-replicate, getD-replicate}
+use lib.ListN.{length, getD, set, take, replicate, length-replicate, getD-replicate}
 use lib.Seq.{getD-set-same, getD-set-other}
 use borrow.Author.Tests.{lt-ltb, le-ltb, le-leb, lt-leb, eq-eqb, ne-eqb}
 use Rattle.sets.specs.Below.{bit, count}
@@ -30,9 +28,6 @@ use Rattle.sets.proofs.Bits.{bitOf-none, bitOf-lt, bitOf-and, bitOf-xor, bitAt-
 use Rattle.sets.proofs.Lowest.{Lowest, cleared, cleared-same, cleared-other}
 use Rattle.sets.proofs.Counting.{bit-test, test-bit, count-cong, count-le, count-none}
 use Rattle.sets.proofs.Tests.{three}
-use Rattle.fields.specs.Bytes.{number}
-use Rattle.fields.specs.Fields.{edgeBytes, endsOf}
-use Rattle.fields.proofs.Bytes.{number-part}
 use Rattle.image.specs.Image.{endA, endB}
 use Rattle.community.specs.Network.{contains}
 use Rattle.community.specs.Scores.{justOne}
@@ -313,14 +308,6 @@ edge-room rows u v groups ts₀ ts room c i h = pick (decLt i 512)
         rw e (omega (arith, c .leaving k low, room .leaving k low, bit-le (leavesIn rows groups u v k)))
 
 -- ---- all edges
-
-pub ends-at : (part : List ℕ) (k : ℕ) → edgeBytes * k + edgeBytes ≤ length part
-    → (let r : List ℕ = take ((edgeBytes * k + edgeBytes) - edgeBytes * k) (drop (edgeBytes * k) part) in (endsOf r .a ≡ endA part k) × (endsOf r .b ≡ endB part k))
-unfolding endsOf endA endB
-ends-at part k h =
-    let part-of : (at : ℕ) → at + 2 ≤ edgeBytes → number 2 (take ((edgeBytes * k + edgeBytes) - edgeBytes * k) (drop (edgeBytes * k) part)) at ≡ number 2 part (edgeBytes * k + at) =
-    λ at l. number-part 2 part (edgeBytes * k) ((edgeBytes * k + edgeBytes) - edgeBytes * k) at (omega arith) (omega arith) in
-    (part-of 0 (omega arith) ∙ ap (number 2 part) (add-zero (edgeBytes * k)), part-of 2 (omega arith))
 
 pub edges-none : (rows part : List ℕ) (groups : ℕ) → EdgesCounted rows part 0 groups (replicate 1024 0)
 edges-none rows part groups = record {

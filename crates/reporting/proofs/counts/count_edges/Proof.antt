@@ -8,8 +8,9 @@ use lib.ListN.{length, length-replicate}
 use Rattle.fields.specs.Fields.{edgeBytes}
 use Rattle.fields.specs.declared.Ends.{Ends}
 use Rattle.image.specs.Image.{endA, endB}
+use Rattle.image.proofs.Records.{ends-part}
 use Rattle.reporting.specs.Held.{Edges, EdgesCounted}
-use Rattle.reporting.proofs.Tallying.{ends-at, edges-none, edges-more, edges-room}
+use Rattle.reporting.proofs.Tallying.{edges-none, edges-more, edges-room}
 use borrow.Author.Needs.{needs}
 use Rattle.reporting.proofs.counts.count_edges.Statement.{statement}
 use Rattle.reporting.proofs.counts.count_edges.Tie as tie
@@ -65,8 +66,8 @@ ends : (c : tie.After-read-ends Inv-loop μ-loop) → (let at-loop = turn c .bef
     (c .read-ends .result .a ≡ endA edges (at-loop .loop .k)) × (c .read-ends .result .b ≡ endB edges (at-loop .loop .k)))
 ends c =
     let at-loop = turn c .before in
-    let e = ends-at (now (start at-loop .args .edges)) (at-loop .loop .k) (inside (turn c) .1) in
-    (ap (λ (x : Ends). x .a) (c .read-ends .ensures) ∙ e .0, ap (λ (x : Ends). x .b) (c .read-ends .ensures) ∙ e .1)
+    let e = c .read-ends .ensures ∙ ends-part (now (start at-loop .args .edges)) (at-loop .loop .k) (inside (turn c) .1) in
+    (ap (λ (x : Ends). x .a) e, ap (λ (x : Ends). x .b) e)
 
 count-edge-requires : tie.Need-count-edge-requires Inv-loop μ-loop
 count-edge-requires c κs =
