@@ -33,7 +33,7 @@ use Rattle.community.specs.Network.{contains}
 use Rattle.community.specs.Scores.{justOne}
 use Rattle.lookup.specs.Lookup.{membersOf}
 use Rattle.scores.proofs.Entries.{bit-le}
-use Rattle.reporting.specs.Held.{inGroup, bitFor, joinedIn, leavesIn, GroupAdded, Raised, CountsFit, Edges, EdgeCounted, EdgesCounted, GroupsCounted}
+use Rattle.reporting.specs.Held.{inGroup, bitFor, joinedIn, leavesIn, GroupAdded, Raised, CountsBelow, Edges, EdgeCounted, EdgesCounted, GroupsCounted}
 use Rattle.reporting.proofs.Marking.{and-false, or-false, contains-more}
 
 -- ---- the rows
@@ -296,7 +296,7 @@ edge-done rows u v j groups ts₀ ts h l c = record {
         pick (no q) = le-ltb (64 * (k / 64)) (64 * j) (omega arith) ∙ sym (le-ltb (64 * (k / 64)) groups (omega arith))
 
 -- what one edge leaves still has room
-pub edge-room : (rows : List ℕ) (u v groups : ℕ) (ts₀ ts : List ℕ) → CountsFit ts₀ → EdgeCounted rows u v groups ts₀ ts → (i : ℕ) → i < 1024 → getD ts i 0 ≤ 4097
+pub edge-room : (rows : List ℕ) (u v groups : ℕ) (ts₀ ts : List ℕ) → CountsBelow ts₀ → EdgeCounted rows u v groups ts₀ ts → (i : ℕ) → i < 1024 → getD ts i 0 ≤ 4097
 edge-room rows u v groups ts₀ ts room c i h = pick (decLt i 512)
   where
     pick : Dec (i < 512) → getD ts i 0 ≤ 4097
@@ -330,7 +330,7 @@ edges-more rows part e groups ts ts′ c p q held =
       leaving = λ k h. omega (arith, d .leaving k h, c .leaving k h, count-next e (λ i. leavesIn rows groups (endA part i) (endB part i) k));
     }
 
-pub edges-room : (rows part : List ℕ) (e groups : ℕ) (ts : List ℕ) → e ≤ 4096 → EdgesCounted rows part e groups ts → CountsFit ts
+pub edges-room : (rows part : List ℕ) (e groups : ℕ) (ts : List ℕ) → e ≤ 4096 → EdgesCounted rows part e groups ts → CountsBelow ts
 edges-room rows part e groups ts h c = record {
   size = c .size;
   joined = λ k l. omega (arith, c .joined k l, count-le e (λ i. joinedIn rows groups (endA part i) (endB part i) k));

@@ -11,7 +11,7 @@ ghost use lib.ListN.{length, getD, replicate};
 ghost use Rattle.community.specs.Network.{contains};
 ghost use Rattle.sets.specs.Rows.{Table};
 ghost use Rattle.lookup.specs.Lookup.{membersOf};
-ghost use Rattle.reporting.specs.Held.{GroupAdded, Raised, CountsFit, Edges, EdgeCounted, EdgesCounted, GroupsCounted};
+ghost use Rattle.reporting.specs.Held.{GroupAdded, Raised, CountsBelow, Edges, EdgeCounted, EdgesCounted, GroupsCounted};
 
 // Adds group k to the rows of the handsets in the list.
 fn mark_members(rows: &mut [u64], list: &[u16], k: usize)
@@ -53,7 +53,7 @@ fn add_bits(word: u64, base: usize, counts: &mut [u32])
 
 // Counts the edge between u and v, for the groups of the rows' words that begin below `groups`.
 fn count_edge(rows: &[u64], u: usize, v: usize, groups: usize, counts: &mut [u32])
-    requires { ⌜ (length (now rows) ≡ 4096) × ((u < 512) × ((v < 512) × ((groups ≤ 512) × CountsFit (now counts)))) ⌝ }
+    requires { ⌜ (length (now rows) ≡ 4096) × ((u < 512) × ((v < 512) × ((groups ≤ 512) × CountsBelow (now counts)))) ⌝ }
     ensures { λ _. ⌜ EdgeCounted (now (rows .entry)) u v groups (now (counts .entry)) (now (counts .exit)) ⌝ }
 {
     let mut j: usize = 0;

@@ -93,7 +93,7 @@ fn put_group(text: &mut [u8], at: usize, k: usize, tally: Tally, members: &[u16]
 }
 
 // The tally of group k, from the table of counts and the group's members; 0 for a place past the table's end.
-fn tally_at(counts: &[u32], k: usize, members: &[u16]) -> Tally
+fn group_tally(counts: &[u32], k: usize, members: &[u16]) -> Tally
     requires { ⌜ k < 512 ⌝ }
     ensures { λ r. ⌜ r ≡ groupTally (now (counts .entry)) k (now (members .entry)) ⌝ }
 {
@@ -138,7 +138,7 @@ fn put_report<'a>(
     let mut k: usize = 0;
     while k < groups {
         let list = lookup::members(starts, members, k);
-        next = put_group(text, next, k, tally_at(counts, k, list), list);
+        next = put_group(text, next, k, group_tally(counts, k, list), list);
         k += 1;
     }
     let past = put_set(text, next, b"cores:", cores);

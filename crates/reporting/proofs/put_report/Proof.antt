@@ -40,8 +40,8 @@ loop-holds c = (omega arith, nothing _ _ _ (omega (arith, c .before .before .put
 members-requires : tie.Need-members-requires Inv-loop μ-loop
 members-requires c κs = search needs
 
-tally-at-requires : tie.Need-tally-at-requires Inv-loop μ-loop
-tally-at-requires c κs = omega arith
+group-tally-requires : tie.Need-group-tally-requires Inv-loop μ-loop
+group-tally-requires c κs = omega arith
 
 put-group-requires : tie.Need-put-group-requires Inv-loop μ-loop
 put-group-requires c κs = search needs
@@ -63,7 +63,7 @@ loop-again c =
     let a = s .args in (
       omega arith,
       rw (lines-more (now (a .starts)) (now (a .members)) (now (a .counts)) (at-loop .loop .k))
-          (chain (omega (arith, w1 .put-head .kept .0, s .good .0 .1)) (at-loop .loop .inv .1) (rw (tallied .tally-at .ensures, listed .members .ensures) at (put .put-group .ensures))),
+          (chain (omega (arith, w1 .put-head .kept .0, s .good .0 .1)) (at-loop .loop .inv .1) (rw (tallied .group-tally .ensures, listed .members .ensures) at (put .put-group .ensures))),
     )
 
 slice-aggregate-put-set : tie.Need-slice-aggregate-put-set Inv-loop μ-loop
@@ -101,7 +101,7 @@ put-report-spec =
     put-head-requires
     loop-holds
     members-requires
-    tally-at-requires
+    group-tally-requires
     put-group-requires
     add-k
     loop-less
