@@ -14,7 +14,7 @@ use native.Mathlib.Decide.{ℕ-discrete, decLt}
 use native.Mathlib.Numerals.{add-one}
 use mathlib.Core.Path.{_≡_, refl, sym, ap, ap₂, _∙_, subst₂}
 use mathlib.Core.Logic.{_⊎_, inl, inr, ⊎-elim}
-use mathlib.Core.Bool.{Bool, true, false, _&&_, _||_, cond}
+use mathlib.Core.Bool.{Bool, true, false, _&&_, _||_, cond, and-false, or-true, or-false}
 use mathlib.Core.List.{List, []}
 use lib.Dec.{eqb, leb, ltb}
 use lib.Bits.{bitAnd, bitXor, differ}
@@ -34,7 +34,7 @@ use Rattle.community.specs.Scores.{justOne}
 use Rattle.lookup.specs.Lookup.{membersOf}
 use Rattle.scores.proofs.Entries.{bit-le}
 use Rattle.reporting.specs.Held.{inGroup, bitFor, joinedIn, leavesIn, GroupAdded, Raised, CountsBelow, Edges, EdgeCounted, EdgesCounted, GroupsCounted}
-use Rattle.reporting.proofs.Marking.{and-false, or-false, contains-more}
+use Rattle.reporting.proofs.Marking.{contains-more}
 
 -- ---- the rows
 
@@ -56,10 +56,6 @@ marked rows x k v j size h p q = pick (ℕ-discrete v x) (ℕ-discrete j k)
     other n e =
         bitAt-set-other rows (x * 512 + k) (v * 512 + j) n ∙ sym (test-bit (cell rows v j) (bitAt-lt rows (v * 512 + j)))
         ∙ ap bit (sym (or-false (inGroup rows v j)) ∙ ap (λ (b : Bool). inGroup rows v j || b) (sym e))
-
-    or-true : (b : Bool) → (b || true) ≡ true
-    or-true true = refl
-    or-true false = refl
 
     pick : Dec (v ≡ x) → Dec (j ≡ k) → cell (withBit rows (x * 512 + k)) v j ≡ bit (inGroup rows v j || (eqb j k && eqb v x))
     pick (yes d) (yes e) =
