@@ -15,10 +15,10 @@ use Rattle.reporting.proofs.put_report.Statement.{statement}
 use Rattle.reporting.proofs.put_report.Tie as tie
 
 abbrev Inv-loop : tie.InvT-loop
-Inv-loop text₀ starts members counts cores outliers groups next₀ k₀ t13 t14 text next k = (k ≤ groups) × Wrote text₀ next₀ (tableLines starts members counts k) text next
+Inv-loop text₀ starts members tallies cores outliers groups next₀ k₀ t13 t14 text next k = (k ≤ groups) × Wrote text₀ next₀ (tableLines starts members tallies k) text next
 
 abbrev μ-loop : tie.MeasureT-loop
-μ-loop text₀ starts members counts cores outliers groups next₀ k₀ t13 t14 text next k = groups - k
+μ-loop text₀ starts members tallies cores outliers groups next₀ k₀ t13 t14 text next k = groups - k
 
 -- where the function starts, when line one is written, and when the cores are
 abbrev start : tie.After-put-head Inv-loop μ-loop → tie.Start Inv-loop μ-loop
@@ -62,7 +62,7 @@ loop-again c =
     let s = start w1 in
     let a = s .args in (
       omega arith,
-      rw (lines-more (now (a .starts)) (now (a .members)) (now (a .counts)) (at-loop .loop .k))
+      rw (lines-more (now (a .starts)) (now (a .members)) (now (a .tallies)) (at-loop .loop .k))
           (chain (omega (arith, w1 .put-head .kept .0, s .good .0 .1)) (at-loop .loop .inv .1) (rw (tallied .group-tally .ensures, listed .members .ensures) at (put .put-group .ensures))),
     )
 
@@ -86,7 +86,7 @@ returns c =
     let w1 = head at-loop in
     let s = start w1 in
     let a = s .args in
-    text-written (a .head) (now (a .starts)) (now (a .members)) (now (a .counts)) (now (a .cores)) (now (a .outliers)) (omega (arith, s .good .0 .1)) (omega arith)
+    text-written (a .head) (now (a .starts)) (now (a .members)) (now (a .tallies)) (now (a .cores)) (now (a .outliers)) (omega (arith, s .good .0 .1)) (omega arith)
     (w1 .put-head .ensures) (at-loop .loop .inv .1) (w3 .put-set .ensures) (w4 .put-set2 .ensures)
 
 same-length : tie.Need-same-length Inv-loop μ-loop
