@@ -10,7 +10,7 @@
 --     EdgeCounted ..                 a table with one edge added, for the groups of the rows' words that begin below a bound
 --     EdgesCounted ..                the counts over the first m edges, for those groups
 --     GroupsCounted ..               the tied pairs and the leaving edges of each group of a plan's two tables
---     tableLines ..                  the lines of the first k groups, from the plan's two tables and the counts
+--     tableLines ..                  the lines of the first k groups, from the plan's two tables and the tallies
 --     tableText ..                   the whole text from the tables and the two sets
 --     Filled t l r l′                a text t was written into the buffer l where it fits: the answer r, and the buffer after
 --     Without ws l ws′               the set ws with the numbers of l taken out
