@@ -1,8 +1,8 @@
 -- A network and the network with its handsets renumbered: the same communities, numbered back, the same number of communities, and the same roles.
 use Prim.Native.Nat.{ℕ, _≤_, _<_}
 use native.Mathlib.Nat.{le-antisymm}
-use mathlib.Core.Path.{_≡_, refl, sym, ap, ap₂, _∙_, subst}
-use mathlib.Core.Bool.{Bool, true, false, _&&_}
+use mathlib.Core.Path.{_≡_, sym, ap, ap₂, _∙_, subst}
+use mathlib.Core.Bool.{Bool, true, _&&_, and-true}
 use lib.Dec.{T, leb}
 use lib.ListN.{length}
 use Rattle.sets.specs.Below.{count}
@@ -127,10 +127,6 @@ module _ (g : Network) (b : ℕ → ℕ → Bool) (r : Renumbering (g .n)) (move
             rw (r .back-to u hu, r .back-to v hv) at (Reachable-unmoved g b r moved (Reachable-trans (Reachable-back ok′ x cu) y)) in
             leader-one ok u v v fu fv (leader-core g v fv) z (core-self ok v hv (leader-core g v fv));
       })
-
-and-true : (a : Bool) → (a && true) ≡ a
-and-true true = refl
-and-true false = refl
 
 module _ (g : Network) (b : ℕ → ℕ → Bool) (r : Renumbering (g .n)) (moved : Moved g b r) (ok : Sound g) (ok′ : Sound (withNeighbour g b)) where
   -- a handset is in as many communities

@@ -2,8 +2,8 @@
 use Prim.Native.Nat.{ℕ, _*_, _≤_, _<_}
 use native.Mathlib.Omega.{arith}
 use native.Mathlib.Nat.{mul-comm, mul-le-mul}
-use mathlib.Core.Path.{_≡_, refl, ap, ap₂, _∙_}
-use mathlib.Core.Bool.{Bool, true, false, _&&_}
+use mathlib.Core.Path.{_≡_, ap, ap₂, _∙_}
+use mathlib.Core.Bool.{_&&_, and-self}
 use lib.Dec.{T, leb, le→leb, leb→le}
 use Rattle.sets.proofs.Tests.{and-make, and-left, and-right, and-comm, any-take}
 use Rattle.sets.proofs.Counting.{count-cong, count-some}
@@ -12,10 +12,6 @@ use Rattle.community.specs.Network.{Network, neighbourhoodSize, commonNe
 use Rattle.community.specs.Held.{Sound}
 use Rattle.community.proofs.Reachability.{Reachable-trans, to-below}
 
-and-same : (a : Bool) → (a && a) ≡ a
-and-same true = refl
-and-same false = refl
-
 pub commonNeighbours-sym : (g : Network) (u v : ℕ) → commonNeighbours g u v ≡ commonNeighbours g v u
 unfolding commonNeighbours
 commonNeighbours-sym g u v =
@@ -23,7 +19,7 @@ commonNeighbours-sym g u v =
 
 pub commonNeighbours-self : (g : Network) (u : ℕ) → commonNeighbours g u u ≡ neighbourhoodSize g u
 unfolding commonNeighbours neighbourhoodSize
-commonNeighbours-self g u = count-cong (g .n) (λ w. g .neighbour u w && g .neighbour u w) (g .neighbour u) (λ w h. and-same (g .neighbour u w))
+commonNeighbours-self g u = count-cong (g .n) (λ w. g .neighbour u w && g .neighbour u w) (g .neighbour u) (λ w h. and-self (g .neighbour u w))
 
 meetsEpsilon-comm : (p q c a b : ℕ) → meetsEpsilon p q c a b ≡ meetsEpsilon p q c b a
 unfolding meetsEpsilon

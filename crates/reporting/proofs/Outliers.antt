@@ -17,6 +17,7 @@ use borrow.Author.Tests.{lt-ltb, le-ltb}
 use Rattle.sets.specs.Below.{select, bit}
 use Rattle.sets.specs.Bits.{bitAt}
 use Rattle.sets.proofs.Tests.{decide, T-true, T-false}
+use Rattle.sets.proofs.Counting.{bit-test}
 use Rattle.sets.proofs.Selecting.{select-no, select-cong}
 use Rattle.community.specs.Network.{Network, isCore, communities, contains, membershipCount, role, borderOf}
 use Rattle.community.specs.Held.{Sound}
@@ -94,11 +95,7 @@ unfolding elementsOf
 held-members ws n f h e =
     let m : ℕ → Bool = λ v. ltb v n && f v in
     let d : (512 - n) + n ≡ 512 = omega arith in
-    select-cong 512 (λ v. eqb (bitAt ws v) 1) m (λ v l. ap (λ (b : ℕ). eqb b 1) (e v l) ∙ one (m v))
+    select-cong 512 (λ v. eqb (bitAt ws v) 1) m (λ v l. ap (λ (b : ℕ). eqb b 1) (e v l) ∙ bit-test (m v))
     ∙ ap (λ (k : ℕ). select k m) (sym d)
     ∙ select-more n (512 - n) m (λ v l. rw (le-ltb v n l) tt)
     ∙ select-cong n m f (λ v l. rw (lt-ltb v n l))
-  where
-    one : (b : Bool) → eqb (bit b) 1 ≡ b
-    one true = refl
-    one false = refl

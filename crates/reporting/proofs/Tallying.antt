@@ -6,21 +6,19 @@
 --     raised-more, raised-done      a table where the bits of a word are added one by one, the lowest first; raised-le: none is raised by more than 1
 --     edge-none, edge-more          one edge, for the groups of the first words: of none, and of one more; edge-done: of all that begin below a bound
 --     edge-room                     one edge makes no count too large
---     ends-at                       the ends that a record holds are those of its edge
 --     edges-none, edges-more        the first edges: none, and one more; edges-room: the next edge has room
 --     groups-counted                the counts by the rows are the groups' counts
-use Prim.Native.Nat.{ℕ, _+_, _*_, _-_, _/_, _^_, _≤_, _<_, min}
+use Prim.Native.Nat.{ℕ, _+_, _*_, _-_, _/_, _≤_, _<_, min}
 use native.Mathlib.Omega.{arith}
 use native.Mathlib.Decide.{ℕ-discrete, decLt}
-use native.Mathlib.Nat.{add-zero}
 use native.Mathlib.Numerals.{add-one}
 use mathlib.Core.Path.{_≡_, refl, sym, ap, ap₂, _∙_, subst₂}
 use mathlib.Core.Logic.{_⊎_, inl, inr, ⊎-elim}
-use mathlib.Core.Bool.{Bool, true, false, _&&_, _||_, cond}
+use mathlib.Core.Bool.{Bool, true, false, _&&_, _||_, cond, and-false, or-true, or-false}
 use mathlib.Core.List.{List, []}
 use lib.Dec.{eqb, leb, ltb}
 use lib.Bits.{bitAnd, bitXor, differ}
-use lib.ListN.{length, getD, set, take, drop, replicate, length-replicate, getD-replicate}
+use lib.ListN.{length, getD, set, take, replicate, length-replicate, getD-replicate}
 use lib.Seq.{getD-set-same, getD-set-other}
 use borrow.Author.Tests.{lt-ltb, le-ltb, le-leb, lt-leb, eq-eqb, ne-eqb}
 use Rattle.sets.specs.Below.{bit, count}
@@ -30,16 +28,13 @@ use Rattle.sets.proofs.Bits.{bitOf-none, bitOf-lt, bitOf-and, bitOf-xor, bitAt-
 use Rattle.sets.proofs.Lowest.{Lowest, cleared, cleared-same, cleared-other}
 use Rattle.sets.proofs.Counting.{bit-test, test-bit, count-cong, count-le, count-none}
 use Rattle.sets.proofs.Tests.{three}
-use Rattle.fields.specs.Bytes.{number}
-use Rattle.fields.specs.Fields.{edgeBytes, endsOf}
-use Rattle.fields.proofs.Bytes.{number-part}
 use Rattle.image.specs.Image.{endA, endB}
 use Rattle.community.specs.Network.{contains}
 use Rattle.community.specs.Scores.{justOne}
 use Rattle.lookup.specs.Lookup.{membersOf}
 use Rattle.scores.proofs.Entries.{bit-le}
-use Rattle.reporting.specs.Held.{inGroup, bitFor, joinedIn, leavesIn, GroupAdded, Raised, CountsFit, Edges, EdgeCounted, EdgesCounted, GroupsCounted}
-use Rattle.reporting.proofs.Marking.{and-false, or-false, contains-more}
+use Rattle.reporting.specs.Held.{inGroup, bitFor, joinedIn, leavesIn, GroupAdded, Raised, CountsBelow, Edges, EdgeCounted, EdgesCounted, GroupsCounted}
+use Rattle.reporting.proofs.Marking.{contains-more}
 
 -- ---- the rows
 
@@ -61,10 +56,6 @@ marked rows x k v j size h p q = pick (ℕ-discrete v x) (ℕ-discrete j k)
     other n e =
         bitAt-set-other rows (x * 512 + k) (v * 512 + j) n ∙ sym (test-bit (cell rows v j) (bitAt-lt rows (v * 512 + j)))
         ∙ ap bit (sym (or-false (inGroup rows v j)) ∙ ap (λ (b : Bool). inGroup rows v j || b) (sym e))
-
-    or-true : (b : Bool) → (b || true) ≡ true
-    or-true true = refl
-    or-true false = refl
 
     pick : Dec (v ≡ x) → Dec (j ≡ k) → cell (withBit rows (x * 512 + k)) v j ≡ bit (inGroup rows v j || (eqb j k && eqb v x))
     pick (yes d) (yes e) =
@@ -301,7 +292,7 @@ edge-done rows u v j groups ts₀ ts h l c = record {
         pick (no q) = le-ltb (64 * (k / 64)) (64 * j) (omega arith) ∙ sym (le-ltb (64 * (k / 64)) groups (omega arith))
 
 -- what one edge leaves still has room
-pub edge-room : (rows : List ℕ) (u v groups : ℕ) (ts₀ ts : List ℕ) → CountsFit ts₀ → EdgeCounted rows u v groups ts₀ ts → (i : ℕ) → i < 1024 → getD ts i 0 ≤ 4097
+pub edge-room : (rows : List ℕ) (u v groups : ℕ) (ts₀ ts : List ℕ) → CountsBelow ts₀ → EdgeCounted rows u v groups ts₀ ts → (i : ℕ) → i < 1024 → getD ts i 0 ≤ 4097
 edge-room rows u v groups ts₀ ts room c i h = pick (decLt i 512)
   where
     pick : Dec (i < 512) → getD ts i 0 ≤ 4097
@@ -313,14 +304,6 @@ edge-room rows u v groups ts₀ ts room c i h = pick (decLt i 512)
         rw e (omega (arith, c .leaving k low, room .leaving k low, bit-le (leavesIn rows groups u v k)))
 
 -- ---- all edges
-
-pub ends-at : (part : List ℕ) (k : ℕ) → edgeBytes * k + edgeBytes ≤ length part
-    → (let r : List ℕ = take ((edgeBytes * k + edgeBytes) - edgeBytes * k) (drop (edgeBytes * k) part) in (endsOf r .a ≡ endA part k) × (endsOf r .b ≡ endB part k))
-unfolding endsOf endA endB
-ends-at part k h =
-    let part-of : (at : ℕ) → at + 2 ≤ edgeBytes → number 2 (take ((edgeBytes * k + edgeBytes) - edgeBytes * k) (drop (edgeBytes * k) part)) at ≡ number 2 part (edgeBytes * k + at) =
-    λ at l. number-part 2 part (edgeBytes * k) ((edgeBytes * k + edgeBytes) - edgeBytes * k) at (omega arith) (omega arith) in
-    (part-of 0 (omega arith) ∙ ap (number 2 part) (add-zero (edgeBytes * k)), part-of 2 (omega arith))
 
 pub edges-none : (rows part : List ℕ) (groups : ℕ) → EdgesCounted rows part 0 groups (replicate 1024 0)
 edges-none rows part groups = record {
@@ -343,7 +326,7 @@ edges-more rows part e groups ts ts′ c p q held =
       leaving = λ k h. omega (arith, d .leaving k h, c .leaving k h, count-next e (λ i. leavesIn rows groups (endA part i) (endB part i) k));
     }
 
-pub edges-room : (rows part : List ℕ) (e groups : ℕ) (ts : List ℕ) → e ≤ 4096 → EdgesCounted rows part e groups ts → CountsFit ts
+pub edges-room : (rows part : List ℕ) (e groups : ℕ) (ts : List ℕ) → e ≤ 4096 → EdgesCounted rows part e groups ts → CountsBelow ts
 edges-room rows part e groups ts h c = record {
   size = c .size;
   joined = λ k l. omega (arith, c .joined k l, count-le e (λ i. joinedIn rows groups (endA part i) (endB part i) k));

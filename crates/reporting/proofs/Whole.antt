@@ -2,7 +2,7 @@
 -- the community's tally; the set of cores holds the cores, and what is left of the handsets are the outliers.
 --
 --     groups-few           an accepted image has at most 512 communities
---     part-is              the part of the tables for group k is the k-th community
+--     membersOf-tables     the part of the tables for group k is the k-th community
 --     text-is              the text from the tables is the report's
 --     handsets-few, edges-fit, members-fit, ends-held    the bounds that the calls and the parts of the report ask for
 --     text-held            the text from the tables as the report's functions leave them
@@ -64,8 +64,8 @@ module _ (g : Network) where
   community-apart k h = rw (community-at g k h) (members-apart (leader g k))
 
 -- the part of the tables for group k is the k-th list
-pub part-is : (gs : List (List ℕ)) (x y : List ℕ) (k : ℕ) → k < length gs → membersOf (startTable gs ++ x) (memberTable gs ++ y) k ≡ getD gs k []
-part-is gs x y k h =
+pub membersOf-tables : (gs : List (List ℕ)) (x y : List ℕ) (k : ℕ) → k < length gs → membersOf (startTable gs ++ x) (memberTable gs ++ y) k ≡ getD gs k []
+membersOf-tables gs x y k h =
     members-slice (startTable gs ++ x) (memberTable gs ++ y) k (omega (arith, length-append (startTable gs) x, length-startTable gs))
     (starts-ordered gs x y k h) (starts-within gs x y k h)
     ∙ table-community gs x y k h
@@ -95,7 +95,7 @@ module _ {s : List ℕ} {h : Header} {head : Head} {starts table cores-set : Lis
   part-at k l =
       let gs : List (List ℕ) = communities (network s) in
       rw (held .starts-are, held .members-are)
-      (part-is gs (drop (length (startTable gs)) (replicate 513 0)) (drop (length (memberTable gs)) (replicate 8704 0)) k (omega (arith, groups-are)))
+      (membersOf-tables gs (drop (length (startTable gs)) (replicate 513 0)) (drop (length (memberTable gs)) (replicate 8704 0)) k (omega (arith, groups-are)))
 
   -- the counts of a group are its community's tally
   tally-held : (ts : List ℕ) → GroupsCounted (edgeRecords s) (edgeCount s) starts table (head .counts .groups) ts

@@ -6,12 +6,12 @@
 --     GroupAdded rows l k ..         the rows with group k added to those of the handsets in l
 --     bitFor base w i                the bit of the word w that place i of a table gets, where bit 0 belongs to the place base
 --     Raised ts base w ..            a table with 1 added at base + k for each set bit k of the word w
---     CountsFit ts                   a table of 1,024 numbers that none of 4,096 edges makes too large
+--     CountsBelow ts                 a table of 1,024 numbers, none above 4,096: one more edge makes none too large
 --     Edges part m                   m edge records stand in the part, and the ends of each have rows
 --     EdgeCounted ..                 a table with one edge added, for the groups of the rows' words that begin below a bound
 --     EdgesCounted ..                the counts over the first m edges, for those groups
 --     GroupsCounted ..               the tied pairs and the leaving edges of each group of a plan's two tables
---     tableLines ..                  the lines of the first k groups, from the plan's two tables and the counts
+--     tableLines ..                  the lines of the first k groups, from the plan's two tables and the tallies
 --     tableText ..                   the whole text from the tables and the two sets
 --     Filled t l r l′                a text t was written into the buffer l where it fits: the answer r, and the buffer after
 --     Without ws l ws′               the set ws with the numbers of l taken out
@@ -65,7 +65,7 @@ pub record Raised (ts : List ℕ) (base w : ℕ) (ts′ : List ℕ) : Type 0 whe
   pub size : length ts′ ≡ length ts
   pub counts : (i : ℕ) → getD ts′ i 0 ≡ getD ts i 0 + bitFor base w i
 
-pub record CountsFit (ts : List ℕ) : Type 0 where
+pub record CountsBelow (ts : List ℕ) : Type 0 where
   pub size : length ts ≡ 1024
   pub joined : (k : ℕ) → k < 512 → getD ts k 0 ≤ 4096
   pub leaving : (k : ℕ) → k < 512 → getD ts (512 + k) 0 ≤ 4096

@@ -1,7 +1,7 @@
 // The report: the text of a site's plan, written into a lent buffer, and the text that the report program prints.
 //
-// `counts` counts each group's tied pairs and leaving edges, in one pass over the edges.
-mod counts;
+// `tallies` counts each group's tied pairs and leaving edges, in one pass over the edges.
+mod tallies;
 
 use image::Header;
 use image::Opened;
@@ -92,15 +92,15 @@ fn put_group(text: &mut [u8], at: usize, k: usize, tally: Tally, members: &[u16]
     text::put(text, p3, 10)
 }
 
-// The tally of group k, from the table of counts and the group's members; 0 for a place past the table's end.
-fn tally_at(counts: &[u32], k: usize, members: &[u16]) -> Tally
+// The tally of group k, from the table of tallies and the group's members; 0 for a place past the table's end.
+fn group_tally(tallies: &[u32], k: usize, members: &[u16]) -> Tally
     requires { ⌜ k < 512 ⌝ }
-    ensures { λ r. ⌜ r ≡ groupTally (now (counts .entry)) k (now (members .entry)) ⌝ }
+    ensures { λ r. ⌜ r ≡ groupTally (now (tallies .entry)) k (now (members .entry)) ⌝ }
 {
     Tally {
         pairs: scores::pairs_of(members),
-        joined: at_or_zero(counts, k),
-        leaving: at_or_zero(counts, 512 + k),
+        joined: at_or_zero(tallies, k),
+        leaving: at_or_zero(tallies, 512 + k),
     }
 }
 
@@ -120,25 +120,25 @@ fn put_set(text: &mut [u8], at: usize, word: &[u8], set: &[u64]) -> usize
     text::put(text, p2, 10)
 }
 
-// Writes the whole report from the numbers of line one, the plan's tables, the counts, and the sets of cores and of outliers.
+// Writes the whole report from the numbers of line one, the plan's tables, the tallies, and the sets of cores and of outliers.
 fn put_report<'a>(
     text: &mut [u8],
     head: Head,
     starts: &'a [u32],
     members: &'a [u16],
-    counts: &'a [u32],
+    tallies: &'a [u32],
     cores: &'a [u64],
     outliers: &'a [u64],
 ) -> usize
     requires { ⌜ head .counts .groups ≤ 512 ⌝ }
-    ensures { λ r. ⌜ Wrote (now (text .entry)) 0 (tableText head (now (starts .entry)) (now (members .entry)) (now (counts .entry)) (now (cores .entry)) (now (outliers .entry))) (now (text .exit)) r ⌝ }
+    ensures { λ r. ⌜ Wrote (now (text .entry)) 0 (tableText head (now (starts .entry)) (now (members .entry)) (now (tallies .entry)) (now (cores .entry)) (now (outliers .entry))) (now (text .exit)) r ⌝ }
 {
     let groups = head.counts.groups;
     let mut next = put_head(text, 0, head);
     let mut k: usize = 0;
     while k < groups {
         let list = lookup::members(starts, members, k);
-        next = put_group(text, next, k, tally_at(counts, k, list), list);
+        next = put_group(text, next, k, group_tally(tallies, k, list), list);
         k += 1;
     }
     let past = put_set(text, next, b"cores:", cores);
@@ -187,15 +187,15 @@ fn report_plan<'a>(
     let b = a + fields::EDGE_BYTES * m;
     let groups = head.counts.groups;
     let memberships = head.counts.memberships;
-    let mut counts = [0u32; 1024];
-    counts::count_groups(&image[a..b], m, starts, members, groups, &mut counts);
+    let mut tallies = [0u32; 1024];
+    tallies::count_groups(&image[a..b], m, starts, members, groups, &mut tallies);
     let mut outliers = [0u64; 8];
     mark_below(&mut outliers, h.n as usize);
     unmark_all(&mut outliers, &members[0..memberships]);
     let mut none = [0u8; 1];
-    let need = put_report(&mut none, head, starts, members, &counts, cores, &outliers);
+    let need = put_report(&mut none, head, starts, members, &tallies, cores, &outliers);
     if need <= text.len() {
-        let length = put_report(text, head, starts, members, &counts, cores, &outliers);
+        let length = put_report(text, head, starts, members, &tallies, cores, &outliers);
         return Reported::Written(length);
     }
     Reported::Refused(Refusal {

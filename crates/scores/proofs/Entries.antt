@@ -9,27 +9,23 @@
 --     table-le            no place holds more than 512
 --     tiesOf, leaves      what one edge adds to t, and whether it adds to o, by a table; ties-le: at most 512 * 512
 --     joined-more, joined-le, leaving-more, leaving-le     one more edge, and how much the first edges make
---     ends-at             the record of edge k holds its two ends
 --     table-tally         the counts by a table of multiplicities are the tally over the part
-use Prim.Native.Nat.{ℕ, zero, suc, _+_, _*_, _-_, _≤_, _<_}
+use Prim.Native.Nat.{ℕ, zero, suc, _+_, _*_, _≤_, _<_}
 use native.Mathlib.Omega.{arith}
 use native.Mathlib.Numerals.{add-one}
 use native.Mathlib.Decide.{ℕ-discrete, decLt}
-use native.Mathlib.Nat.{add-zero, add-sub-cancel-left, mul-le-mul}
+use native.Mathlib.Nat.{mul-le-mul}
 use mathlib.Core.Path.{_≡_, refl, sym, ap, ap₂, _∙_}
 use mathlib.Core.Logic.{_⊎_, inl, inr, ⊎-elim}
 use mathlib.Core.Bool.{Bool, true, false, _&&_, not, cond}
 use mathlib.Core.List.{List}
 use lib.Dec.{T, leb, eqb, not-T, le→leb, leb→le}
-use lib.ListN.{length, getD, set, take, drop, length-replicate, getD-replicate, List·getD-eq-default}
+use lib.ListN.{length, getD, set, length-replicate, getD-replicate, List·getD-eq-default}
 use lib.Seq.{getD-set-same, getD-set-other}
 use Rattle.sets.specs.Below.{any, count, sum, bit, find}
 use Rattle.sets.proofs.Tests.{or-left, or-right, or-cases, decide, not-any, none-any, find-law, find-none, eqb-of, eqb-not, T-true, T-false}
 use Rattle.sets.proofs.Bits.{zeros}
 use Rattle.sets.proofs.Counting.{count-cong, count-le, count-yes, count-no, sum-cong}
-use Rattle.fields.specs.Bytes.{number}
-use Rattle.fields.specs.Fields.{edgeBytes, endsOf}
-use Rattle.fields.proofs.Bytes.{number-part}
 use Rattle.image.specs.Image.{endA, endB}
 use Rattle.community.specs.Network.{contains}
 use Rattle.community.specs.Scores.{pairs, justOne}
@@ -164,15 +160,6 @@ module _ (table part : List ℕ) (test : ℕ → Bool) where
     unfolding joinedSum sum
     joined-le zero = omega arith
     joined-le (suc k) = omega (arith, joined-le k, ties-le k)
-
-pub ends-at : (part : List ℕ) (k : ℕ) → edgeBytes * k + edgeBytes ≤ length part
-    → endsOf (take ((edgeBytes * k + edgeBytes) - edgeBytes * k) (drop (edgeBytes * k) part)) ≡ record { a = endA part k; b = endB part k }
-unfolding endsOf endA endB
-ends-at part k h =
-    rw (add-sub-cancel-left (edgeBytes * k) edgeBytes)
-    (ap₂ (λ (x y : ℕ). record { a = x; b = y })
-    (number-part 2 part (edgeBytes * k) edgeBytes 0 (omega arith) h ∙ ap (number 2 part) (add-zero (edgeBytes * k)))
-    (number-part 2 part (edgeBytes * k) edgeBytes 2 (omega arith) h))
 
 pub table-tally : (part : List ℕ) (m : ℕ) (test : ℕ → Bool) (l table : List ℕ) → Multiplicities table l
     → record { pairs = pairs l; joined = joinedSum table part test m; leaving = leavingSum table part test m } ≡ tallyAt part m test l

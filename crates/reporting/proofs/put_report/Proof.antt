@@ -15,10 +15,10 @@ use Rattle.reporting.proofs.put_report.Statement.{statement}
 use Rattle.reporting.proofs.put_report.Tie as tie
 
 abbrev Inv-loop : tie.InvT-loop
-Inv-loop text₀ starts members counts cores outliers groups next₀ k₀ t13 t14 text next k = (k ≤ groups) × Wrote text₀ next₀ (tableLines starts members counts k) text next
+Inv-loop text₀ starts members tallies cores outliers groups next₀ k₀ t13 t14 text next k = (k ≤ groups) × Wrote text₀ next₀ (tableLines starts members tallies k) text next
 
 abbrev μ-loop : tie.MeasureT-loop
-μ-loop text₀ starts members counts cores outliers groups next₀ k₀ t13 t14 text next k = groups - k
+μ-loop text₀ starts members tallies cores outliers groups next₀ k₀ t13 t14 text next k = groups - k
 
 -- where the function starts, when line one is written, and when the cores are
 abbrev start : tie.After-put-head Inv-loop μ-loop → tie.Start Inv-loop μ-loop
@@ -40,8 +40,8 @@ loop-holds c = (omega arith, nothing _ _ _ (omega (arith, c .before .before .put
 members-requires : tie.Need-members-requires Inv-loop μ-loop
 members-requires c κs = search needs
 
-tally-at-requires : tie.Need-tally-at-requires Inv-loop μ-loop
-tally-at-requires c κs = omega arith
+group-tally-requires : tie.Need-group-tally-requires Inv-loop μ-loop
+group-tally-requires c κs = omega arith
 
 put-group-requires : tie.Need-put-group-requires Inv-loop μ-loop
 put-group-requires c κs = search needs
@@ -62,8 +62,8 @@ loop-again c =
     let s = start w1 in
     let a = s .args in (
       omega arith,
-      rw (lines-more (now (a .starts)) (now (a .members)) (now (a .counts)) (at-loop .loop .k))
-          (chain (omega (arith, w1 .put-head .kept .0, s .good .0 .1)) (at-loop .loop .inv .1) (rw (tallied .tally-at .ensures, listed .members .ensures) at (put .put-group .ensures))),
+      rw (lines-more (now (a .starts)) (now (a .members)) (now (a .tallies)) (at-loop .loop .k))
+          (chain (omega (arith, w1 .put-head .kept .0, s .good .0 .1)) (at-loop .loop .inv .1) (rw (tallied .group-tally .ensures, listed .members .ensures) at (put .put-group .ensures))),
     )
 
 slice-aggregate-put-set : tie.Need-slice-aggregate-put-set Inv-loop μ-loop
@@ -86,7 +86,7 @@ returns c =
     let w1 = head at-loop in
     let s = start w1 in
     let a = s .args in
-    text-written (a .head) (now (a .starts)) (now (a .members)) (now (a .counts)) (now (a .cores)) (now (a .outliers)) (omega (arith, s .good .0 .1)) (omega arith)
+    text-written (a .head) (now (a .starts)) (now (a .members)) (now (a .tallies)) (now (a .cores)) (now (a .outliers)) (omega (arith, s .good .0 .1)) (omega arith)
     (w1 .put-head .ensures) (at-loop .loop .inv .1) (w3 .put-set .ensures) (w4 .put-set2 .ensures)
 
 same-length : tie.Need-same-length Inv-loop μ-loop
@@ -101,7 +101,7 @@ put-report-spec =
     put-head-requires
     loop-holds
     members-requires
-    tally-at-requires
+    group-tally-requires
     put-group-requires
     add-k
     loop-less

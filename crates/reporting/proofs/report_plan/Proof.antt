@@ -15,7 +15,7 @@ use Rattle.reporting.proofs.report_plan.Tie as tie
 abbrev start : tie.After-struct-known2 → tie.Start
 start c = c .before .before .before .before .before .before .before
 
-abbrev counting : tie.After-counts → tie.After-struct-known2
+abbrev counting : tie.After-tallies → tie.After-struct-known2
 counting c = c .before .before
 
 abbrev counted : tie.After-struct-known3 → tie.After-count-groups

@@ -10,9 +10,10 @@ use denote.Ref.{now}
 use Rattle.fields.specs.declared.Ends.{Ends}
 use Rattle.sets.specs.Below.{bit}
 use Rattle.image.specs.Image.{endA, endB}
+use Rattle.image.proofs.Records.{ends-part}
 use Rattle.community.specs.Scores.{everyEdge, justOne}
 use Rattle.scores.specs.Held.{joinedSum, leavingSum}
-use Rattle.scores.proofs.Entries.{joined-none, leaving-none, joined-more, leaving-more, joined-le, leaving-le, ties-le, bit-le, ends-at}
+use Rattle.scores.proofs.Entries.{joined-none, leaving-none, joined-more, leaving-more, joined-le, leaving-le, ties-le, bit-le}
 use Rattle.scores.proofs.tally_edges.Statement.{statement}
 use Rattle.scores.proofs.tally_edges.Tie as tie
 
@@ -50,7 +51,7 @@ ends-are : (c : tie.After-held2 Inv-loop μ-loop)
     → (let l = turn c in read c .read-ends .result ≡ record { a = endA (edges-of l) (l .loop .k); b = endB (edges-of l) (l .loop .k) })
 ends-are c =
     let l = turn c in
-    read c .read-ends .ensures ∙ ends-at (edges-of l) (l .loop .k) (omega (arith, start l .pre .0, c .before .before .before .before .loop-test .taken))
+    read c .read-ends .ensures ∙ ends-part (edges-of l) (l .loop .k) (omega (arith, start l .pre .0, c .before .before .before .before .loop-test .taken))
 
 -- the two counts are what the table holds for the two ends
 a-is : (c : tie.After-held2 Inv-loop μ-loop) → (let l = turn c in a-of c ≡ getD (table-of l) (endA (edges-of l) (l .loop .k)) 0)

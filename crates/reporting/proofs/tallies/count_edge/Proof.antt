@@ -1,4 +1,4 @@
--- `reporting::counts::count_edge` meets its contract. After j steps the edge is counted for the groups of the first j words. The measure is the count of groups
+-- `reporting::tallies::count_edge` meets its contract. After j steps the edge is counted for the groups of the first j words. The measure is the count of groups
 -- left.
 use native.Mathlib.Omega.{arith}
 use Prim.Native.Nat.{ℕ, _+_, _*_, _-_, _≤_, _<_}
@@ -8,14 +8,14 @@ use lib.ListN.{getD}
 use Rattle.reporting.specs.Held.{EdgeCounted}
 use Rattle.reporting.proofs.Tallying.{raised-le, edge-none, edge-more, edge-done, edge-room}
 use borrow.Author.Needs.{needs}
-use Rattle.reporting.proofs.counts.count_edge.Statement.{statement}
-use Rattle.reporting.proofs.counts.count_edge.Tie as tie
+use Rattle.reporting.proofs.tallies.count_edge.Statement.{statement}
+use Rattle.reporting.proofs.tallies.count_edge.Tie as tie
 
 abbrev Inv-loop : tie.InvT-loop
-Inv-loop rows u v groups counts₀ j₀ counts j = (64 * j < groups + 64) × EdgeCounted rows u v (64 * j) counts₀ counts
+Inv-loop rows u v groups tallies₀ j₀ tallies j = (64 * j < groups + 64) × EdgeCounted rows u v (64 * j) tallies₀ tallies
 
 abbrev μ-loop : tie.MeasureT-loop
-μ-loop rows u v groups counts₀ j₀ counts j = groups - 64 * j
+μ-loop rows u v groups tallies₀ j₀ tallies j = groups - 64 * j
 
 -- where the function starts; the loop, from where the tied pairs are counted, and that place from where the leaving edges are
 abbrev start : tie.At-loop Inv-loop μ-loop → tie.Start Inv-loop μ-loop
@@ -30,7 +30,7 @@ joined c = c .before .before .before
 loop-holds : tie.Need-loop-holds Inv-loop μ-loop
 loop-holds c =
     let s = c .before .before in
-    (omega arith, edge-none (now (s .args .rows)) (s .args .u) (s .args .v) (now (s .args .counts)) (s .pre .1 .1 .1 .1 .size))
+    (omega arith, edge-none (now (s .args .rows)) (s .args .u) (s .args .v) (now (s .args .tallies)) (s .pre .1 .1 .1 .1 .size))
 
 mul-loop : tie.Need-mul-loop Inv-loop μ-loop
 mul-loop c = search needs
@@ -63,10 +63,10 @@ mul-add-bits : tie.Need-mul-add-bits Inv-loop μ-loop
 mul-add-bits c = search needs
 
 -- before a word is counted, no count is above 4,097
-low : (c : tie.At-loop Inv-loop μ-loop) (i : ℕ) → i < 1024 → getD (c .loop .counts) i 0 ≤ 4097
+low : (c : tie.At-loop Inv-loop μ-loop) (i : ℕ) → i < 1024 → getD (c .loop .tallies) i 0 ≤ 4097
 low c =
     let a = start c .args in
-    edge-room (now (a .rows)) (a .u) (a .v) (64 * c .loop .j) (now (a .counts)) (c .loop .counts) (start c .pre .1 .1 .1 .1) (c .loop .inv .1)
+    edge-room (now (a .rows)) (a .u) (a .v) (64 * c .loop .j) (now (a .tallies)) (c .loop .tallies) (start c .pre .1 .1 .1 .1) (c .loop .inv .1)
 
 add-bits-requires : tie.Need-add-bits-requires Inv-loop μ-loop
 add-bits-requires c κs =
@@ -101,7 +101,7 @@ loop-again c =
     let at-loop = turn (t .before) in
     let a = start at-loop .args in (
       omega arith,
-      edge-more (now (a .rows)) (a .u) (a .v) (at-loop .loop .j) (now (a .counts)) (at-loop .loop .counts) _ _ (omega arith) (at-loop .loop .inv .1)
+      edge-more (now (a .rows)) (a .u) (a .v) (at-loop .loop .j) (now (a .tallies)) (at-loop .loop .tallies) _ _ (omega arith) (at-loop .loop .inv .1)
           (t .add-bits .ensures) (left .add-bits2 .ensures),
     )
 
@@ -112,7 +112,7 @@ returns : tie.Need-returns Inv-loop μ-loop
 returns c =
     let a = start (c .before) .args in
     let l = c .before .loop in
-    edge-done (now (a .rows)) (a .u) (a .v) (l .j) (a .groups) (now (a .counts)) (l .counts) (omega arith) (l .inv .0) (l .inv .1)
+    edge-done (now (a .rows)) (a .u) (a .v) (l .j) (a .groups) (now (a .tallies)) (l .tallies) (omega arith) (l .inv .0) (l .inv .1)
 
 pub count-edge-spec : {M : Type 1} → statement M
 count-edge-spec =

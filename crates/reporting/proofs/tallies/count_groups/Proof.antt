@@ -1,11 +1,11 @@
--- `reporting::counts::count_groups` meets its contract: the rows hold the groups of each handset, so that the counts by the rows are the groups' counts.
+-- `reporting::tallies::count_groups` meets its contract: the rows hold the groups of each handset, so that the counts by the rows are the groups' counts.
 use native.Mathlib.Omega.{arith}
 use mathlib.Core.Path.{refl}
 use denote.Ref.{now}
 use Rattle.reporting.proofs.Tallying.{groups-counted}
 use borrow.Author.Needs.{needs}
-use Rattle.reporting.proofs.counts.count_groups.Statement.{statement}
-use Rattle.reporting.proofs.counts.count_groups.Tie as tie
+use Rattle.reporting.proofs.tallies.count_groups.Statement.{statement}
+use Rattle.reporting.proofs.tallies.count_groups.Tie as tie
 
 slice-aggregate-mark-groups : tie.Need-slice-aggregate-mark-groups
 slice-aggregate-mark-groups c = search needs

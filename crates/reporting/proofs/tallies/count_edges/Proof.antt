@@ -1,4 +1,4 @@
--- `reporting::counts::count_edges` meets its contract. After k steps the table holds the counts over the first k edges, so that none is above 4,096. The measure
+-- `reporting::tallies::count_edges` meets its contract. After k steps the table holds the counts over the first k edges, so that none is above 4,096. The measure
 -- is the count of edges left.
 use native.Mathlib.Omega.{arith}
 use Prim.Native.Nat.{ℕ, _+_, _*_, _-_, _≤_}
@@ -8,17 +8,18 @@ use lib.ListN.{length, length-replicate}
 use Rattle.fields.specs.Fields.{edgeBytes}
 use Rattle.fields.specs.declared.Ends.{Ends}
 use Rattle.image.specs.Image.{endA, endB}
+use Rattle.image.proofs.Records.{ends-part}
 use Rattle.reporting.specs.Held.{Edges, EdgesCounted}
-use Rattle.reporting.proofs.Tallying.{ends-at, edges-none, edges-more, edges-room}
+use Rattle.reporting.proofs.Tallying.{edges-none, edges-more, edges-room}
 use borrow.Author.Needs.{needs}
-use Rattle.reporting.proofs.counts.count_edges.Statement.{statement}
-use Rattle.reporting.proofs.counts.count_edges.Tie as tie
+use Rattle.reporting.proofs.tallies.count_edges.Statement.{statement}
+use Rattle.reporting.proofs.tallies.count_edges.Tie as tie
 
 abbrev Inv-loop : tie.InvT-loop
-Inv-loop rows edges m groups counts₀ k₀ counts k = (k ≤ m) × EdgesCounted rows edges k groups counts
+Inv-loop rows edges m groups tallies₀ k₀ tallies k = (k ≤ m) × EdgesCounted rows edges k groups tallies
 
 abbrev μ-loop : tie.MeasureT-loop
-μ-loop rows edges m groups counts₀ k₀ counts k = m - k
+μ-loop rows edges m groups tallies₀ k₀ tallies k = m - k
 
 -- where the function starts, a turn of the loop when its edge is read, and when the edge is counted
 abbrev start : tie.At-loop Inv-loop μ-loop → tie.Start Inv-loop μ-loop
@@ -65,8 +66,8 @@ ends : (c : tie.After-read-ends Inv-loop μ-loop) → (let at-loop = turn c .bef
     (c .read-ends .result .a ≡ endA edges (at-loop .loop .k)) × (c .read-ends .result .b ≡ endB edges (at-loop .loop .k)))
 ends c =
     let at-loop = turn c .before in
-    let e = ends-at (now (start at-loop .args .edges)) (at-loop .loop .k) (inside (turn c) .1) in
-    (ap (λ (x : Ends). x .a) (c .read-ends .ensures) ∙ e .0, ap (λ (x : Ends). x .b) (c .read-ends .ensures) ∙ e .1)
+    let e = c .read-ends .ensures ∙ ends-part (now (start at-loop .args .edges)) (at-loop .loop .k) (inside (turn c) .1) in
+    (ap (λ (x : Ends). x .a) e, ap (λ (x : Ends). x .b) e)
 
 count-edge-requires : tie.Need-count-edge-requires Inv-loop μ-loop
 count-edge-requires c κs =
@@ -80,7 +81,7 @@ count-edge-requires c κs =
         omega (arith, e .0, low .0),
         (
           omega (arith, e .1, low .1),
-          (s .pre .1 .0, edges-room (now (s .args .rows)) (now (s .args .edges)) (l .k) (s .args .groups) (l .counts) (omega (arith, given-edges at-loop .few)) (l .inv .1)),
+          (s .pre .1 .0, edges-room (now (s .args .rows)) (now (s .args .edges)) (l .k) (s .args .groups) (l .tallies) (omega (arith, given-edges at-loop .few)) (l .inv .1)),
         ),
       ),
     )
@@ -98,7 +99,7 @@ loop-again c =
     let l = at-loop .loop in
     let a = start at-loop .args in
     let e = ends read in
-    (omega arith, edges-more (now (a .rows)) (now (a .edges)) (l .k) (a .groups) (l .counts) _ (l .inv .1) (e .0) (e .1) (counted c .count-edge .ensures))
+    (omega arith, edges-more (now (a .rows)) (now (a .edges)) (l .k) (a .groups) (l .tallies) _ (l .inv .1) (e .0) (e .1) (counted c .count-edge .ensures))
 
 same-length : tie.Need-same-length Inv-loop μ-loop
 same-length c = c .before .loop .inv .1 .size ∙ sym (ap length (start (c .before) .pre .1 .1 .1) ∙ length-replicate {A = ℕ} 1024 0)
@@ -107,7 +108,7 @@ returns : tie.Need-returns Inv-loop μ-loop
 returns c =
     let a = start (c .before) .args in
     let e : c .before .loop .k ≡ a .m = omega arith in
-    subst (λ (n : ℕ). EdgesCounted (now (a .rows)) (now (a .edges)) n (a .groups) (c .before .loop .counts)) e (c .before .loop .inv .1)
+    subst (λ (n : ℕ). EdgesCounted (now (a .rows)) (now (a .edges)) n (a .groups) (c .before .loop .tallies)) e (c .before .loop .inv .1)
 
 pub count-edges-spec : {M : Type 1} → statement M
 count-edges-spec =

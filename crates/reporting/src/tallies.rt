@@ -11,7 +11,7 @@ ghost use lib.ListN.{length, getD, replicate};
 ghost use Rattle.community.specs.Network.{contains};
 ghost use Rattle.sets.specs.Rows.{Table};
 ghost use Rattle.lookup.specs.Lookup.{membersOf};
-ghost use Rattle.reporting.specs.Held.{GroupAdded, Raised, CountsFit, Edges, EdgeCounted, EdgesCounted, GroupsCounted};
+ghost use Rattle.reporting.specs.Held.{GroupAdded, Raised, CountsBelow, Edges, EdgeCounted, EdgesCounted, GroupsCounted};
 
 // Adds group k to the rows of the handsets in the list.
 fn mark_members(rows: &mut [u64], list: &[u16], k: usize)
@@ -38,45 +38,45 @@ fn mark_groups<'a>(rows: &mut [u64], starts: &'a [u32], members: &'a [u16], grou
 }
 
 // Adds 1 at base + k for each set bit k of the word, and leaves the other places alone.
-fn add_bits(word: u64, base: usize, counts: &mut [u32])
-    requires { ⌜ (base + 64 ≤ length (now counts)) × ((k : ℕ) → k < 64 → getD (now counts) (base + k) 0 < 4294967295) ⌝ }
-    ensures { λ _. ⌜ Raised (now (counts .entry)) base word (now (counts .exit)) ⌝ }
+fn add_bits(word: u64, base: usize, tallies: &mut [u32])
+    requires { ⌜ (base + 64 ≤ length (now tallies)) × ((k : ℕ) → k < 64 → getD (now tallies) (base + k) 0 < 4294967295) ⌝ }
+    ensures { λ _. ⌜ Raised (now (tallies .entry)) base word (now (tallies .exit)) ⌝ }
 {
     let mut w = word;
     while w != 0 {
         let k = u64::trailing_zeros(w);
         let i = base + k as usize;
-        counts[i] = counts[i] + 1;
+        tallies[i] = tallies[i] + 1;
         w = w & (w - 1);
     }
 }
 
 // Counts the edge between u and v, for the groups of the rows' words that begin below `groups`.
-fn count_edge(rows: &[u64], u: usize, v: usize, groups: usize, counts: &mut [u32])
-    requires { ⌜ (length (now rows) ≡ 4096) × ((u < 512) × ((v < 512) × ((groups ≤ 512) × CountsFit (now counts)))) ⌝ }
-    ensures { λ _. ⌜ EdgeCounted (now (rows .entry)) u v groups (now (counts .entry)) (now (counts .exit)) ⌝ }
+fn count_edge(rows: &[u64], u: usize, v: usize, groups: usize, tallies: &mut [u32])
+    requires { ⌜ (length (now rows) ≡ 4096) × ((u < 512) × ((v < 512) × ((groups ≤ 512) × CountsBelow (now tallies)))) ⌝ }
+    ensures { λ _. ⌜ EdgeCounted (now (rows .entry)) u v groups (now (tallies .entry)) (now (tallies .exit)) ⌝ }
 {
     let mut j: usize = 0;
     while 64 * j < groups {
         let a = rows[u * 8 + j];
         let b = rows[v * 8 + j];
-        add_bits(a & b, 64 * j, counts);
-        add_bits(a ^ b, 512 + 64 * j, counts);
+        add_bits(a & b, 64 * j, tallies);
+        add_bits(a ^ b, 512 + 64 * j, tallies);
         j += 1;
     }
 }
 
 // Counts each of the first m edges, for the groups of the rows' words that begin below `groups`.
-fn count_edges(rows: &[u64], edges: &[u8], m: usize, groups: usize, counts: &mut [u32])
-    requires { ⌜ (length (now rows) ≡ 4096) × ((groups ≤ 512) × (Edges (now edges) m × (now counts ≡ replicate 1024 0))) ⌝ }
-    ensures { λ _. ⌜ EdgesCounted (now (rows .entry)) (now (edges .entry)) m groups (now (counts .exit)) ⌝ }
+fn count_edges(rows: &[u64], edges: &[u8], m: usize, groups: usize, tallies: &mut [u32])
+    requires { ⌜ (length (now rows) ≡ 4096) × ((groups ≤ 512) × (Edges (now edges) m × (now tallies ≡ replicate 1024 0))) ⌝ }
+    ensures { λ _. ⌜ EdgesCounted (now (rows .entry)) (now (edges .entry)) m groups (now (tallies .exit)) ⌝ }
 {
     let mut k: usize = 0;
     while k < m {
         let at = fields::EDGE_BYTES * k;
         let past = at + fields::EDGE_BYTES;
         let ends = fields::read_ends(&edges[at..past]);
-        count_edge(rows, ends.a, ends.b, groups, counts);
+        count_edge(rows, ends.a, ends.b, groups, tallies);
         k += 1;
     }
 }
@@ -88,12 +88,12 @@ pub(crate) fn count_groups<'a>(
     starts: &'a [u32],
     members: &'a [u16],
     groups: usize,
-    counts: &mut [u32],
+    tallies: &mut [u32],
 )
-    requires { ⌜ (groups ≤ 512) × (Edges (now edges) m × (now counts ≡ replicate 1024 0)) ⌝ }
-    ensures { λ _. ⌜ GroupsCounted (now (edges .entry)) m (now (starts .entry)) (now (members .entry)) groups (now (counts .exit)) ⌝ }
+    requires { ⌜ (groups ≤ 512) × (Edges (now edges) m × (now tallies ≡ replicate 1024 0)) ⌝ }
+    ensures { λ _. ⌜ GroupsCounted (now (edges .entry)) m (now (starts .entry)) (now (members .entry)) groups (now (tallies .exit)) ⌝ }
 {
     let mut rows = [0u64; 4096];
     mark_groups(&mut rows, starts, members, groups);
-    count_edges(&rows, edges, m, groups, counts);
+    count_edges(&rows, edges, m, groups, tallies);
 }

@@ -1,4 +1,4 @@
--- `reporting::counts::mark_members` meets its contract. After i steps the first i handsets of the list are added to the group. The measure is the count of
+-- `reporting::tallies::mark_members` meets its contract. After i steps the first i handsets of the list are added to the group. The measure is the count of
 -- handsets left.
 use native.Mathlib.Omega.{arith}
 use Prim.Native.Nat.{_-_, _≤_}
@@ -8,8 +8,8 @@ use lib.Seq.{take-all}
 use Rattle.reporting.specs.Held.{GroupAdded}
 use Rattle.reporting.proofs.Tallying.{joined-none, joined-more}
 use borrow.Author.Needs.{needs}
-use Rattle.reporting.proofs.counts.mark_members.Statement.{statement}
-use Rattle.reporting.proofs.counts.mark_members.Tie as tie
+use Rattle.reporting.proofs.tallies.mark_members.Statement.{statement}
+use Rattle.reporting.proofs.tallies.mark_members.Tie as tie
 
 abbrev Inv-loop : tie.InvT-loop
 Inv-loop rows₀ list k i₀ rows i = (i ≤ length list) × GroupAdded rows₀ (take i list) k rows
