@@ -1,12 +1,14 @@
 -- Laws of the roles.
 use Prim.Native.Nat.{ℕ, zero, suc, _+_, _<_}
 use native.Mathlib.Omega.{arith}
+use native.Mathlib.Numerals.{add-one}
 use mathlib.Core.Path.{_≡_, refl, sym, ap, _∙_, subst}
 use mathlib.Core.Logic.{⊎-elim}
-use mathlib.Core.Bool.{Bool, true, false, _&&_, cond}
+use mathlib.Core.Bool.{Bool, true, false, _&&_, _||_, cond, or-false}
 use mathlib.Core.List.{List, [], _∷_, _++_, map, List·Memᴰ, List·Memᴰ·head, List·Memᴰ·tail, List·Memᴰ·not-nil, List·Memᴰ·cases-cons}
 use lib.Dec.{T, eqb, eqb→eq, eqb-refl}
-use lib.ListN.{length, getD}
+use lib.ListN.{length, getD, take}
+use lib.Seq.{take-suc}
 use Rattle.sets.specs.Below.{count, select, bit}
 use Rattle.sets.proofs.Tests.{T-ext, T-true, T-false, decide, or-left, or-right, or-cases}
 use Rattle.sets.proofs.Selecting.{map-append, mem-select, select-mem, select-yes, select-no}
@@ -34,6 +36,26 @@ mem-contains v (x ∷ l) m =
     (λ e. or-left (eqb v x) (contains v l) (subst (λ (y : ℕ). T (eqb v y)) e (eqb-refl v)))
     (λ y. or-right (eqb v x) (contains v l) (mem-contains v l y))
     (List·Memᴰ·cases-cons m)
+
+or-assoc : (a b c : Bool) → ((a || b) || c) ≡ (a || (b || c))
+or-assoc true b c = refl
+or-assoc false b c = refl
+
+pub contains-append : (v : ℕ) (a b : List ℕ) → contains v (a ++ b) ≡ (contains v a || contains v b)
+unfolding contains
+contains-append v [] b = refl
+contains-append v (x ∷ a) b =
+    ap (λ (y : Bool). eqb v x || y) (contains-append v a b) ∙ sym (or-assoc (eqb v x) (contains v a) (contains v b))
+
+contains-one : (u x : ℕ) → contains u (x ∷ []) ≡ eqb u x
+unfolding contains
+contains-one u x = or-false (eqb u x)
+
+-- the first numbers of a table, one more
+pub contains-more : (l : List ℕ) (i u : ℕ) → i < length l → contains u (take (i + 1) l) ≡ (contains u (take i l) || eqb u (getD l i 0))
+contains-more l i u h =
+    ap (λ (k : ℕ). contains u (take k l)) (add-one i) ∙ ap (contains u) (take-suc l i 0 h)
+    ∙ contains-append u (take i l) (getD l i 0 ∷ []) ∙ ap (λ (b : Bool). contains u (take i l) || b) (contains-one u (getD l i 0))
 
 -- where one list alone holds v, the place is that list's
 pub place-law : (v : ℕ) (gs : List (List ℕ)) (k : ℕ) → k < length gs → List·Memᴰ v (getD gs k [])

@@ -15,7 +15,7 @@ use lib.Dec.{T, leb, ltb, eqb, leb→le, le→leb}
 use lib.ListN.{length, getD, drop, length-take, length-drop}
 use Rattle.sets.specs.Below.{any, find, count}
 use Rattle.sets.proofs.Tests.{and-left, and-right, or-right, decide, find-law, find-none, not-any}
-use Rattle.sets.proofs.Counting.{count-le, sum-le, sum-const}
+use Rattle.sets.proofs.Counting.{bit-le, count-le, sum-le, sum-const}
 use Rattle.image.specs.Image.{headerOf, handsetCount, edgeCount, handsetRecords, edgeRecords, handsetRecord, endA, endB}
 use Rattle.image.specs.Questions.{countsFit, thresholdsFit, tablesFit, outOfLimits, badEnd, isLoop, repeatsEarlier, ask, askEach, askEdges, askRecords, askHeader, openOf, Accepted}
 use Rattle.image.specs.Answers.{refusal}
@@ -40,7 +40,6 @@ use Rattle.planner.specs.declared.Known.the-variants as K
 use Rattle.scores.specs.Scored.{tallyOf, badEntry, askEntries, talliedFor, talliedOf}
 use Rattle.scores.specs.declared.Tallied.{Tallied}
 use Rattle.scores.specs.declared.Tallied.the-variants as T
-use Rattle.scores.proofs.Entries.{bit-le}
 use Rattle.lookup.specs.Lookup.{startOf, placed, between, membersOf, lookedOf}
 use Rattle.lookup.specs.declared.Looked.{Looked}
 use Rattle.lookup.specs.declared.Looked.the-variants as L

@@ -1,7 +1,6 @@
 pub mod Outliers
 pub mod Lines
 pub mod Marking
-pub mod Tallying
 pub mod Whole
 pub mod Answers
 pub mod Planning

@@ -1,19 +1,16 @@
 -- How a set of bits grows and shrinks as the loops mark and unmark its numbers.
 --
 --     below-start, below-more        the set of the numbers below a bound: at 0, and one bound more
---     contains-more                  the first numbers of a table, one more
 --     without-start, without-more    a set with the first numbers of a table taken out: none, and one more
 --     outside                        the numbers below n that are not in a table, from the two loops
 use Prim.Native.Nat.{ℕ, _+_, _/_, _<_}
 use native.Mathlib.Omega.{arith}
 use native.Mathlib.Decide.{ℕ-discrete, decLt}
-use native.Mathlib.Numerals.{add-one}
 use mathlib.Core.Path.{_≡_, refl, sym, ap, _∙_}
-use mathlib.Core.Bool.{Bool, true, false, _&&_, _||_, not, and-true, and-false, or-false}
-use mathlib.Core.List.{List, [], _∷_}
+use mathlib.Core.Bool.{Bool, true, false, _&&_, _||_, not, and-true, and-false}
+use mathlib.Core.List.{List, []}
 use lib.Dec.{eqb, ltb}
 use lib.ListN.{length, getD, take, replicate}
-use lib.Seq.{take-suc}
 use borrow.Author.Tests.{lt-ltb, le-ltb, eq-eqb, ne-eqb}
 use Rattle.sets.specs.Below.{bit}
 use Rattle.sets.specs.Bits.{bitAt, withBit, withoutBit}
@@ -21,8 +18,8 @@ use Rattle.sets.specs.Rows.{SetOf}
 use Rattle.sets.proofs.Bits.{bitAt-lt, bitAt-set-same, bitAt-set-other, bitAt-clear-same, bitAt-clear-other, bitAt-past, bitAt-zeros, length-withoutBit}
 use Rattle.sets.proofs.Counting.{bit-test, test-bit}
 use Rattle.community.specs.Network.{contains}
+use Rattle.community.proofs.Roles.{contains-more}
 use Rattle.reporting.specs.Held.{Without}
-use Rattle.reporting.proofs.Outliers.{contains-append}
 
 -- ---- the numbers below a bound
 
@@ -57,16 +54,6 @@ cleared m i u = pick (ℕ-discrete u i) (decLt (i / 64) (length m))
 pub without-start : (m : List ℕ) (u : ℕ) → bitAt m u ≡ bit (eqb (bitAt m u) 1 && not (contains u []))
 unfolding contains
 without-start m u = sym (test-bit (bitAt m u) (bitAt-lt m u)) ∙ ap bit (sym (and-true (eqb (bitAt m u) 1)))
-
-contains-one : (u x : ℕ) → contains u (x ∷ []) ≡ eqb u x
-unfolding contains
-contains-one u x = or-false (eqb u x)
-
--- the first numbers of a table, one more
-pub contains-more : (l : List ℕ) (i u : ℕ) → i < length l → contains u (take (i + 1) l) ≡ (contains u (take i l) || eqb u (getD l i 0))
-contains-more l i u h =
-    ap (λ (k : ℕ). contains u (take k l)) (add-one i) ∙ ap (contains u) (take-suc l i 0 h)
-    ∙ contains-append u (take i l) (getD l i 0 ∷ []) ∙ ap (λ (b : Bool). contains u (take i l) || b) (contains-one u (getD l i 0))
 
 pub without-more : (m₀ m l : List ℕ) (i : ℕ) → i < length l
     → ((u : ℕ) → bitAt m u ≡ bit (eqb (bitAt m₀ u) 1 && not (contains u (take i l))))

@@ -10,7 +10,7 @@ use native.Mathlib.Omega.{arith}
 use mathlib.Core.Path.{_≡_, refl, sym, ap, _∙_}
 use mathlib.Core.Logic.{_⊎_, ⊎-elim}
 use mathlib.Core.Bool.{Bool, true, false, _&&_, _||_, not}
-use mathlib.Core.List.{List, [], _∷_, _++_, List·Memᴰ}
+use mathlib.Core.List.{List, [], _∷_, List·Memᴰ}
 use lib.Dec.{T, eqb, ltb}
 use lib.ListN.{length, getD}
 use borrow.Author.Tests.{lt-ltb, le-ltb}
@@ -24,19 +24,9 @@ use Rattle.community.specs.Held.{Sound}
 use Rattle.community.specs.Tables.{memberTable}
 use Rattle.community.proofs.Reachability.{from-below}
 use Rattle.community.proofs.Communities.{leader-of, leader-place, reachable-member}
-use Rattle.community.proofs.Roles.{mem-contains}
+use Rattle.community.proofs.Roles.{mem-contains, contains-append}
 use Rattle.text.specs.Text.{elementsOf}
 use Rattle.reporting.specs.Report.{isOutlier}
-
-or-assoc : (a b c : Bool) → ((a || b) || c) ≡ (a || (b || c))
-or-assoc true b c = refl
-or-assoc false b c = refl
-
-pub contains-append : (v : ℕ) (a b : List ℕ) → contains v (a ++ b) ≡ (contains v a || contains v b)
-unfolding contains
-contains-append v [] b = refl
-contains-append v (x ∷ a) b =
-    ap (λ (y : Bool). eqb v x || y) (contains-append v a b) ∙ sym (or-assoc (eqb v x) (contains v a) (contains v b))
 
 -- whether a count is above 0
 abbrev some : ℕ → Bool

@@ -4,7 +4,7 @@
 --     groups-few           an accepted image has at most 512 communities
 --     membersOf-tables     the part of the tables for group k is the k-th community
 --     text-is              the text from the tables is the report's
---     handsets-few, edges-fit, members-fit, ends-held    the bounds that the calls and the parts of the report ask for
+--     handsets-few, edges-fit, members-fit               the bounds that the calls and the parts of the report ask for
 --     text-held            the text from the tables as the report's functions leave them
 use Prim.Native.Nat.{ℕ, zero, suc, _+_, _*_, _-_, _≤_, _<_}
 use native.Mathlib.Omega.{arith}
@@ -12,20 +12,21 @@ use mathlib.Core.Path.{_≡_, refl, sym, ap, ap₂, _∙_, subst}
 use mathlib.Core.Bool.{_&&_, not}
 use mathlib.Core.List.{List, [], _++_}
 use lib.Dec.{ltb}
+use borrow.Author.Tests.{lt-ltb}
 use lib.ListN.{length, getD, take, drop, replicate, length-append}
 use lib.Seq.{take-at, take-all}
 use Rattle.sets.specs.Below.{select, bit}
 use Rattle.sets.specs.Bits.{bitAt}
 use Rattle.sets.specs.Rows.{SetOf}
-use Rattle.sets.proofs.Counting.{count-le}
+use Rattle.sets.proofs.Counting.{count-le, count-cong, count-at}
 use Rattle.sets.proofs.Selecting.{length-select, select-ascends, select-cong}
 use Rattle.fields.specs.Fields.{edgeBytes}
-use Rattle.image.specs.Image.{headerOf, handsetCount, edgeCount, edgeRecords}
+use Rattle.image.specs.Image.{headerOf, handsetCount, edgeCount, edgeRecords, endA, endB}
 use Rattle.image.specs.declared.Header.{Header}
 use Rattle.image.proofs.Acceptance.{accepted-fits, length-is, edges-length, ends-below}
 use Rattle.image.proofs.Records as records
 use Rattle.community.specs.Network.{Network, isCore, isLeader, leaders, members, reachable, communities, cores, contains, role}
-use Rattle.community.specs.Scores.{pairs, everyEdge, joinedPairs, leaving}
+use Rattle.community.specs.Scores.{pairs, everyEdge, joinedPairs, justOne, leaving}
 use Rattle.community.specs.Site.{network}
 use Rattle.community.specs.Tables.{startTable, memberTable}
 use Rattle.community.proofs.Communities.{leader, length-communities, community-at}
@@ -38,7 +39,8 @@ use Rattle.scores.proofs.Tallying.{joined-once}
 use Rattle.text.specs.Text.{bytes}
 use Rattle.text.specs.Text as X
 use Rattle.reporting.specs.Report.{headLine, groupLines, listLine, isOutlier, outliers, reportWith, reportText}
-use Rattle.reporting.specs.Held.{groupTally, Edges, GroupsCounted, tableLines, tableText, Without, PlanHeld}
+use Rattle.tallies.specs.Tallies.{edgesIn, isMember, GroupsCounted}
+use Rattle.reporting.specs.Held.{groupTally, tableLines, tableText, Without, PlanHeld}
 use Rattle.reporting.specs.declared.Head.{Head}
 use Rattle.reporting.proofs.Outliers.{outlier-test, held-members}
 use Rattle.reporting.proofs.Marking.{outside}
@@ -97,20 +99,43 @@ module _ {s : List ℕ} {h : Header} {head : Head} {starts table cores-set : Lis
       rw (held .starts-are, held .members-are)
       (membersOf-tables gs (drop (length (startTable gs)) (replicate 513 0)) (drop (length (memberTable gs)) (replicate 8704 0)) k (omega (arith, groups-are)))
 
+  -- every edge is counted, and a member of a group is one of its community
+  all-edges : edgesIn (edgeRecords s) ≡ edgeCount s
+  all-edges = omega (arith, edges-length s (held .accepted .header), accepted-fits s (held .accepted) .m-limit)
+
+  member-is : (k v : ℕ) → k < head .counts .groups → v < handsetCount s → isMember starts table (head .counts .groups) k v ≡ contains v (getD (communities (network s)) k [])
+  unfolding isMember
+  member-is k v l h =
+      ap₂ _&&_ (ap₂ _&&_ (lt-ltb k (head .counts .groups) l) (lt-ltb v 512 (omega (arith, accepted-fits s (held .accepted) .n-limit)))) (ap (contains v) (part-at k l))
+
+  first-is : (k e : ℕ) → k < head .counts .groups → e < edgeCount s
+      → isMember starts table (head .counts .groups) k (endA (edgeRecords s) e) ≡ contains (endA (edgeRecords s) e) (getD (communities (network s)) k [])
+  first-is k e l q = member-is k (endA (edgeRecords s) e) l (ends-below s (held .accepted) e q .0)
+
+  second-is : (k e : ℕ) → k < head .counts .groups → e < edgeCount s
+      → isMember starts table (head .counts .groups) k (endB (edgeRecords s) e) ≡ contains (endB (edgeRecords s) e) (getD (communities (network s)) k [])
+  second-is k e l q = member-is k (endB (edgeRecords s) e) l (ends-below s (held .accepted) e q .1)
+
   -- the counts of a group are its community's tally
-  tally-held : (ts : List ℕ) → GroupsCounted (edgeRecords s) (edgeCount s) starts table (head .counts .groups) ts
+  tally-held : (ts : List ℕ) → GroupsCounted (edgeRecords s) starts table (head .counts .groups) ts
       → (k : ℕ) → k < head .counts .groups → groupTally ts k (getD (communities (network s)) k []) ≡ tallyOf s (getD (communities (network s)) k [])
   unfolding groupTally tallyOf leaving
   tally-held ts c k l =
       let inside : k < length (communities (network s)) = omega (arith, groups-are) in
       let list : List ℕ = getD (communities (network s)) k [] in
+      let small : k < 512 = omega (arith, groups-few) in
+      let edges : List ℕ = edgeRecords s in
       let p : pairs (take 512 list) ≡ pairs list = ap pairs (take-all 512 list (omega (arith, community-few (network s) k inside, accepted-fits s (held .accepted) .n-limit))) in
       let t : getD ts k 0 ≡ joinedPairs s everyEdge list =
-      rw (part-at k l) at (c .joined k l) ∙ sym (joined-once s (held .accepted) everyEdge list (community-apart (network s) k inside)) in
-      let o : getD ts (512 + k) 0 ≡ leaving s everyEdge list = rw (part-at k l) at (c .leaving k l) in
+      c .joined k small ∙ count-at (edgesIn edges) (edgeCount s) _ all-edges
+      ∙ count-cong (edgeCount s) _ (λ e. contains (endA edges e) list && contains (endB edges e) list) (λ e q. ap₂ _&&_ (first-is k e l q) (second-is k e l q))
+      ∙ sym (joined-once s (held .accepted) everyEdge list (community-apart (network s) k inside)) in
+      let o : getD ts (512 + k) 0 ≡ leaving s everyEdge list =
+      c .leaving k small ∙ count-at (edgesIn edges) (edgeCount s) _ all-edges
+      ∙ count-cong (edgeCount s) _ (λ e. justOne (contains (endA edges e) list) (contains (endB edges e) list)) (λ e q. ap₂ justOne (first-is k e l q) (second-is k e l q)) in
       λ i. record { pairs = p i; joined = t i; leaving = o i }
 
-  pub text-is : (ts outlier-set : List ℕ) → GroupsCounted (edgeRecords s) (edgeCount s) starts table (head .counts .groups) ts
+  pub text-is : (ts outlier-set : List ℕ) → GroupsCounted (edgeRecords s) starts table (head .counts .groups) ts
       → ((v : ℕ) → v < 512 → bitAt outlier-set v ≡ bit (ltb v (handsetCount s) && not (contains v (memberTable (communities (network s))))))
       → tableText head starts table ts cores-set outlier-set ≡ reportText s
   unfolding tableText reportText reportWith cores outliers
@@ -157,28 +182,16 @@ module _ {s : List ℕ} {h : Header} {head : Head} {starts table cores-set : Lis
   unfolding edgeRecords
   edges-part = records.part-is s (headerOf s .edges) (edgeBytes * edgeCount s)
 
-  header-ends : Edges (edgeRecords s) (headerOf s .m)
-  header-ends =
-      let f = accepted-fits s (held .accepted) in
-      record {
-        few = f .m-limit;
-        whole = omega (arith, edges-length s (held .accepted .header));
-        low = λ e l. let b = ends-below s (held .accepted) e l in (omega (arith, b .0, f .n-limit), omega (arith, b .1, f .n-limit));
-      }
-
-  pub ends-held : Edges (take ((h .edges + edgeBytes * h .m) - h .edges) (drop (h .edges) s)) (h .m)
-  ends-held = rw (held .header) (rw edges-part header-ends)
-
   pub text-held : (ts low outlier-set : List ℕ)
-      → GroupsCounted (take ((h .edges + edgeBytes * h .m) - h .edges) (drop (h .edges) s)) (h .m) starts table (head .counts .groups) ts
+      → GroupsCounted (take ((h .edges + edgeBytes * h .m) - h .edges) (drop (h .edges) s)) starts table (head .counts .groups) ts
       → SetOf low (λ v. ltb v (h .n)) → Without low (take (head .counts .memberships - 0) (drop 0 table)) outlier-set
       → tableText head starts table ts cores-set outlier-set ≡ reportText s
   text-held ts low outlier-set e p q =
       let m : List ℕ = memberTable (communities (network s)) in
-      let counted : GroupsCounted (take ((headerOf s .edges + edgeBytes * headerOf s .m) - headerOf s .edges) (drop (headerOf s .edges) s)) (headerOf s .m) starts table (head .counts .groups) ts =
-      subst (λ (x : Header). GroupsCounted (take ((x .edges + edgeBytes * x .m) - x .edges) (drop (x .edges) s)) (x .m) starts table (head .counts .groups) ts) (held .header) e in
+      let counted : GroupsCounted (take ((headerOf s .edges + edgeBytes * headerOf s .m) - headerOf s .edges) (drop (headerOf s .edges) s)) starts table (head .counts .groups) ts =
+      subst (λ (x : Header). GroupsCounted (take ((x .edges + edgeBytes * x .m) - x .edges) (drop (x .edges) s)) starts table (head .counts .groups) ts) (held .header) e in
       text-is ts outlier-set
-      (subst (λ (part : List ℕ). GroupsCounted part (headerOf s .m) starts table (head .counts .groups) ts) edges-part counted)
+      (subst (λ (part : List ℕ). GroupsCounted part starts table (head .counts .groups) ts) edges-part counted)
       (λ v l.
       outside (h .n) p q v l
       ∙ ap (λ (x : Header). bit (ltb v (x .n) && not (contains v (take (head .counts .memberships - 0) (drop 0 table))))) (held .header)

@@ -1,8 +1,4 @@
 // The report: the text of a site's plan, written into a lent buffer, and the text that the report program prints.
-//
-// `tallies` counts each group's tied pairs and leaving edges, in one pass over the edges.
-mod tallies;
-
 use image::Header;
 use image::Opened;
 use image::Refusal;
@@ -183,12 +179,11 @@ fn report_plan<'a>(
     ensures { λ r. ⌜ Filled (reportText (now (image .entry))) (now (text .entry)) r (now (text .exit)) ⌝ }
 {
     let a = h.edges as usize;
-    let m = h.m as usize;
-    let b = a + fields::EDGE_BYTES * m;
+    let b = a + fields::EDGE_BYTES * (h.m as usize);
     let groups = head.counts.groups;
     let memberships = head.counts.memberships;
     let mut tallies = [0u32; 1024];
-    tallies::count_groups(&image[a..b], m, starts, members, groups, &mut tallies);
+    tallies::count_groups(&image[a..b], starts, members, groups, &mut tallies);
     let mut outliers = [0u64; 8];
     mark_below(&mut outliers, h.n as usize);
     unmark_all(&mut outliers, &members[0..memberships]);

@@ -116,10 +116,6 @@ entries-good n l t a b =
 
 -- ---- the edges, by a table
 
-pub bit-le : (b : Bool) → bit b ≤ 1
-bit-le true = omega arith
-bit-le false = omega arith
-
 module _ (table part : List ℕ) (test : ℕ → Bool) where
   -- what edge k adds to t, and whether it adds to o, by a table
   abbrev pub tiesOf : ℕ → ℕ

@@ -5,7 +5,7 @@
 // `scored-same` of proofs/Answers make equations of the answers.
 ghost use mathlib.Core.Path.{_≡_};
 ghost use mathlib.Core.Bool.{_||_};
-ghost use Prim.Native.Nat.{ℕ, _*_, _-_, _≤_, min};
+ghost use Prim.Native.Nat.{ℕ, _*_, _-_, _≤_};
 ghost use lib.Dec.{leb};
 ghost use lib.ListN.{length, getD, take};
 ghost use Rattle.sets.specs.Below.{bit, find};
@@ -45,13 +45,6 @@ pub struct Tally {
 pub enum Tallied {
     Of(Tally),
     Refused(Refusal),
-}
-
-// The smaller of two numbers.
-fn smaller(a: usize, b: usize) -> usize
-    ensures { λ r. ⌜ r ≡ min a b ⌝ }
-{
-    if a < b { a } else { b }
 }
 
 // Question 13 for one entry: it is not below n, or stands at index 512 or later.
@@ -133,7 +126,7 @@ fn tally_edges(edges: &[u8], m: usize, table: &[u16], all: u32) -> Tally
 pub fn pairs_of(list: &[u16]) -> u32
     ensures { λ r. ⌜ r ≡ pairs (take 512 (now (list .entry))) ⌝ }
 {
-    let n = smaller(list.len(), 512);
+    let n = sets::smaller(list.len(), 512);
     ((n * n - n) / 2) as u32
 }
 

@@ -25,6 +25,10 @@ pub bit-false : (b : Bool) → T (not b) → bit b ≡ 0
 bit-false true t = absurd t
 bit-false false t = refl
 
+pub bit-le : (b : Bool) → bit b ≤ 1
+bit-le true = omega arith
+bit-le false = omega arith
+
 -- a test as a bit, and a bit as a test
 pub bit-test : (b : Bool) → eqb (bit b) 1 ≡ b
 bit-test true = refl

@@ -1,7 +1,8 @@
-// Sets of numbers as bits of 64-bit words: one bit set, cleared or looked at. A number past the last word is in no set.
+// Sets of numbers as bits of 64-bit words: one bit set, cleared or looked at. A number past the last word is in no set. And the smaller of two numbers.
 //
 // The specs are what every crate above counts by: tests below a bound, bits, renumberings. Their laws are in proofs/.
 ghost use mathlib.Core.Path.{_≡_};
+ghost use Prim.Native.Nat.{min};
 ghost use lib.Dec.{eqb};
 ghost use Rattle.sets.specs.Bits.{bitAt, withBit, withoutBit};
 
@@ -33,4 +34,11 @@ pub fn has(words: &[u64], i: usize) -> bool
     } else {
         false
     }
+}
+
+// The smaller of two numbers.
+pub fn smaller(a: usize, b: usize) -> usize
+    ensures { λ r. ⌜ r ≡ min a b ⌝ }
+{
+    if a < b { a } else { b }
 }

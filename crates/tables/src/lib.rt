@@ -109,13 +109,6 @@ fn write_tables(rows: &[u64], count: usize, starts: &mut [u32], members: &mut [u
     starts[count] = place as u32;
 }
 
-// The smaller of a count and 512.
-fn at_most_512(count: usize) -> usize
-    ensures { λ r. ⌜ r ≡ min count 512 ⌝ }
-{
-    if count < 512 { count } else { 512 }
-}
-
 // Questions 11 and 12, of a plan's two counts and the two tables' lengths: the refusal, or the counts.
 fn ask_room(groups: usize, memberships: usize, starts: usize, members: usize) -> Planned
     ensures { λ r. ⌜ r ≡ askRoom groups memberships starts members ⌝ }
@@ -161,7 +154,7 @@ fn write_where_it_fits(
 pub fn write_plan(rows: &[u64], count: usize, starts: &mut [u32], members: &mut [u16]) -> Planned
     ensures { λ r. ⌜ PlanWritten (rowsOf (now (rows .entry)) (min count 512)) (now (starts .entry)) (now (members .entry)) r (now (starts .exit)) (now (members .exit)) ⌝ }
 {
-    let groups = at_most_512(count);
+    let groups = sets::smaller(count, 512);
     let memberships = count_members(rows, groups);
     write_where_it_fits(rows, groups, memberships, starts, members);
     ask_room(groups, memberships, starts.len(), members.len())
@@ -213,7 +206,7 @@ fn first_containing(rows: &[u64], count: usize, v: usize) -> usize
 pub fn role_in(cores: &[u64], rows: &[u64], count: usize, v: usize) -> Role
     ensures { λ r. ⌜ roleValues r ≡ roleValues (roleFor (now (cores .entry)) (now (rows .entry)) (min count 512) v) ⌝ }
 {
-    let groups = at_most_512(count);
+    let groups = sets::smaller(count, 512);
     if sets::has(cores, v) {
         return Role::Core(first_containing(rows, groups, v));
     }

@@ -5,7 +5,7 @@ use mathlib.Core.Path.{_≡_, refl}
 use denote.Ref.{now}
 use Rattle.reporting.specs.Report.{reportText}
 use Rattle.reporting.specs.Held.{tableText}
-use Rattle.reporting.proofs.Whole.{groups-few, handsets-few, edges-fit, members-fit, ends-held, text-held}
+use Rattle.reporting.proofs.Whole.{groups-few, handsets-few, edges-fit, members-fit, text-held}
 use Rattle.reporting.proofs.Answers.{filled-written, filled-refused}
 use borrow.Author.Needs.{needs}
 use Rattle.reporting.proofs.report_plan.Statement.{statement}
@@ -19,7 +19,7 @@ abbrev counting : tie.After-tallies → tie.After-struct-known2
 counting c = c .before .before
 
 abbrev counted : tie.After-struct-known3 → tie.After-count-groups
-counted c = c .before .before .before
+counted c = c .before .before
 
 abbrev marked : tie.After-outliers3 → tie.After-mark-below
 marked c = c .before .before
@@ -43,8 +43,8 @@ measuring-start c = leaving-start (left c .before .before)
 cast-a : tie.Need-cast-a
 cast-a c = search needs
 
-cast-m : tie.Need-cast-m
-cast-m c = search needs
+cast-b : tie.Need-cast-b
+cast-b c = search needs
 
 mul-b : tie.Need-mul-b
 mul-b c = search needs
@@ -61,11 +61,8 @@ part-count-groups-start c = search needs
 part-count-groups-end : tie.Need-part-count-groups-end
 part-count-groups-end c = edges-fit (start c .pre)
 
-slice-aggregate-count-groups : tie.Need-slice-aggregate-count-groups
-slice-aggregate-count-groups c = search needs
-
 count-groups-requires : tie.Need-count-groups-requires
-count-groups-requires c κs = let held = start (counting c) .pre in (groups-few held, (ends-held held, refl))
+count-groups-requires c κs = search needs
 
 slice-aggregate-mark-below : tie.Need-slice-aggregate-mark-below
 slice-aggregate-mark-below c = search needs
@@ -117,7 +114,7 @@ same-length c = omega arith
 
 -- the text from the tables is the report's
 text-is-report : (c : tie.After-put-report) → (let l = left (c .before) in let a = measuring-start (c .before) .args in
-    tableText (a .head) (now (a .starts)) (now (a .members)) (counted (marked (l .before .before) .before) .count-groups .last .1 .1 .1 .1 .1 .0) (now (a .cores)) (l .unmark-all .last .0)
+    tableText (a .head) (now (a .starts)) (now (a .members)) (counted (marked (l .before .before) .before) .count-groups .last .1 .1 .1 .1 .0) (now (a .cores)) (l .unmark-all .last .0)
     ≡ reportText (now (a .image)))
 text-is-report c =
     let l = left (c .before) in
@@ -140,13 +137,12 @@ report-plan-spec =
     tie.close
     (tie.spec
     cast-a
-    cast-m
+    cast-b
     mul-b
     add-b
     sub-count-groups
     part-count-groups-start
     part-count-groups-end
-    slice-aggregate-count-groups
     count-groups-requires
     slice-aggregate-mark-below
     cast-mark-below

@@ -13,7 +13,8 @@ use Rattle.image.specs.Image.{endA, endB}
 use Rattle.image.proofs.Records.{ends-part}
 use Rattle.community.specs.Scores.{everyEdge, justOne}
 use Rattle.scores.specs.Held.{joinedSum, leavingSum}
-use Rattle.scores.proofs.Entries.{joined-none, leaving-none, joined-more, leaving-more, joined-le, leaving-le, ties-le, bit-le}
+use Rattle.sets.proofs.Counting.{bit-le}
+use Rattle.scores.proofs.Entries.{joined-none, leaving-none, joined-more, leaving-more, joined-le, leaving-le, ties-le}
 use Rattle.scores.proofs.tally_edges.Statement.{statement}
 use Rattle.scores.proofs.tally_edges.Tie as tie
 

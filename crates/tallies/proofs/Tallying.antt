@@ -14,7 +14,7 @@ use native.Mathlib.Decide.{ℕ-discrete, decLt}
 use native.Mathlib.Numerals.{add-one}
 use mathlib.Core.Path.{_≡_, refl, sym, ap, ap₂, _∙_, subst₂}
 use mathlib.Core.Logic.{_⊎_, inl, inr, ⊎-elim}
-use mathlib.Core.Bool.{Bool, true, false, _&&_, _||_, cond, and-false, or-true, or-false}
+use mathlib.Core.Bool.{Bool, true, false, _&&_, _||_, cond, and-true, and-false, or-true, or-false}
 use mathlib.Core.List.{List, []}
 use lib.Dec.{eqb, leb, ltb}
 use lib.Bits.{bitAnd, bitXor, differ}
@@ -24,17 +24,17 @@ use borrow.Author.Tests.{lt-ltb, le-ltb, le-leb, lt-leb, eq-eqb, ne-eqb}
 use Rattle.sets.specs.Below.{bit, count}
 use Rattle.sets.specs.Bits.{bitOf, bitAt, cell, withBit}
 use Rattle.sets.specs.Rows.{Table}
-use Rattle.sets.proofs.Bits.{bitOf-none, bitOf-lt, bitOf-and, bitOf-xor, bitAt-lt, bitAt-set-same, bitAt-set-other, bitAt-zeros, cell-word, length-withBit}
+use Rattle.sets.proofs.Bits.{bitOf-none, bitOf-lt, bitOf-and, bitOf-xor, bitAt-lt, bitAt-set-same, bitAt-set-other, bitAt-past, bitAt-zeros, cell-word, length-withBit}
 use Rattle.sets.proofs.Lowest.{Lowest, cleared, cleared-same, cleared-other}
-use Rattle.sets.proofs.Counting.{bit-test, test-bit, count-cong, count-le, count-none}
+use Rattle.sets.proofs.Counting.{bit-le, bit-test, test-bit, count-cong, count-le, count-none, count-at}
 use Rattle.sets.proofs.Tests.{three}
 use Rattle.image.specs.Image.{endA, endB}
 use Rattle.community.specs.Network.{contains}
 use Rattle.community.specs.Scores.{justOne}
 use Rattle.lookup.specs.Lookup.{membersOf}
-use Rattle.scores.proofs.Entries.{bit-le}
-use Rattle.reporting.specs.Held.{inGroup, bitFor, joinedIn, leavesIn, GroupAdded, Raised, CountsBelow, Edges, EdgeCounted, EdgesCounted, GroupsCounted}
-use Rattle.reporting.proofs.Marking.{contains-more}
+use Rattle.community.proofs.Roles.{contains-more}
+use Rattle.tallies.specs.Tallies.{edgesIn, isMember, GroupsCounted}
+use Rattle.tallies.specs.Held.{inGroup, bitFor, joinedIn, leavesIn, GroupAdded, Raised, CountsBelow, EdgeCounted, EdgesCounted}
 
 -- ---- the rows
 
@@ -250,29 +250,32 @@ module _ (rows : List ℕ) (u v j : ℕ) where
   leaving-bit : (r : ℕ) → r < 64 → bitOf (bitXor here there) r ≡ bit (justOne (inGroup rows u (64 * j + r)) (inGroup rows v (64 * j + r)))
   leaving-bit r h = bitOf-xor here there r ∙ ap₂ differ (in-word u r h) (in-word v r h) ∙ one-bit (inGroup rows u (64 * j + r)) (inGroup rows v (64 * j + r))
 
-  pub edge-more : (ts₀ ts ts₁ ts₂ : List ℕ) → j < 8 → EdgeCounted rows u v (64 * j) ts₀ ts
-      → Raised ts (64 * j) (bitAnd here there) ts₁ → Raised ts₁ (512 + 64 * j) (bitXor here there) ts₂ → EdgeCounted rows u v (64 * (j + 1)) ts₀ ts₂
+  pub edge-more : (ts₀ ts ts₁ ts₂ : List ℕ) {a b : ℕ} → EdgeCounted rows u v (64 * j) ts₀ ts → a ≡ here → b ≡ there
+      → Raised ts (64 * j) (bitAnd a b) ts₁ → Raised ts₁ (512 + 64 * j) (bitXor a b) ts₂ → j < 8 → EdgeCounted rows u v (64 * (j + 1)) ts₀ ts₂
   unfolding joinedIn leavesIn
-  edge-more ts₀ ts ts₁ ts₂ h c p q = record {
-    size = q .size ∙ p .size ∙ c .size;
-    joined = λ k l. omega (
-      arith,
-      q .counts k,
-      p .counts k,
-      c .joined k l,
-      bitFor-before (512 + 64 * j) (bitXor here there) k (omega arith),
-      word-more (λ x. inGroup rows u x && inGroup rows v x) j (bitAnd here there) k joined-bit,
-    );
-    leaving = λ k l. omega (
-      arith,
-      q .counts (512 + k),
-      p .counts (512 + k),
-      c .leaving k l,
-      bitFor-past (64 * j) (bitAnd here there) (512 + k) (omega arith),
-      bitFor-later (64 * j) (bitXor here there) k,
-      word-more (λ x. justOne (inGroup rows u x) (inGroup rows v x)) j (bitXor here there) k leaving-bit,
-    );
-  }
+  edge-more ts₀ ts ts₁ ts₂ c d e held held₂ h =
+      let p : Raised ts (64 * j) (bitAnd here there) ts₁ = subst₂ (λ (x y : ℕ). Raised ts (64 * j) (bitAnd x y) ts₁) d e held in
+      let q : Raised ts₁ (512 + 64 * j) (bitXor here there) ts₂ = subst₂ (λ (x y : ℕ). Raised ts₁ (512 + 64 * j) (bitXor x y) ts₂) d e held₂ in
+      record {
+        size = q .size ∙ p .size ∙ c .size;
+        joined = λ k l. omega (
+          arith,
+          q .counts k,
+          p .counts k,
+          c .joined k l,
+          bitFor-before (512 + 64 * j) (bitXor here there) k (omega arith),
+          word-more (λ x. inGroup rows u x && inGroup rows v x) j (bitAnd here there) k joined-bit,
+        );
+        leaving = λ k l. omega (
+          arith,
+          q .counts (512 + k),
+          p .counts (512 + k),
+          c .leaving k l,
+          bitFor-past (64 * j) (bitAnd here there) (512 + k) (omega arith),
+          bitFor-later (64 * j) (bitXor here there) k,
+          word-more (λ x. justOne (inGroup rows u x) (inGroup rows v x)) j (bitXor here there) k leaving-bit,
+        );
+      }
 
 -- the first j words are those that begin below `groups`
 pub edge-done : (rows : List ℕ) (u v j groups : ℕ) (ts₀ ts : List ℕ) → groups ≤ 64 * j → 64 * j < groups + 64
@@ -333,24 +336,56 @@ edges-room rows part e groups ts h c = record {
   leaving = λ k l. omega (arith, c .leaving k l, count-le e (λ i. leavesIn rows groups (endA part i) (endB part i) k));
 }
 
--- by the rows of the first groups
-module _ (rows part starts members : List ℕ) (m groups : ℕ) (few : groups ≤ 512)
-    (table : Table rows (λ v k. ltb k groups && contains v (membersOf starts members k))) (ends : Edges part m) where
-  in-group : (v k : ℕ) → v < 512 → k < groups → inGroup rows v k ≡ contains v (membersOf starts members k)
-  in-group v k h l =
-      ap (λ (x : ℕ). eqb x 1) (table .bits v k h (omega arith)) ∙ bit-test (ltb k groups && contains v (membersOf starts members k))
-      ∙ ap (λ (b : Bool). b && contains v (membersOf starts members k)) (lt-ltb k groups l)
+-- by the rows of the first groups, 512 at most
+module _ (rows part starts members : List ℕ) (groups first : ℕ) (size : length rows ≡ 4096) (few : first ≡ min groups 512)
+    (table : Table rows (λ v k. ltb k first && contains v (membersOf starts members k))) where
+  counted : (k : ℕ) → k < 512 → ltb k first ≡ ltb k groups
+  counted k h = pick (decLt k groups)
+    where
+      pick : Dec (k < groups) → ltb k first ≡ ltb k groups
+      pick (yes l) = lt-ltb k first (omega arith) ∙ sym (lt-ltb k groups l)
+      pick (no l) = le-ltb k first (omega arith) ∙ sym (le-ltb k groups (omega arith))
 
-  pub groups-counted : (ts : List ℕ) → EdgesCounted rows part m groups ts → GroupsCounted part m starts members groups ts
-  unfolding joinedIn leavesIn
-  groups-counted ts c = record {
+  in-group : (v k : ℕ) → k < 512 → inGroup rows v k ≡ isMember starts members groups k v
+  unfolding isMember
+  in-group v k h = pick (decLt v 512)
+    where
+      pick : Dec (v < 512) → inGroup rows v k ≡ ((ltb k groups && ltb v 512) && contains v (membersOf starts members k))
+      pick (yes l) =
+          ap (λ (x : ℕ). eqb x 1) (table .bits v k l h) ∙ bit-test (ltb k first && contains v (membersOf starts members k))
+          ∙ ap (λ (b : Bool). b && contains v (membersOf starts members k)) (counted k h ∙ sym (and-true (ltb k groups)) ∙ ap (λ (b : Bool). ltb k groups && b) (sym (lt-ltb v 512 l)))
+      pick (no l) =
+          ap (λ (x : ℕ). eqb x 1) (bitAt-past rows (v * 512 + k) (omega arith))
+          ∙ sym (ap (λ (b : Bool). b && contains v (membersOf starts members k)) (ap (λ (b : Bool). ltb k groups && b) (le-ltb v 512 (omega arith)) ∙ and-false (ltb k groups)))
+
+  -- a group whose word begins past the first groups has no member
+  none : (v k : ℕ) → k < 512 → first ≤ 64 * (k / 64) → isMember starts members groups k v ≡ false
+  unfolding isMember
+  none v k h l = ap (λ (b : Bool). (b && ltb v 512) && contains v (membersOf starts members k)) (sym (counted k h) ∙ le-ltb k first (omega arith))
+
+  joined-is : (u v k : ℕ) → k < 512 → joinedIn rows first u v k ≡ (isMember starts members groups k u && isMember starts members groups k v)
+  unfolding joinedIn
+  joined-is u v k h = ap₂ (λ (a b : Bool). ltb (64 * (k / 64)) first && (a && b)) (in-group u k h) (in-group v k h) ∙ pick (decLt (64 * (k / 64)) first)
+    where
+      pick : Dec (64 * (k / 64) < first)
+          → (ltb (64 * (k / 64)) first && (isMember starts members groups k u && isMember starts members groups k v)) ≡ (isMember starts members groups k u && isMember starts members groups k v)
+      pick (yes l) = rw (lt-ltb (64 * (k / 64)) first l)
+      pick (no l) = rw (none u k h (omega arith), and-false (ltb (64 * (k / 64)) first))
+
+  leaving-is : (u v k : ℕ) → k < 512 → leavesIn rows first u v k ≡ justOne (isMember starts members groups k u) (isMember starts members groups k v)
+  unfolding leavesIn
+  leaving-is u v k h = ap₂ (λ (a b : Bool). ltb (64 * (k / 64)) first && justOne a b) (in-group u k h) (in-group v k h) ∙ pick (decLt (64 * (k / 64)) first)
+    where
+      pick : Dec (64 * (k / 64) < first)
+          → (ltb (64 * (k / 64)) first && justOne (isMember starts members groups k u) (isMember starts members groups k v)) ≡ justOne (isMember starts members groups k u) (isMember starts members groups k v)
+      pick (yes l) = rw (lt-ltb (64 * (k / 64)) first l)
+      pick (no l) = rw (none u k h (omega arith), none v k h (omega arith), and-false (ltb (64 * (k / 64)) first))
+
+  pub groups-counted : {m : ℕ} (ts : List ℕ) → m ≡ edgesIn part → EdgesCounted rows part m first ts → GroupsCounted part starts members groups ts
+  groups-counted {m} ts e c = record {
     size = c .size;
     joined = λ k h.
-        c .joined k (omega arith)
-        ∙ count-cong m (λ e. joinedIn rows groups (endA part e) (endB part e) k) _
-        (λ e l. ap₂ _&&_ (lt-ltb (64 * (k / 64)) groups (omega arith)) (ap₂ _&&_ (in-group (endA part e) k (ends .low e l .0) h) (in-group (endB part e) k (ends .low e l .1) h)));
+        c .joined k h ∙ count-cong m (λ i. joinedIn rows first (endA part i) (endB part i) k) _ (λ i l. joined-is (endA part i) (endB part i) k h) ∙ count-at m (edgesIn part) _ e;
     leaving = λ k h.
-        c .leaving k (omega arith)
-        ∙ count-cong m (λ e. leavesIn rows groups (endA part e) (endB part e) k) _
-        (λ e l. ap₂ _&&_ (lt-ltb (64 * (k / 64)) groups (omega arith)) (ap₂ justOne (in-group (endA part e) k (ends .low e l .0) h) (in-group (endB part e) k (ends .low e l .1) h)));
+        c .leaving k h ∙ count-cong m (λ i. leavesIn rows first (endA part i) (endB part i) k) _ (λ i l. leaving-is (endA part i) (endB part i) k h) ∙ count-at m (edgesIn part) _ e;
   }

@@ -1,4 +1,4 @@
--- `reporting::tallies::mark_groups` meets its contract. After k steps the rows hold the first k groups. The measure is the count of groups left.
+-- `tallies::mark_groups` meets its contract. After k steps the rows hold the first k groups. The measure is the count of groups left.
 use native.Mathlib.Omega.{arith}
 use Prim.Native.Nat.{ℕ, _-_, _≤_}
 use mathlib.Core.Path.{_≡_, sym, ap, _∙_, subst}
@@ -9,10 +9,10 @@ use lib.ListN.{length, length-replicate}
 use Rattle.community.specs.Network.{contains}
 use Rattle.sets.specs.Rows.{Table}
 use Rattle.lookup.specs.Lookup.{membersOf}
-use Rattle.reporting.proofs.Tallying.{rows-none, rows-more}
+use Rattle.tallies.proofs.Tallying.{rows-none, rows-more}
 use borrow.Author.Needs.{needs}
-use Rattle.reporting.proofs.tallies.mark_groups.Statement.{statement}
-use Rattle.reporting.proofs.tallies.mark_groups.Tie as tie
+use Rattle.tallies.proofs.mark_groups.Statement.{statement}
+use Rattle.tallies.proofs.mark_groups.Tie as tie
 
 abbrev Inv-loop : tie.InvT-loop
 Inv-loop rows₀ starts members groups k₀ rows k = (k ≤ groups) × (length rows ≡ 4096) × Table rows (λ v j. ltb j k && contains v (membersOf starts members j))

@@ -2,7 +2,7 @@
 //
 // Each handset has a row of eight words, with a bit for each group that it is in. An edge is tied in the groups that both its ends are in, and leaves
 // those that just one of them is in: the `and` and the `xor` of two rows. A table of 1,024 numbers holds the tied pairs of group k at k, and the edges
-// that leave it at 512 + k.
+// that leave it at 512 + k. The definitions are in specs/Tallies.
 ghost use Prim.Native.Nat.{ℕ, _+_, _*_, _≤_, _<_};
 ghost use mathlib.Core.Path.{_≡_};
 ghost use mathlib.Core.Bool.{_&&_};
@@ -10,8 +10,10 @@ ghost use lib.Dec.{ltb};
 ghost use lib.ListN.{length, getD, replicate};
 ghost use Rattle.community.specs.Network.{contains};
 ghost use Rattle.sets.specs.Rows.{Table};
+ghost use Rattle.fields.specs.Fields.{edgeBytes};
 ghost use Rattle.lookup.specs.Lookup.{membersOf};
-ghost use Rattle.reporting.specs.Held.{GroupAdded, Raised, CountsBelow, Edges, EdgeCounted, EdgesCounted, GroupsCounted};
+ghost use Rattle.tallies.specs.Tallies.{GroupsCounted};
+ghost use Rattle.tallies.specs.Held.{GroupAdded, Raised, CountsBelow, EdgeCounted, EdgesCounted};
 
 // Adds group k to the rows of the handsets in the list.
 fn mark_members(rows: &mut [u64], list: &[u16], k: usize)
@@ -51,15 +53,23 @@ fn add_bits(word: u64, base: usize, tallies: &mut [u32])
     }
 }
 
+// The j-th word of row u; 0 for a handset that has no row.
+fn row_word(rows: &[u64], u: usize, j: usize) -> u64
+    requires { ⌜ (length (now rows) ≡ 4096) × (j < 8) ⌝ }
+    ensures { λ r. ⌜ r ≡ getD (now (rows .entry)) (u * 8 + j) 0 ⌝ }
+{
+    if u < 512 { rows[u * 8 + j] } else { 0 }
+}
+
 // Counts the edge between u and v, for the groups of the rows' words that begin below `groups`.
 fn count_edge(rows: &[u64], u: usize, v: usize, groups: usize, tallies: &mut [u32])
-    requires { ⌜ (length (now rows) ≡ 4096) × ((u < 512) × ((v < 512) × ((groups ≤ 512) × CountsBelow (now tallies)))) ⌝ }
+    requires { ⌜ (length (now rows) ≡ 4096) × ((groups ≤ 512) × CountsBelow (now tallies)) ⌝ }
     ensures { λ _. ⌜ EdgeCounted (now (rows .entry)) u v groups (now (tallies .entry)) (now (tallies .exit)) ⌝ }
 {
     let mut j: usize = 0;
     while 64 * j < groups {
-        let a = rows[u * 8 + j];
-        let b = rows[v * 8 + j];
+        let a = row_word(rows, u, j);
+        let b = row_word(rows, v, j);
         add_bits(a & b, 64 * j, tallies);
         add_bits(a ^ b, 512 + 64 * j, tallies);
         j += 1;
@@ -68,7 +78,7 @@ fn count_edge(rows: &[u64], u: usize, v: usize, groups: usize, tallies: &mut [u3
 
 // Counts each of the first m edges, for the groups of the rows' words that begin below `groups`.
 fn count_edges(rows: &[u64], edges: &[u8], m: usize, groups: usize, tallies: &mut [u32])
-    requires { ⌜ (length (now rows) ≡ 4096) × ((groups ≤ 512) × (Edges (now edges) m × (now tallies ≡ replicate 1024 0))) ⌝ }
+    requires { ⌜ (length (now rows) ≡ 4096) × ((groups ≤ 512) × ((m ≤ 4096) × ((edgeBytes * m ≤ length (now edges)) × (now tallies ≡ replicate 1024 0)))) ⌝ }
     ensures { λ _. ⌜ EdgesCounted (now (rows .entry)) (now (edges .entry)) m groups (now (tallies .exit)) ⌝ }
 {
     let mut k: usize = 0;
@@ -81,19 +91,21 @@ fn count_edges(rows: &[u64], edges: &[u8], m: usize, groups: usize, tallies: &mu
     }
 }
 
-// Counts the tied pairs and the leaving edges of each of the first `groups` groups, over the first m edge records of an image.
-pub(crate) fn count_groups<'a>(
+// Counts the tied pairs and the leaving edges of each of the first `groups` groups of a plan's two tables, over the edge records of the part, and leaves
+// them in the table that is lent, with 0 for the other groups. It looks at no more handsets, edges and groups than a site can have.
+pub fn count_groups<'a>(
     edges: &'a [u8],
-    m: usize,
     starts: &'a [u32],
     members: &'a [u16],
     groups: usize,
-    tallies: &mut [u32],
+    tallies: &mut [u32; 1024],
 )
-    requires { ⌜ (groups ≤ 512) × (Edges (now edges) m × (now tallies ≡ replicate 1024 0)) ⌝ }
-    ensures { λ _. ⌜ GroupsCounted (now (edges .entry)) m (now (starts .entry)) (now (members .entry)) groups (now (tallies .exit)) ⌝ }
+    ensures { λ _. ⌜ GroupsCounted (now (edges .entry)) (now (starts .entry)) (now (members .entry)) groups (now (tallies .exit)) ⌝ }
 {
+    let m = sets::smaller(edges.len() / fields::EDGE_BYTES, 4096);
+    let first = sets::smaller(groups, 512);
     let mut rows = [0u64; 4096];
-    mark_groups(&mut rows, starts, members, groups);
-    count_edges(&rows, edges, m, groups, tallies);
+    *tallies = [0u32; 1024];
+    mark_groups(&mut rows, starts, members, first);
+    count_edges(&rows, edges, m, first, tallies);
 }

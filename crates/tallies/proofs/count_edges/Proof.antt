@@ -1,4 +1,4 @@
--- `reporting::tallies::count_edges` meets its contract. After k steps the table holds the counts over the first k edges, so that none is above 4,096. The measure
+-- `tallies::count_edges` meets its contract. After k steps the table holds the counts over the first k edges, so that none is above 4,096. The measure
 -- is the count of edges left.
 use native.Mathlib.Omega.{arith}
 use Prim.Native.Nat.{ℕ, _+_, _*_, _-_, _≤_}
@@ -9,11 +9,11 @@ use Rattle.fields.specs.Fields.{edgeBytes}
 use Rattle.fields.specs.declared.Ends.{Ends}
 use Rattle.image.specs.Image.{endA, endB}
 use Rattle.image.proofs.Records.{ends-part}
-use Rattle.reporting.specs.Held.{Edges, EdgesCounted}
-use Rattle.reporting.proofs.Tallying.{edges-none, edges-more, edges-room}
+use Rattle.tallies.specs.Held.{EdgesCounted}
+use Rattle.tallies.proofs.Tallying.{edges-none, edges-more, edges-room}
 use borrow.Author.Needs.{needs}
-use Rattle.reporting.proofs.tallies.count_edges.Statement.{statement}
-use Rattle.reporting.proofs.tallies.count_edges.Tie as tie
+use Rattle.tallies.proofs.count_edges.Statement.{statement}
+use Rattle.tallies.proofs.count_edges.Tie as tie
 
 abbrev Inv-loop : tie.InvT-loop
 Inv-loop rows edges m groups tallies₀ k₀ tallies k = (k ≤ m) × EdgesCounted rows edges k groups tallies
@@ -31,17 +31,14 @@ turn c = c .before .before
 abbrev counted : tie.After-slice-known2 Inv-loop μ-loop → tie.After-count-edge Inv-loop μ-loop
 counted c = c .before .before
 
-given-edges : (c : tie.At-loop Inv-loop μ-loop) → Edges (now (start c .args .edges)) (start c .args .m)
-given-edges c = start c .pre .1 .1 .0
-
 -- the record of edge k stands in the part
 inside : (c : tie.In-loop Inv-loop μ-loop) → (c .before .loop .k ≤ 4095) × (edgeBytes * c .before .loop .k + edgeBytes ≤ length (now (start (c .before) .args .edges)))
-inside c = (omega (arith, given-edges (c .before) .few), omega (arith, given-edges (c .before) .whole))
+inside c = let pre = start (c .before) .pre in (omega (arith, pre .1 .1 .0), omega (arith, pre .1 .1 .1 .0))
 
 loop-holds : tie.Need-loop-holds Inv-loop μ-loop
 loop-holds c =
     let s = c .before .before .before in
-    (omega arith, rw (s .pre .1 .1 .1) (edges-none (now (s .args .rows)) (now (s .args .edges)) (s .args .groups)))
+    (omega arith, rw (s .pre .1 .1 .1 .1) (edges-none (now (s .args .rows)) (now (s .args .edges)) (s .args .groups)))
 
 mul-at : tie.Need-mul-at Inv-loop μ-loop
 mul-at c = omega (arith, inside c .0)
@@ -74,17 +71,7 @@ count-edge-requires c κs =
     let at-loop = turn (c .before) .before in
     let l = at-loop .loop in
     let s = start at-loop in
-    let e = ends (c .before) in
-    let low = given-edges at-loop .low (l .k) (omega arith) in (
-      s .pre .0,
-      (
-        omega (arith, e .0, low .0),
-        (
-          omega (arith, e .1, low .1),
-          (s .pre .1 .0, edges-room (now (s .args .rows)) (now (s .args .edges)) (l .k) (s .args .groups) (l .tallies) (omega (arith, given-edges at-loop .few)) (l .inv .1)),
-        ),
-      ),
-    )
+    (s .pre .0, (s .pre .1 .0, edges-room (now (s .args .rows)) (now (s .args .edges)) (l .k) (s .args .groups) (l .tallies) (omega (arith, s .pre .1 .1 .0)) (l .inv .1)))
 
 add-k : tie.Need-add-k Inv-loop μ-loop
 add-k c = omega (arith, inside (turn (counted c .before .before)) .0)
@@ -102,7 +89,7 @@ loop-again c =
     (omega arith, edges-more (now (a .rows)) (now (a .edges)) (l .k) (a .groups) (l .tallies) _ (l .inv .1) (e .0) (e .1) (counted c .count-edge .ensures))
 
 same-length : tie.Need-same-length Inv-loop μ-loop
-same-length c = c .before .loop .inv .1 .size ∙ sym (ap length (start (c .before) .pre .1 .1 .1) ∙ length-replicate {A = ℕ} 1024 0)
+same-length c = c .before .loop .inv .1 .size ∙ sym (ap length (start (c .before) .pre .1 .1 .1 .1) ∙ length-replicate {A = ℕ} 1024 0)
 
 returns : tie.Need-returns Inv-loop μ-loop
 returns c =

@@ -1,15 +1,15 @@
--- `reporting::tallies::count_edge` meets its contract. After j steps the edge is counted for the groups of the first j words. The measure is the count of groups
+-- `tallies::count_edge` meets its contract. After j steps the edge is counted for the groups of the first j words. The measure is the count of groups
 -- left.
 use native.Mathlib.Omega.{arith}
 use Prim.Native.Nat.{ℕ, _+_, _*_, _-_, _≤_, _<_}
 use mathlib.Core.Path.{sym, _∙_}
 use denote.Ref.{now}
 use lib.ListN.{getD}
-use Rattle.reporting.specs.Held.{EdgeCounted}
-use Rattle.reporting.proofs.Tallying.{raised-le, edge-none, edge-more, edge-done, edge-room}
+use Rattle.tallies.specs.Held.{EdgeCounted}
+use Rattle.tallies.proofs.Tallying.{raised-le, edge-none, edge-more, edge-done, edge-room}
 use borrow.Author.Needs.{needs}
-use Rattle.reporting.proofs.tallies.count_edge.Statement.{statement}
-use Rattle.reporting.proofs.tallies.count_edge.Tie as tie
+use Rattle.tallies.proofs.count_edge.Statement.{statement}
+use Rattle.tallies.proofs.count_edge.Tie as tie
 
 abbrev Inv-loop : tie.InvT-loop
 Inv-loop rows u v groups tallies₀ j₀ tallies j = (64 * j < groups + 64) × EdgeCounted rows u v (64 * j) tallies₀ tallies
@@ -30,34 +30,16 @@ joined c = c .before .before .before
 loop-holds : tie.Need-loop-holds Inv-loop μ-loop
 loop-holds c =
     let s = c .before .before in
-    (omega arith, edge-none (now (s .args .rows)) (s .args .u) (s .args .v) (now (s .args .tallies)) (s .pre .1 .1 .1 .1 .size))
+    (omega arith, edge-none (now (s .args .rows)) (s .args .u) (s .args .v) (now (s .args .tallies)) (s .pre .1 .1 .size))
 
 mul-loop : tie.Need-mul-loop Inv-loop μ-loop
 mul-loop c = search needs
 
-mul-a : tie.Need-mul-a Inv-loop μ-loop
-mul-a c = search needs
+row-word-requires : tie.Need-row-word-requires Inv-loop μ-loop
+row-word-requires c κs = search needs
 
-add-a : tie.Need-add-a Inv-loop μ-loop
-add-a c = search needs
-
-mul-a-2 : tie.Need-mul-a-2 Inv-loop μ-loop
-mul-a-2 c = search needs
-
-shared-slice-read-a : tie.Need-shared-slice-read-a Inv-loop μ-loop
-shared-slice-read-a c = search needs
-
-mul-b : tie.Need-mul-b Inv-loop μ-loop
-mul-b c = search needs
-
-add-b : tie.Need-add-b Inv-loop μ-loop
-add-b c = search needs
-
-mul-b-2 : tie.Need-mul-b-2 Inv-loop μ-loop
-mul-b-2 c = search needs
-
-shared-slice-read-b : tie.Need-shared-slice-read-b Inv-loop μ-loop
-shared-slice-read-b c = search needs
+row-word-requires-2 : tie.Need-row-word-requires-2 Inv-loop μ-loop
+row-word-requires-2 c κs = search needs
 
 mul-add-bits : tie.Need-mul-add-bits Inv-loop μ-loop
 mul-add-bits c = search needs
@@ -66,7 +48,7 @@ mul-add-bits c = search needs
 low : (c : tie.At-loop Inv-loop μ-loop) (i : ℕ) → i < 1024 → getD (c .loop .tallies) i 0 ≤ 4097
 low c =
     let a = start c .args in
-    edge-room (now (a .rows)) (a .u) (a .v) (64 * c .loop .j) (now (a .tallies)) (c .loop .tallies) (start c .pre .1 .1 .1 .1) (c .loop .inv .1)
+    edge-room (now (a .rows)) (a .u) (a .v) (64 * c .loop .j) (now (a .tallies)) (c .loop .tallies) (start c .pre .1 .1) (c .loop .inv .1)
 
 add-bits-requires : tie.Need-add-bits-requires Inv-loop μ-loop
 add-bits-requires c κs =
@@ -98,15 +80,16 @@ loop-again : tie.Need-loop-again Inv-loop μ-loop
 loop-again c =
     let left = c .before .before in
     let t = joined (left .before) in
+    let read = t .before .before in
     let at-loop = turn (t .before) in
     let a = start at-loop .args in (
       omega arith,
-      edge-more (now (a .rows)) (a .u) (a .v) (at-loop .loop .j) (now (a .tallies)) (at-loop .loop .tallies) _ _ (omega arith) (at-loop .loop .inv .1)
-          (t .add-bits .ensures) (left .add-bits2 .ensures),
+      edge-more (now (a .rows)) (a .u) (a .v) (at-loop .loop .j) (now (a .tallies)) (at-loop .loop .tallies) _ _ (at-loop .loop .inv .1)
+          (read .before .row-word .ensures) (read .row-word2 .ensures) (t .add-bits .ensures) (left .add-bits2 .ensures) (omega arith),
     )
 
 same-length : tie.Need-same-length Inv-loop μ-loop
-same-length c = c .before .loop .inv .1 .size ∙ sym (start (c .before) .pre .1 .1 .1 .1 .size)
+same-length c = c .before .loop .inv .1 .size ∙ sym (start (c .before) .pre .1 .1 .size)
 
 returns : tie.Need-returns Inv-loop μ-loop
 returns c =
@@ -122,14 +105,8 @@ count-edge-spec =
     μ-loop
     loop-holds
     mul-loop
-    mul-a
-    add-a
-    mul-a-2
-    shared-slice-read-a
-    mul-b
-    add-b
-    mul-b-2
-    shared-slice-read-b
+    row-word-requires
+    row-word-requires-2
     mul-add-bits
     add-bits-requires
     mul-add-bits-2
