@@ -1,4 +1,4 @@
--- Laws of the roles.
+-- Laws of the roles, and of whether a list contains a handset.
 use Prim.Native.Nat.{ℕ, zero, suc, _+_, _<_}
 use native.Mathlib.Omega.{arith}
 use native.Mathlib.Numerals.{add-one}

@@ -9,7 +9,7 @@
 use Prim.Native.Nat.{ℕ, zero, suc, _+_, _*_, _-_, _≤_, _<_}
 use native.Mathlib.Omega.{arith}
 use mathlib.Core.Path.{_≡_, refl, sym, ap, ap₂, _∙_, subst}
-use mathlib.Core.Bool.{_&&_, not}
+use mathlib.Core.Bool.{Bool, _&&_, not}
 use mathlib.Core.List.{List, [], _++_}
 use lib.Dec.{ltb}
 use borrow.Author.Tests.{lt-ltb}
@@ -108,14 +108,6 @@ module _ {s : List ℕ} {h : Header} {head : Head} {starts table cores-set : Lis
   member-is k v l h =
       ap₂ _&&_ (ap₂ _&&_ (lt-ltb k (head .counts .groups) l) (lt-ltb v 512 (omega (arith, accepted-fits s (held .accepted) .n-limit)))) (ap (contains v) (part-at k l))
 
-  first-is : (k e : ℕ) → k < head .counts .groups → e < edgeCount s
-      → isMember starts table (head .counts .groups) k (endA (edgeRecords s) e) ≡ contains (endA (edgeRecords s) e) (getD (communities (network s)) k [])
-  first-is k e l q = member-is k (endA (edgeRecords s) e) l (ends-below s (held .accepted) e q .0)
-
-  second-is : (k e : ℕ) → k < head .counts .groups → e < edgeCount s
-      → isMember starts table (head .counts .groups) k (endB (edgeRecords s) e) ≡ contains (endB (edgeRecords s) e) (getD (communities (network s)) k [])
-  second-is k e l q = member-is k (endB (edgeRecords s) e) l (ends-below s (held .accepted) e q .1)
-
   -- the counts of a group are its community's tally
   tally-held : (ts : List ℕ) → GroupsCounted (edgeRecords s) starts table (head .counts .groups) ts
       → (k : ℕ) → k < head .counts .groups → groupTally ts k (getD (communities (network s)) k []) ≡ tallyOf s (getD (communities (network s)) k [])
@@ -125,14 +117,17 @@ module _ {s : List ℕ} {h : Header} {head : Head} {starts table cores-set : Lis
       let list : List ℕ = getD (communities (network s)) k [] in
       let small : k < 512 = omega (arith, groups-few) in
       let edges : List ℕ = edgeRecords s in
+      let here : ℕ → Bool = isMember starts table (head .counts .groups) k in
+      let both : (f : Bool → Bool → Bool) (e : ℕ) → e < edgeCount s → f (here (endA edges e)) (here (endB edges e)) ≡ f (contains (endA edges e) list) (contains (endB edges e) list) =
+      λ f e q. let b = ends-below s (held .accepted) e q in ap₂ f (member-is k (endA edges e) l (b .0)) (member-is k (endB edges e) l (b .1)) in
       let p : pairs (take 512 list) ≡ pairs list = ap pairs (take-all 512 list (omega (arith, community-few (network s) k inside, accepted-fits s (held .accepted) .n-limit))) in
       let t : getD ts k 0 ≡ joinedPairs s everyEdge list =
       c .joined k small ∙ count-at (edgesIn edges) (edgeCount s) _ all-edges
-      ∙ count-cong (edgeCount s) _ (λ e. contains (endA edges e) list && contains (endB edges e) list) (λ e q. ap₂ _&&_ (first-is k e l q) (second-is k e l q))
+      ∙ count-cong (edgeCount s) _ (λ e. contains (endA edges e) list && contains (endB edges e) list) (both _&&_)
       ∙ sym (joined-once s (held .accepted) everyEdge list (community-apart (network s) k inside)) in
       let o : getD ts (512 + k) 0 ≡ leaving s everyEdge list =
       c .leaving k small ∙ count-at (edgesIn edges) (edgeCount s) _ all-edges
-      ∙ count-cong (edgeCount s) _ (λ e. justOne (contains (endA edges e) list) (contains (endB edges e) list)) (λ e q. ap₂ justOne (first-is k e l q) (second-is k e l q)) in
+      ∙ count-cong (edgeCount s) _ (λ e. justOne (contains (endA edges e) list) (contains (endB edges e) list)) (both justOne) in
       λ i. record { pairs = p i; joined = t i; leaving = o i }
 
   pub text-is : (ts outlier-set : List ℕ) → GroupsCounted (edgeRecords s) starts table (head .counts .groups) ts

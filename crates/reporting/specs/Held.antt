@@ -1,7 +1,7 @@
 -- These definitions only serve the proofs; a caller need not believe them.
 -- What the report's working tables hold, for the contracts inside the crate.
 --
---     groupTally ts k l              the tally of group k with the members l, from a table that holds its tied pairs at k and its leaving edges at 512 + k
+--     groupTally ts k l              the tally of group k with the members l, from a table that holds the edges inside it at k and its leaving edges at 512 + k
 --     tableLines ..                  the lines of the first k groups, from the plan's two tables and the tallies
 --     tableText ..                   the whole text from the tables and the two sets
 --     Filled t l r l′                a text t was written into the buffer l where it fits: the answer r, and the buffer after

@@ -1,5 +1,5 @@
 -- The counts of all groups in one pass over the edges. A row holds the groups of a handset, so that the `and` of two rows holds the groups that an edge
--- is tied in and their `xor` those that it leaves, 64 groups to a word.
+-- is inside, and their `xor` those that it leaves, 64 groups to a word.
 --
 --     joined-none, joined-more      the rows with the first handsets of a list added to a group: none, and one more
 --     rows-none, rows-more          the rows of the first groups: of none, and of one more

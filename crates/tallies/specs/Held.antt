@@ -1,7 +1,7 @@
 -- These definitions only serve the proofs; a caller need not believe them.
 -- What the working tables hold, for the contracts inside the crate.
 --
---     inGroup, joinedIn, leavesIn    by the rows of the groups of each handset: whether it is in a group, whether an edge is tied in it, or leaves it
+--     inGroup, joinedIn, leavesIn    by the rows of the groups of each handset: whether it is in a group, whether an edge is inside it, or leaves it
 --     GroupAdded rows l k ..         the rows with group k added to those of the handsets in l
 --     bitFor base w i                the bit of the word w that place i of a table gets, where bit 0 belongs to the place base
 --     Raised ts base w ..            a table with 1 added at base + k for each set bit k of the word w
@@ -40,7 +40,7 @@ pub record CountsBelow (ts : List ℕ) : Type 0 where
   pub joined : (k : ℕ) → k < 512 → getD ts k 0 ≤ 4096
   pub leaving : (k : ℕ) → k < 512 → getD ts (512 + k) 0 ≤ 4096
 
--- the edge between u and v is tied in group k, or leaves it; k is a group of a word that begins below `groups`
+-- the edge between u and v is inside group k, or leaves it; k is a group of a word that begins below `groups`
 unfoldable pub joinedIn : List ℕ → ℕ → ℕ → ℕ → ℕ → Bool
 joinedIn rows groups u v k = ltb (64 * (k / 64)) groups && (inGroup rows u k && inGroup rows v k)
 

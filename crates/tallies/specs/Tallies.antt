@@ -1,8 +1,9 @@
--- The tied pairs and the leaving edges of all groups of a plan (the paper's t and o of each group; paper 01, "Scores, lookup, report").
+-- The edges inside each group of a plan, and those that leave it. Where no group lists a handset twice and no edge is repeated, as in the plan of an
+-- accepted image, these are the paper's t and o of each group (paper 01, "Scores, lookup, report"): the report's scores stand on that.
 --
 --     edgesIn part                     how many edge records of a part are counted: those that stand in it, 4,096 at most
 --     isMember starts members g k v    handset v, below 512, is a member of group k, one of the first g of the plan's two tables
---     GroupsCounted ..                 a table of both counts of each group k below 512: at k its tied pairs, at 512 + k the edges that leave it
+--     GroupsCounted ..                 a table of both counts of each group k below 512: at k the edges with both ends in it, at 512 + k those with just one
 use Prim.Native.Nat.{ℕ, _+_, _/_, _<_, min}
 use mathlib.Core.Path.{_≡_}
 use mathlib.Core.Bool.{Bool, _&&_}

@@ -1,7 +1,7 @@
-// The tied pairs and the leaving edges of every group of a plan, in one pass over the edges.
+// The edges inside each group of a plan and those that leave it, counted in one pass over the edges.
 //
-// Each handset has a row of eight words, with a bit for each group that it is in. An edge is tied in the groups that both its ends are in, and leaves
-// those that just one of them is in: the `and` and the `xor` of two rows. A table of 1,024 numbers holds the tied pairs of group k at k, and the edges
+// Each handset has a row of eight words, with a bit for each group that it is in. An edge is inside the groups that both its ends are in, and leaves
+// those that just one of them is in: the `and` and the `xor` of two rows. A table of 1,024 numbers holds the edges inside group k at k, and the edges
 // that leave it at 512 + k. The definitions are in specs/Tallies.
 ghost use Prim.Native.Nat.{ℕ, _+_, _*_, _≤_, _<_};
 ghost use mathlib.Core.Path.{_≡_};
@@ -91,8 +91,8 @@ fn count_edges(rows: &[u64], edges: &[u8], m: usize, groups: usize, tallies: &mu
     }
 }
 
-// Counts the tied pairs and the leaving edges of each of the first `groups` groups of a plan's two tables, over the edge records of the part, and leaves
-// them in the table that is lent, with 0 for the other groups. It looks at no more handsets, edges and groups than a site can have.
+// Counts the edges inside and the edges leaving each of the first `groups` groups of a plan's two tables, over the edge records of the part. The table that
+// is lent gets the counts, and 0 for the other groups. It looks at no more handsets, edges and groups than a site can have.
 pub fn count_groups<'a>(
     edges: &'a [u8],
     starts: &'a [u32],

@@ -17,7 +17,7 @@ Inv-loop rows u v groups tallies₀ j₀ tallies j = (64 * j < groups + 64) × E
 abbrev μ-loop : tie.MeasureT-loop
 μ-loop rows u v groups tallies₀ j₀ tallies j = groups - 64 * j
 
--- where the function starts; the loop, from where the tied pairs are counted, and that place from where the leaving edges are
+-- where the function starts; the loop, from where the edges inside are counted, and that place from where the leaving edges are
 abbrev start : tie.At-loop Inv-loop μ-loop → tie.Start Inv-loop μ-loop
 start c = c .before .before .before
 
