@@ -5,6 +5,7 @@ pub mod Edges
 pub mod Renumber
 pub mod Roles
 pub mod Tables
+pub mod Multiplicities
 pub mod Site
 pub mod Bound
 pub mod Examples

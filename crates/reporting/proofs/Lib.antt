@@ -1,6 +1,5 @@
-pub mod Outliers
+pub mod Elements
 pub mod Lines
-pub mod Marking
 pub mod Whole
 pub mod Answers
 pub mod Planning

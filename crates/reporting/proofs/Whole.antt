@@ -1,25 +1,22 @@
 -- The text from the plan's tables is the report's: each part of the member table is a community, which lists no handset twice, so that its counts are
--- the community's tally; the set of cores holds the cores, and what is left of the handsets are the outliers.
+-- the community's tally; and by the member table and the set of cores, the roles are the network's.
 --
 --     groups-few           an accepted image has at most 512 communities
 --     membersOf-tables     the part of the tables for group k is the k-th community
 --     text-is              the text from the tables is the report's
---     handsets-few, edges-fit, members-fit               the bounds that the calls and the parts of the report ask for
+--     edges-fit, members-fit               the bounds that the parts of the report ask for
 --     text-held            the text from the tables as the report's functions leave them
 use Prim.Native.Nat.{ℕ, zero, suc, _+_, _*_, _-_, _≤_, _<_}
 use native.Mathlib.Omega.{arith}
-use mathlib.Core.Path.{_≡_, refl, sym, ap, ap₂, _∙_, subst}
-use mathlib.Core.Bool.{Bool, _&&_, not}
+use mathlib.Core.Path.{_≡_, refl, sym, ap, ap₂, _∙_, subst, subst₂}
+use mathlib.Core.Bool.{Bool, _&&_}
 use mathlib.Core.List.{List, [], _++_}
-use lib.Dec.{ltb}
 use borrow.Author.Tests.{lt-ltb}
 use lib.ListN.{length, getD, take, drop, replicate, length-append}
 use lib.Seq.{take-at, take-all}
-use Rattle.sets.specs.Below.{select, bit}
-use Rattle.sets.specs.Bits.{bitAt}
-use Rattle.sets.specs.Rows.{SetOf}
+use Rattle.sets.specs.Below.{select}
 use Rattle.sets.proofs.Counting.{count-le, count-cong, count-at}
-use Rattle.sets.proofs.Selecting.{length-select, select-ascends, select-cong}
+use Rattle.sets.proofs.Selecting.{length-select}
 use Rattle.fields.specs.Fields.{edgeBytes}
 use Rattle.image.specs.Image.{headerOf, handsetCount, edgeCount, edgeRecords, endA, endB}
 use Rattle.image.specs.declared.Header.{Header}
@@ -30,7 +27,8 @@ use Rattle.community.specs.Scores.{pairs, everyEdge, joinedPairs, justOne, leav
 use Rattle.community.specs.Site.{network}
 use Rattle.community.specs.Tables.{startTable, memberTable}
 use Rattle.community.proofs.Communities.{leader, length-communities, community-at}
-use Rattle.community.proofs.Site.{accepted-sound}
+use Rattle.community.proofs.Bound.{memberships-bound}
+use Rattle.community.proofs.Multiplicities.{community-apart}
 use Rattle.community.proofs.Tables.{length-startTable, table-community, starts-ordered, starts-within}
 use Rattle.lookup.specs.Lookup.{membersOf}
 use Rattle.lookup.proofs.Agreement.{members-slice}
@@ -38,12 +36,14 @@ use Rattle.scores.specs.Scored.{tallyOf}
 use Rattle.scores.proofs.Tallying.{joined-once}
 use Rattle.text.specs.Text.{bytes}
 use Rattle.text.specs.Text as X
-use Rattle.reporting.specs.Report.{headLine, groupLines, listLine, isOutlier, outliers, reportWith, reportText}
 use Rattle.tallies.specs.Tallies.{edgesIn, isMember, GroupsCounted}
-use Rattle.reporting.specs.Held.{groupTally, tableLines, tableText, Without, PlanHeld}
+use Rattle.totals.specs.declared.Totals.{Totals}
+use Rattle.totals.specs.Totals.{isOutlier, RolesCounted}
+use Rattle.totals.proofs.Plan.{plan-totals, plan-outliers}
+use Rattle.reporting.specs.Report.{headLine, groupLines, listLine, totalsLine, outliers, reportWith, reportText}
+use Rattle.reporting.specs.Held.{groupTally, tableLines, tableText, PlanHeld}
 use Rattle.reporting.specs.declared.Head.{Head}
-use Rattle.reporting.proofs.Outliers.{outlier-test, held-members}
-use Rattle.reporting.proofs.Marking.{outside}
+use Rattle.reporting.proofs.Elements.{held-members}
 
 module _ (g : Network) where
   pub communities-few : length (communities g) ≤ g .n
@@ -54,16 +54,8 @@ module _ (g : Network) where
   unfolding members
   members-few u = omega (arith, length-select (g .n) (reachable g u), count-le (g .n) (reachable g u))
 
-  members-apart : (u i j : ℕ) → i < j → j < length (members g u) → getD (members g u) i 0 ≡ getD (members g u) j 0 → ⊥
-  unfolding members
-  members-apart u i j h l e = omega (arith, select-ascends (g .n) (reachable g u) i j h l)
-
   community-few : (k : ℕ) → k < length (communities g) → length (getD (communities g) k []) ≤ g .n
   community-few k h = rw (community-at g k h) (members-few (leader g k))
-
-  community-apart : (k : ℕ) → k < length (communities g) → (i j : ℕ) → i < j → j < length (getD (communities g) k [])
-      → getD (getD (communities g) k []) i 0 ≡ getD (getD (communities g) k []) j 0 → ⊥
-  community-apart k h = rw (community-at g k h) (members-apart (leader g k))
 
 -- the part of the tables for group k is the k-th list
 pub membersOf-tables : (gs : List (List ℕ)) (x y : List ℕ) (k : ℕ) → k < length gs → membersOf (startTable gs ++ x) (memberTable gs ++ y) k ≡ getD gs k []
@@ -130,34 +122,36 @@ module _ {s : List ℕ} {h : Header} {head : Head} {starts table cores-set : Lis
       ∙ count-cong (edgeCount s) _ (λ e. justOne (contains (endA edges e) list) (contains (endB edges e) list)) (both justOne) in
       λ i. record { pairs = p i; joined = t i; leaving = o i }
 
-  pub text-is : (ts outlier-set : List ℕ) → GroupsCounted (edgeRecords s) starts table (head .counts .groups) ts
-      → ((v : ℕ) → v < 512 → bitAt outlier-set v ≡ bit (ltb v (handsetCount s) && not (contains v (memberTable (communities (network s))))))
-      → tableText head starts table ts cores-set outlier-set ≡ reportText s
+  -- the member table is short enough that every entry is counted
+  table-short : length (memberTable (communities (network s))) ≤ 65535
+  table-short = let f = accepted-fits s (held .accepted) in omega (arith, memberships-bound s (held .accepted), f .n-limit, f .m-limit)
+
+  pub text-is : (t : Totals) (ts outlier-set : List ℕ) → GroupsCounted (edgeRecords s) starts table (head .counts .groups) ts
+      → RolesCounted (memberTable (communities (network s))) cores-set (handsetCount s) t outlier-set
+      → tableText (record { head = head; totals = t }) starts table ts cores-set outlier-set ≡ reportText s
   unfolding tableText reportText reportWith cores outliers
-  text-is ts outlier-set e o =
+  text-is t ts outlier-set e o =
       let n : ℕ = handsetCount s in
-      let gs : List (List ℕ) = communities (network s) in
+      let g : Network = network s in
       let few : n ≤ 512 = omega (arith, accepted-fits s (held .accepted) .n-limit) in
-      let core-list : X.elementsOf cores-set ≡ select n (isCore (network s)) = held-members cores-set n (isCore (network s)) few (held .cores-are .bits) in
-      let outlier-list : X.elementsOf outlier-set ≡ select n (λ v. isOutlier (role (network s) v)) =
-      held-members outlier-set n (λ v. not (contains v (memberTable gs))) few o
-      ∙ select-cong n (λ v. not (contains v (memberTable gs))) (λ v. isOutlier (role (network s) v)) (λ v l. sym (outlier-test (accepted-sound s (held .accepted)) v l)) in
+      let core-list : X.elementsOf cores-set ≡ select n (isCore g) = held-members cores-set n (isCore g) few (held .cores-are .bits) in
+      let outlier-list : X.elementsOf outlier-set ≡ select n (λ v. isOutlier (role g v)) =
+      held-members outlier-set n (λ v. isOutlier (role g v)) few (plan-outliers g cores-set few table-short (held .cores-are) o) in
       ap₂ (λ (a b : List ℕ). a ++ b)
       (ap headLine (held .head-is))
       (ap₂ (λ (a b : List ℕ). a ++ b)
-      (lines-are s gs starts table ts (head .counts .groups) part-at (tally-held ts e) ∙ ap (groupLines s gs) groups-are)
-      (ap₂ (λ (a b : List ℕ). listLine (bytes "cores:") a ++ listLine (bytes "outliers:") b) core-list outlier-list))
+      (lines-are s (communities g) starts table ts (head .counts .groups) part-at (tally-held ts e) ∙ ap (groupLines s (communities g)) groups-are)
+      (ap₂ (λ (a b : List ℕ). a ++ b)
+      (ap (listLine (bytes "cores:")) core-list)
+      (ap₂ (λ (a b : List ℕ). a ++ b)
+      (ap (listLine (bytes "outliers:")) outlier-list)
+      (ap totalsLine (plan-totals g cores-set few table-short (held .cores-are) o)))))
 
-  header-fits : (headerOf s .n ≤ 512) × (headerOf s .edges + edgeBytes * headerOf s .m ≤ length s)
-  header-fits =
-      let f = accepted-fits s (held .accepted) in
-      (f .n-limit, omega (arith, f .edges-to, length-is s (held .accepted)))
-
-  pub handsets-few : h .n ≤ 512
-  handsets-few = rw (held .header) (header-fits .0)
+  header-fits : headerOf s .edges + edgeBytes * headerOf s .m ≤ length s
+  header-fits = omega (arith, accepted-fits s (held .accepted) .edges-to, length-is s (held .accepted))
 
   pub edges-fit : h .edges + edgeBytes * h .m ≤ length s
-  edges-fit = rw (held .header) (header-fits .1)
+  edges-fit = rw (held .header) header-fits
 
   pub members-fit : head .counts .memberships ≤ length table
   members-fit =
@@ -177,17 +171,13 @@ module _ {s : List ℕ} {h : Header} {head : Head} {starts table cores-set : Lis
   unfolding edgeRecords
   edges-part = records.part-is s (headerOf s .edges) (edgeBytes * edgeCount s)
 
-  pub text-held : (ts low outlier-set : List ℕ)
+  pub text-held : (t : Totals) (ts outlier-set : List ℕ)
       → GroupsCounted (take ((h .edges + edgeBytes * h .m) - h .edges) (drop (h .edges) s)) starts table (head .counts .groups) ts
-      → SetOf low (λ v. ltb v (h .n)) → Without low (take (head .counts .memberships - 0) (drop 0 table)) outlier-set
-      → tableText head starts table ts cores-set outlier-set ≡ reportText s
-  text-held ts low outlier-set e p q =
-      let m : List ℕ = memberTable (communities (network s)) in
+      → RolesCounted (take (head .counts .memberships - 0) (drop 0 table)) cores-set (h .n) t outlier-set
+      → tableText (record { head = head; totals = t }) starts table ts cores-set outlier-set ≡ reportText s
+  text-held t ts outlier-set e o =
       let counted : GroupsCounted (take ((headerOf s .edges + edgeBytes * headerOf s .m) - headerOf s .edges) (drop (headerOf s .edges) s)) starts table (head .counts .groups) ts =
       subst (λ (x : Header). GroupsCounted (take ((x .edges + edgeBytes * x .m) - x .edges) (drop (x .edges) s)) starts table (head .counts .groups) ts) (held .header) e in
-      text-is ts outlier-set
+      text-is t ts outlier-set
       (subst (λ (part : List ℕ). GroupsCounted part starts table (head .counts .groups) ts) edges-part counted)
-      (λ v l.
-      outside (h .n) p q v l
-      ∙ ap (λ (x : Header). bit (ltb v (x .n) && not (contains v (take (head .counts .memberships - 0) (drop 0 table))))) (held .header)
-      ∙ ap (λ (part : List ℕ). bit (ltb v (headerOf s .n) && not (contains v part))) written-part)
+      (subst₂ (λ (part : List ℕ) (x : Header). RolesCounted part cores-set (x .n) t outlier-set) written-part (held .header) o)

@@ -1,25 +1,23 @@
 -- These definitions only serve the proofs; a caller need not believe them.
 -- What the report's working tables hold, for the contracts inside the crate.
 --
+--     fourLine w x y z f             a line of four words, each with its number
 --     groupTally ts k l              the tally of group k with the members l, from a table that holds the edges inside it at k and its leaving edges at 512 + k
 --     tableLines ..                  the lines of the first k groups, from the plan's two tables and the tallies
 --     tableText ..                   the whole text from the tables and the two sets
 --     Filled t l r l′                a text t was written into the buffer l where it fits: the answer r, and the buffer after
---     Without ws l ws′               the set ws with the numbers of l taken out
 --     PlanHeld s ..                  an accepted image's header, the numbers of line one, the plan in the two tables, and the set of cores
 use Prim.Native.Nat.{ℕ, zero, suc, _+_}
 use mathlib.Core.Path.{_≡_}
-use mathlib.Core.Bool.{_&&_, not}
+use mathlib.Core.Bool.{_&&_}
 use mathlib.Core.List.{List, [], _++_}
-use lib.Dec.{eqb, ltb}
+use lib.Dec.{ltb}
 use lib.ListN.{length, getD, take, replicate}
-use Rattle.sets.specs.Below.{bit}
-use Rattle.sets.specs.Bits.{bitAt}
 use Rattle.sets.specs.Rows.{SetOf}
 use Rattle.image.specs.Image.{headerOf, handsetCount}
 use Rattle.image.specs.Questions.{Accepted}
 use Rattle.image.specs.declared.Header.{Header}
-use Rattle.community.specs.Network.{contains, isCore, communities}
+use Rattle.community.specs.Network.{isCore, communities}
 use Rattle.community.specs.Scores.{pairs}
 use Rattle.community.specs.Site.{network}
 use Rattle.community.specs.Tables.{startTable, memberTable}
@@ -27,11 +25,16 @@ use Rattle.tables.specs.Plan.{over}
 use Rattle.lookup.specs.Lookup.{membersOf}
 use Rattle.scores.specs.declared.Tally.{Tally}
 use Rattle.scores.specs.Scored.{scoresFor}
-use Rattle.text.specs.Text.{bytes}
+use Rattle.text.specs.Text.{bytes, decimal}
 use Rattle.text.specs.Text as T
-use Rattle.reporting.specs.Report.{headLine, headOf, groupLine, listLine, writtenOf, writtenIn}
+use Rattle.reporting.specs.Report.{newline, headLine, headOf, groupLine, listLine, totalsLine, writtenOf, writtenIn}
+use Rattle.reporting.specs.declared.Four.{Four}
 use Rattle.reporting.specs.declared.Head.{Head}
+use Rattle.reporting.specs.declared.Numbers.{Numbers}
 use Rattle.reporting.specs.declared.Reported.{Reported}
+
+unfoldable pub fourLine : List ℕ → List ℕ → List ℕ → List ℕ → Four → List ℕ
+fourLine w x y z f = (w ++ decimal (f .a)) ++ ((x ++ decimal (f .b)) ++ ((y ++ decimal (f .c)) ++ ((z ++ decimal (f .d)) ++ newline)))
 
 -- a group has at most 512 members
 unfoldable pub groupTally : List ℕ → ℕ → List ℕ → Tally
@@ -44,18 +47,15 @@ unfoldable pub tableLines : List ℕ → List ℕ → List ℕ → ℕ → List 
 tableLines starts members ts zero = []
 tableLines starts members ts (suc k) = tableLines starts members ts k ++ groupLine k (scoresFor (groupTally ts k (membersOf starts members k))) (membersOf starts members k)
 
-unfoldable pub tableText : Head → List ℕ → List ℕ → List ℕ → List ℕ → List ℕ → List ℕ
-tableText head starts members ts cores outliers =
-    headLine head
-    ++ (tableLines starts members ts (head .counts .groups) ++ (listLine (bytes "cores:") (T.elementsOf cores) ++ listLine (bytes "outliers:") (T.elementsOf outliers)))
+unfoldable pub tableText : Numbers → List ℕ → List ℕ → List ℕ → List ℕ → List ℕ → List ℕ
+tableText numbers starts members ts cores outliers =
+    headLine (numbers .head)
+    ++ (tableLines starts members ts (numbers .head .counts .groups) ++ (listLine (bytes "cores:") (T.elementsOf cores) ++ (listLine (bytes "outliers:") (T.elementsOf outliers)
+    ++ totalsLine (numbers .totals))))
 
 pub record Filled (t l : List ℕ) (r : Reported) (l′ : List ℕ) : Type 0 where
   pub answer : r ≡ writtenOf t (length l)
   pub text : l′ ≡ writtenIn t l
-
-pub record Without (ws l ws′ : List ℕ) : Type 0 where
-  pub size : length ws′ ≡ length ws
-  pub bits : (v : ℕ) → bitAt ws′ v ≡ bit (eqb (bitAt ws v) 1 && not (contains v l))
 
 pub record PlanHeld (s : List ℕ) (h : Header) (head : Head) (starts members cores : List ℕ) : Type 0 where
   pub accepted : Accepted s

@@ -1,4 +1,4 @@
--- The text of a report, and the answers of the calls that write it (paper 01, "Scores, lookup, report").
+-- The text of a report, and the answers of the calls that write it (paper 01, "Scores, lookup, report"; paper 02, order 1).
 --
 --     newline                byte 10, which ends each line
 --     headLine h             line one: n, m, and the plan's two counts
@@ -6,8 +6,8 @@
 --     scoresPart k c         what stands before the colon in the line of group k: its number and its scores
 --     groupLine k c l        the line of group k: those, a colon, the group's members
 --     listLine word l        a line of a word and the numbers of a list
+--     totalsLine t           the last line: how many handsets have each role, and how many borders are in two communities or more
 --     groupLines s gs k      the lines of the first k groups
---     isOutlier r            the role is that of an outlier
 --     outliers g             the handsets in no community, ascending
 --     headOf s gs            the numbers of line one, for an image with the communities gs
 --     reportWith s gs        the whole text for an image with the communities gs
@@ -27,7 +27,7 @@
 --     OneAnswer              the theorem: the number, place and values leave nothing of the answer free (proved in proofs/Answers)
 use Prim.Native.Nat.{ℕ, zero, suc}
 use mathlib.Core.Path.{_≡_}
-use mathlib.Core.Bool.{Bool, true, false, cond}
+use mathlib.Core.Bool.{cond}
 use mathlib.Core.List.{List, [], _∷_, _++_}
 use lib.Dec.{leb, ltb}
 use lib.ListN.{length, getD}
@@ -41,13 +41,13 @@ use Rattle.image.specs.declared.Opened.the-variants as O
 use Rattle.community.specs.Network.{Network, communities, cores, role}
 use Rattle.community.specs.Tables.{memberTable}
 use Rattle.community.specs.Site.{network}
-use Rattle.community.specs.declared.Role.{Role}
-use Rattle.community.specs.declared.Role.the-variants.{Core, Border, Outlier}
 use Rattle.tables.specs.Plan.{over}
 use Rattle.scores.specs.declared.Score.{Score}
 use Rattle.scores.specs.declared.Score.the-variants.{Ratio, Nothing}
 use Rattle.scores.specs.declared.Scores.{Scores}
 use Rattle.scores.specs.Scored.{tallyOf, scoresFor}
+use Rattle.totals.specs.declared.Totals.{Totals}
+use Rattle.totals.specs.Totals.{isOutlier, totals}
 use Rattle.text.specs.Text.{bytes, decimal, numbers}
 use Rattle.reporting.specs.declared.Head.{Head}
 use Rattle.reporting.specs.declared.Reported.{Reported}
@@ -76,16 +76,16 @@ groupLine k c l = scoresPart k c ++ (bytes ":" ++ (numbers l ++ newline))
 unfoldable pub listLine : List ℕ → List ℕ → List ℕ
 listLine word l = word ++ (numbers l ++ newline)
 
+unfoldable pub totalsLine : Totals → List ℕ
+totalsLine t =
+    bytes "cores " ++ (decimal (t .cores) ++ (bytes " borders " ++ (decimal (t .borders)
+    ++ (bytes " outliers " ++ (decimal (t .outliers) ++ (bytes " multiple " ++ (decimal (t .multiple) ++ newline)))))))
+
 -- ---- the report of an accepted image
 
 unfoldable pub groupLines : List ℕ → List (List ℕ) → ℕ → List ℕ
 groupLines s gs zero = []
 groupLines s gs (suc k) = groupLines s gs k ++ groupLine k (scoresFor (tallyOf s (getD gs k []))) (getD gs k [])
-
-unfoldable pub isOutlier : Role → Bool
-isOutlier (Core k) = false
-isOutlier (Border k) = false
-isOutlier Outlier = true
 
 unfoldable pub outliers : Network → List ℕ
 outliers g = select (g .n) (λ v. isOutlier (role g v))
@@ -96,7 +96,8 @@ headOf s gs = record { handsets = handsetCount s; ties = edgeCount s; counts = r
 unfoldable pub reportWith : List ℕ → List (List ℕ) → List ℕ
 reportWith s gs =
     headLine (headOf s gs)
-    ++ (groupLines s gs (length gs) ++ (listLine (bytes "cores:") (cores (network s)) ++ listLine (bytes "outliers:") (outliers (network s))))
+    ++ (groupLines s gs (length gs) ++ (listLine (bytes "cores:") (cores (network s)) ++ (listLine (bytes "outliers:") (outliers (network s))
+    ++ totalsLine (totals (network s)))))
 
 unfoldable pub reportText : List ℕ → List ℕ
 reportText s = reportWith s (communities (network s))

@@ -6,18 +6,17 @@ use scores::Score;
 use scores::Tally;
 use tables::Counts;
 use tables::Planned;
-ghost use Prim.Native.Nat.{ℕ, _≤_, _<_};
+use totals::Totals;
+ghost use Prim.Native.Nat.{_≤_, _<_};
 ghost use mathlib.Core.Path.{_≡_};
 ghost use mathlib.Core.List.{_++_};
-ghost use lib.Dec.{ltb};
-ghost use lib.ListN.{length, getD, replicate};
-ghost use Rattle.sets.specs.Rows.{SetOf};
+ghost use lib.ListN.{length, getD};
 ghost use Rattle.image.specs.Image.{headerOf};
 ghost use Rattle.image.specs.Questions.{Accepted};
 ghost use Rattle.scores.specs.Scored.{scoresFor};
 ghost use Rattle.text.specs.Text.{Wrote, decimal, elementsOf};
-ghost use Rattle.reporting.specs.Report.{headLine, scoreText, scoresPart, groupLine, listLine, reportText, ReportCall, refusedText, programText};
-ghost use Rattle.reporting.specs.Held.{groupTally, tableText, Filled, Without, PlanHeld};
+ghost use Rattle.reporting.specs.Report.{headLine, scoreText, scoresPart, groupLine, listLine, totalsLine, reportText, ReportCall, refusedText, programText};
+ghost use Rattle.reporting.specs.Held.{fourLine, groupTally, tableText, Filled, PlanHeld};
 
 // What a call for a report answers: the text's length, or the refusal.
 pub enum Reported {
@@ -32,6 +31,20 @@ struct Head {
     counts: Counts,
 }
 
+// The numbers of a report's first line and of its last.
+struct Numbers {
+    head: Head,
+    totals: Totals,
+}
+
+// The four numbers of a line.
+struct Four {
+    a: u64,
+    b: u64,
+    c: u64,
+    d: u64,
+}
+
 // Writes a word and a number.
 fn put_labelled(text: &mut [u8], at: usize, word: &[u8], n: u64) -> usize
     ensures { λ r. ⌜ Wrote (now (text .entry)) at (now (word .entry) ++ decimal n) (now (text .exit)) r ⌝ }
@@ -40,15 +53,65 @@ fn put_labelled(text: &mut [u8], at: usize, word: &[u8], n: u64) -> usize
     text::put_decimal(text, next, n)
 }
 
+// Writes a line of four words, each with its number.
+fn put_four<'a>(
+    text: &mut [u8],
+    at: usize,
+    w: &'a [u8],
+    x: &'a [u8],
+    y: &'a [u8],
+    z: &'a [u8],
+    numbers: Four,
+) -> usize
+    ensures { λ r. ⌜ Wrote (now (text .entry)) at (fourLine (now (w .entry)) (now (x .entry)) (now (y .entry)) (now (z .entry)) numbers) (now (text .exit)) r ⌝ }
+{
+    let p1 = put_labelled(text, at, w, numbers.a);
+    let p2 = put_labelled(text, p1, x, numbers.b);
+    let p3 = put_labelled(text, p2, y, numbers.c);
+    let p4 = put_labelled(text, p3, z, numbers.d);
+    text::put(text, p4, 10)
+}
+
 // Writes line one.
 fn put_head(text: &mut [u8], at: usize, head: Head) -> usize
     ensures { λ r. ⌜ Wrote (now (text .entry)) at (headLine head) (now (text .exit)) r ⌝ }
 {
-    let p1 = put_labelled(text, at, b"handsets ", head.handsets as u64);
-    let p2 = put_labelled(text, p1, b" ties ", head.ties as u64);
-    let p3 = put_labelled(text, p2, b" groups ", head.counts.groups as u64);
-    let p4 = put_labelled(text, p3, b" memberships ", head.counts.memberships as u64);
-    text::put(text, p4, 10)
+    let numbers = Four {
+        a: head.handsets as u64,
+        b: head.ties as u64,
+        c: head.counts.groups as u64,
+        d: head.counts.memberships as u64,
+    };
+    put_four(
+        text,
+        at,
+        b"handsets ",
+        b" ties ",
+        b" groups ",
+        b" memberships ",
+        numbers,
+    )
+}
+
+// Writes the last line.
+fn put_totals(text: &mut [u8], at: usize, totals: Totals) -> usize
+    ensures { λ r. ⌜ Wrote (now (text .entry)) at (totalsLine totals) (now (text .exit)) r ⌝ }
+{
+    let numbers = Four {
+        a: totals.cores as u64,
+        b: totals.borders as u64,
+        c: totals.outliers as u64,
+        d: totals.multiple as u64,
+    };
+    put_four(
+        text,
+        at,
+        b"cores ",
+        b" borders ",
+        b" outliers ",
+        b" multiple ",
+        numbers,
+    )
 }
 
 // Writes a score: two numbers with a slash between, or a hyphen where there is none.
@@ -116,52 +179,30 @@ fn put_set(text: &mut [u8], at: usize, word: &[u8], set: &[u64]) -> usize
     text::put(text, p2, 10)
 }
 
-// Writes the whole report from the numbers of line one, the plan's tables, the tallies, and the sets of cores and of outliers.
+// Writes the whole report from the numbers of its first and last line, the plan's tables, the tallies, and the sets of cores and of outliers.
 fn put_report<'a>(
     text: &mut [u8],
-    head: Head,
+    numbers: Numbers,
     starts: &'a [u32],
     members: &'a [u16],
     tallies: &'a [u32],
     cores: &'a [u64],
     outliers: &'a [u64],
 ) -> usize
-    requires { ⌜ head .counts .groups ≤ 512 ⌝ }
-    ensures { λ r. ⌜ Wrote (now (text .entry)) 0 (tableText head (now (starts .entry)) (now (members .entry)) (now (tallies .entry)) (now (cores .entry)) (now (outliers .entry))) (now (text .exit)) r ⌝ }
+    requires { ⌜ numbers .head .counts .groups ≤ 512 ⌝ }
+    ensures { λ r. ⌜ Wrote (now (text .entry)) 0 (tableText numbers (now (starts .entry)) (now (members .entry)) (now (tallies .entry)) (now (cores .entry)) (now (outliers .entry))) (now (text .exit)) r ⌝ }
 {
-    let groups = head.counts.groups;
-    let mut next = put_head(text, 0, head);
+    let groups = numbers.head.counts.groups;
+    let mut next = put_head(text, 0, numbers.head);
     let mut k: usize = 0;
     while k < groups {
         let list = lookup::members(starts, members, k);
         next = put_group(text, next, k, group_tally(tallies, k, list), list);
         k += 1;
     }
-    let past = put_set(text, next, b"cores:", cores);
-    put_set(text, past, b"outliers:", outliers)
-}
-
-// Adds each number below n to an empty set.
-fn mark_below(set: &mut [u64], n: usize)
-    requires { ⌜ (n ≤ 512) × (now set ≡ replicate 8 0) ⌝ }
-    ensures { λ _. ⌜ SetOf (now (set .exit)) (λ (v : ℕ). ltb v n) ⌝ }
-{
-    let mut v: usize = 0;
-    while v < n {
-        sets::mark(set, v);
-        v += 1;
-    }
-}
-
-// Takes each number of a table out of a set.
-fn unmark_all(set: &mut [u64], table: &[u16])
-    ensures { λ _. ⌜ Without (now (set .entry)) (now (table .entry)) (now (set .exit)) ⌝ }
-{
-    let mut i: usize = 0;
-    while i < table.len() {
-        sets::unmark(set, table[i] as usize);
-        i += 1;
-    }
+    let p1 = put_set(text, next, b"cores:", cores);
+    let p2 = put_set(text, p1, b"outliers:", outliers);
+    put_totals(text, p2, numbers.totals)
 }
 
 // Writes the report of an accepted image from its header, the numbers of line one, and its plan. The text is measured in a buffer of one byte, and written
@@ -185,12 +226,20 @@ fn report_plan<'a>(
     let mut tallies = [0u32; 1024];
     tallies::count_groups(&image[a..b], starts, members, groups, &mut tallies);
     let mut outliers = [0u64; 8];
-    mark_below(&mut outliers, h.n as usize);
-    unmark_all(&mut outliers, &members[0..memberships]);
+    let totals = totals::count_roles(&members[0..memberships], cores, h.n as usize, &mut outliers);
+    let numbers = Numbers { head, totals };
     let mut none = [0u8; 1];
-    let need = put_report(&mut none, head, starts, members, &tallies, cores, &outliers);
+    let need = put_report(
+        &mut none,
+        numbers,
+        starts,
+        members,
+        &tallies,
+        cores,
+        &outliers,
+    );
     if need <= text.len() {
-        let length = put_report(text, head, starts, members, &tallies, cores, &outliers);
+        let length = put_report(text, numbers, starts, members, &tallies, cores, &outliers);
         return Reported::Written(length);
     }
     Reported::Refused(Refusal {

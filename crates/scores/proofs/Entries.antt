@@ -1,9 +1,7 @@
--- Laws of the entries counted into a table: what its loop keeps, and that a table of multiplicities makes the tally.
+-- Laws of the entries counted into a table: a table of multiplicities makes the tally.
 --
 --     listed              the entries of a list that question 13 passes, for at most 512 handsets
---     blank               a new table is blank
---     counted-more        one more entry counted
---     counted-all         all counted: the table of multiplicities
+--     counted             such entries counted: the table of multiplicities
 --     entries-no, none-bad, entries-yes     question 13, by the place where the scan of the entries stopped
 --     entries-good        a list of at most 512 entries, all below n, passes question 13
 --     table-le            no place holds more than 512
@@ -13,27 +11,28 @@
 use Prim.Native.Nat.{ℕ, zero, suc, _+_, _*_, _≤_, _<_}
 use native.Mathlib.Omega.{arith}
 use native.Mathlib.Numerals.{add-one}
-use native.Mathlib.Decide.{ℕ-discrete, decLt}
+use native.Mathlib.Decide.{decLt}
 use native.Mathlib.Nat.{mul-le-mul}
 use mathlib.Core.Path.{_≡_, refl, sym, ap, ap₂, _∙_}
 use mathlib.Core.Logic.{_⊎_, inl, inr, ⊎-elim}
 use mathlib.Core.Bool.{Bool, true, false, _&&_, not, cond}
 use mathlib.Core.List.{List}
 use lib.Dec.{T, leb, eqb, not-T, le→leb, leb→le}
-use lib.ListN.{length, getD, set, length-replicate, getD-replicate, List·getD-eq-default}
-use lib.Seq.{getD-set-same, getD-set-other}
+use lib.ListN.{length, getD, List·getD-eq-default}
+use lib.Seq.{take-all}
 use Rattle.sets.specs.Below.{any, count, sum, bit, find}
-use Rattle.sets.proofs.Tests.{or-left, or-right, or-cases, decide, not-any, none-any, find-law, find-none, eqb-of, eqb-not, T-true, T-false}
-use Rattle.sets.proofs.Bits.{zeros}
-use Rattle.sets.proofs.Counting.{count-cong, count-le, count-yes, count-no, sum-cong}
+use Rattle.sets.proofs.Tests.{or-left, or-right, or-cases, decide, not-any, none-any, find-law, find-none, eqb-not, T-true, T-false}
+use Rattle.sets.proofs.Counting.{count-cong, count-le, sum-cong}
+use Rattle.sets.specs.Entries.{multiplicity, EntriesCounted}
+use Rattle.sets.proofs.Entries.{multiplicity-le, multiplicity-none}
 use Rattle.image.specs.Image.{endA, endB}
 use Rattle.community.specs.Network.{contains}
 use Rattle.community.specs.Scores.{pairs, justOne}
+use Rattle.community.proofs.Multiplicities.{multiplicity-contains}
 use Rattle.scores.specs.Scored.{badEntry, askEntries}
-use Rattle.scores.specs.Held.{multiplicity, tallyAt, GoodEntries, Blank, Multiplicities, joinedSum, leavingSum}
+use Rattle.scores.specs.Held.{tallyAt, GoodEntries, Multiplicities, joinedSum, leavingSum}
 use Rattle.scores.specs.declared.Tally.{Tally}
 use Rattle.scores.specs.declared.Tallied.the-variants as T
-use Rattle.scores.proofs.Pairing.{multiplicity-le, multiplicity-contains}
 
 some-bad : (n : ℕ) (l : List ℕ) (i : ℕ) → (n ≤ getD l i 0) ⊎ (512 ≤ i) → T (badEntry n l i)
 unfolding badEntry
@@ -55,32 +54,15 @@ module _ (n : ℕ) (l : List ℕ) (few : n ≤ 512) (t : T (not (any (length l) 
   pub listed : GoodEntries l
   listed = record { short = is-short (decLt 512 (length l)); low = λ i h. is-low i h (decLt (getD l i 0) 512) }
 
-zero-at : (n v : ℕ) → Dec (v < n) → getD (zeros n) v 0 ≡ 0
-zero-at n v (yes h) = getD-replicate n v 0 0 h
-zero-at n v (no h) = List·getD-eq-default (zeros n) 0 (omega (arith, length-replicate {A = ℕ} n 0))
+pub counted : (l table : List ℕ) → GoodEntries l → EntriesCounted l table → Multiplicities table l
+counted l table a c = record { held = λ v. pick v (decLt v 512) }
+  where
+    none : (v i : ℕ) → 512 ≤ v → i < length l → T (not (eqb v (getD l i 0)))
+    none v i h k = eqb-not v (getD l i 0) (λ e. omega (arith, a .low i k))
 
-pub blank : Blank (zeros 512)
-blank = record { size = length-replicate {A = ℕ} 512 0; zeros = λ v. zero-at 512 v (decLt v 512) }
-
--- how often v stands among the first i entries
-abbrev pub countedTo : List ℕ → ℕ → ℕ → ℕ
-countedTo l i v = count i (λ j. eqb v (getD l j 0))
-
-module _ (l table : List ℕ) (i : ℕ) (v : ℕ) (at : getD l i 0 < length table) (e : (w : ℕ) → getD table w 0 ≡ countedTo l i w) where
-  more-at : Dec (v ≡ getD l i 0) → getD (set table (getD l i 0) (getD table (getD l i 0) 0 + 1)) v 0 ≡ countedTo l (i + 1) v
-  more-at (yes d) =
-      rw (d, getD-set-same table (getD l i 0) (getD table (getD l i 0) 0 + 1) 0 at)
-      (omega (arith, e (getD l i 0), count-yes i (λ j. eqb (getD l i 0) (getD l j 0)) (eqb-of (getD l i 0) (getD l i 0) refl)))
-  more-at (no d) =
-      getD-set-other table (getD l i 0) v (getD table (getD l i 0) 0 + 1) 0 d ∙ e v ∙ sym (count-no i (λ j. eqb v (getD l j 0)) (eqb-not v (getD l i 0) d))
-
-pub counted-more : (l table : List ℕ) (i : ℕ) → getD l i 0 < length table → ((v : ℕ) → getD table v 0 ≡ countedTo l i v)
-    → (v : ℕ) → getD (set table (getD l i 0) (getD table (getD l i 0) 0 + 1)) v 0 ≡ countedTo l (i + 1) v
-counted-more l table i at e v = more-at l table i v at e (ℕ-discrete v (getD l i 0))
-
-pub counted-all : (l table : List ℕ) (i : ℕ) → i ≡ length l → ((v : ℕ) → getD table v 0 ≡ countedTo l i v) → Multiplicities table l
-unfolding multiplicity
-counted-all l table i d e = record { held = λ v. e v ∙ ap (λ (k : ℕ). countedTo l k v) d }
+    pick : (v : ℕ) → Dec (v < 512) → getD table v 0 ≡ multiplicity l v
+    pick v (yes h) = c .counts v h ∙ ap (λ (k : List ℕ). multiplicity k v) (take-all 65535 l (omega (arith, a .short)))
+    pick v (no h) = List·getD-eq-default table 0 (omega (arith, c .size)) ∙ sym (multiplicity-none l v (λ i k. none v i (omega arith) k))
 
 pub table-le : (l table : List ℕ) → GoodEntries l → Multiplicities table l → (v : ℕ) → getD table v 0 ≤ 512
 table-le l table a m v = omega (arith, m .held v, multiplicity-le l v, a .short)

@@ -20,7 +20,8 @@ use lib.Dec.{T, eqb, eqb→eq, T-not}
 use lib.ListN.{length, getD, take, drop}
 use Rattle.sets.specs.Below.{count, sum, bit}
 use Rattle.sets.proofs.Tests.{and-right, any-make, eqb-of}
-use Rattle.sets.proofs.Counting.{count-sum, count-swap, count-false, sum-cong, sum-swap, sum-zero}
+use Rattle.sets.proofs.Counting.{count-once, count-sum, count-swap, count-false, sum-cong, sum-swap, sum-zero}
+use Rattle.sets.specs.Entries.{multiplicity}
 use Rattle.fields.specs.Fields.{edgeBytes}
 use Rattle.image.specs.Image.{headerOf, handsetCount, edgeCount, edgeRecords, endA, endB, joins, adjacent}
 use Rattle.image.specs.Questions.{isLoop, repeatsEarlier, openOf, Accepted}
@@ -31,12 +32,13 @@ use Rattle.image.specs.declared.Opened.the-variants as O
 use Rattle.image.proofs.Acceptance.{accepted, accepted-fits, length-is, opened}
 use Rattle.community.specs.Network.{contains}
 use Rattle.community.specs.Scores.{countPairs, pairs, everyEdge, joinedBy, joinedPairs, leaving}
+use Rattle.community.proofs.Multiplicities.{multiplicity-once}
 use Rattle.community.proofs.Edges.{joins-make, joins-take, pair-sym, pair-trans}
 use Rattle.scores.specs.Scored.{tallyBy, tallyOf, askEntries, talliedFor, talliedOf, scoresFor, scoredFor, scoredOf}
-use Rattle.scores.specs.Held.{multiplicity, tallyAt}
+use Rattle.scores.specs.Held.{tallyAt}
 use Rattle.scores.specs.declared.Tallied.the-variants as T
 use Rattle.scores.specs.declared.Scored.the-variants as S
-use Rattle.scores.proofs.Pairing.{pairs-product, count-once, multiplicity-once}
+use Rattle.scores.proofs.Pairing.{pairs-product}
 use Rattle.scores.proofs.Entries.{entries-good}
 
 pub joined-adjacent : (s : List ℕ) (u v : ℕ) → joinedBy s everyEdge u v ≡ adjacent s u v

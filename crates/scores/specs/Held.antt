@@ -1,27 +1,22 @@
 -- These definitions only serve the proofs; a caller need not believe them.
 -- What the tally's functions work out one after another, for the contracts inside the crate.
 --
---     multiplicity l v          how often v stands in a list
 --     tallyAt part m test l     the tally over the first m edges of a part of the image, those that pass, edge by edge
 --     GoodEntries l             the entries of a list that question 13 passes
---     Blank table               512 places that hold 0
 --     Multiplicities table l    place v holds how often v stands in l, for every v
 --     joinedSum, leavingSum     t and o over the first m edges of a part, those that pass, by such a table
 use Prim.Native.Nat.{ℕ, _*_, _≤_, _<_}
 use mathlib.Core.Path.{_≡_}
 use mathlib.Core.Bool.{Bool, _&&_, cond}
 use mathlib.Core.List.{List}
-use lib.Dec.{leb, eqb}
+use lib.Dec.{leb}
 use lib.ListN.{length, getD}
 use Rattle.sets.specs.Below.{count, sum}
+use Rattle.sets.specs.Entries.{multiplicity}
 use Rattle.image.specs.Image.{endA, endB}
 use Rattle.community.specs.Network.{contains}
 use Rattle.community.specs.Scores.{pairs, justOne}
 use Rattle.scores.specs.declared.Tally.{Tally}
-
-unfoldable pub multiplicity : List ℕ → ℕ → ℕ
-unfolding count
-multiplicity l v = count (length l) (λ i. eqb v (getD l i 0))
 
 unfoldable pub tallyAt : List ℕ → ℕ → (ℕ → Bool) → List ℕ → Tally
 unfolding pairs sum count multiplicity endA endB contains
@@ -34,10 +29,6 @@ tallyAt part m test l = record {
 pub record GoodEntries (l : List ℕ) : Type 0 where
   pub short : length l ≤ 512
   pub low : (i : ℕ) → i < length l → getD l i 0 < 512
-
-pub record Blank (table : List ℕ) : Type 0 where
-  pub size : length table ≡ 512
-  pub zeros : (v : ℕ) → getD table v 0 ≡ 0
 
 pub record Multiplicities (table l : List ℕ) : Type 0 where
   pub held : (v : ℕ) → getD table v 0 ≡ multiplicity l v

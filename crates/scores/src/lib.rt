@@ -13,7 +13,7 @@ ghost use Rattle.fields.specs.Fields.{edgeBytes};
 ghost use Rattle.community.specs.Scores.{justOne, pairs, everyEdge};
 ghost use Rattle.scores.specs.Scored.{badEntry, score, scoresFor, talliedOf, scoredOf};
 ghost use Rattle.scores.specs.Answers.{tallyAnswer, scoreAnswer};
-ghost use Rattle.scores.specs.Held.{tallyAt, GoodEntries, Blank, Multiplicities, joinedSum, leavingSum};
+ghost use Rattle.scores.specs.Held.{tallyAt, GoodEntries, joinedSum, leavingSum};
 use image::Opened;
 use image::Refusal;
 
@@ -66,19 +66,6 @@ fn first_bad_entry(n: usize, list: &[u16]) -> usize
         i += 1;
     }
     i
-}
-
-// Counts the entries of the list into a blank table: place v then holds how often v stands in the list.
-fn count_entries(list: &[u16], table: &mut [u16])
-    requires { ⌜ GoodEntries (now list) × Blank (now table) ⌝ }
-    ensures { λ _. ⌜ Multiplicities (now (table .exit)) (now (list .entry)) ⌝ }
-{
-    let mut i: usize = 0;
-    while i < list.len() {
-        let v = list[i] as usize;
-        table[v] = table[v] + 1;
-        i += 1;
-    }
 }
 
 // What the table holds for v; 0 past its end.
@@ -136,7 +123,7 @@ fn tally_listed(edges: &[u8], m: usize, list: &[u16]) -> Tally
     ensures { λ r. ⌜ r ≡ tallyAt (now (edges .entry)) m everyEdge (now (list .entry)) ⌝ }
 {
     let mut table = [0u16; 512];
-    count_entries(list, &mut table);
+    sets::count_entries(list, &mut table);
     tally_edges(edges, m, &table, pairs_of(list))
 }
 

@@ -10,7 +10,7 @@ use mathlib.Core.Bool.{Bool, true, false, _&&_, _||_, not}
 use lib.Dec.{T, eqb, eqb→eq, eqb-refl, T-not, not-T, ltb, lt→ltb, ltb→lt}
 use Rattle.sets.specs.Below.{any, count, bit, sum}
 use Rattle.sets.specs.Renumbering.{Renumbering}
-use Rattle.sets.proofs.Tests.{and-make, and-left, and-right, or-left, or-right, decide, T-true, T-ext, below}
+use Rattle.sets.proofs.Tests.{and-make, and-left, and-right, or-left, or-right, decide, any-take, T-true, T-false, T-ext, below}
 
 pub count-cong : (n : ℕ) (f g : ℕ → Bool) → ((v : ℕ) → v < n → f v ≡ g v) → count n f ≡ count n g
 unfolding count
@@ -164,6 +164,25 @@ count-no n f t = rw (add-one n) (omega (arith, bit-false (f n) t))
 
 pub count-at : (i j : ℕ) (f : ℕ → Bool) → i ≡ j → count i f ≡ count j f
 count-at i j f e = ap (λ (k : ℕ). count k f) e
+
+-- the first number apart from the others
+pub count-first : (n : ℕ) (f : ℕ → Bool) → count (suc n) f ≡ bit (f 0) + count n (λ i. f (suc i))
+unfolding count
+count-first zero f = refl
+count-first (suc n) f = omega (arith, count-first n f)
+
+-- a test that no two pass counts 0 or 1
+pub count-once : (n : ℕ) (f : ℕ → Bool) → ((i j : ℕ) → i < j → j < n → T (f i) → T (f j) → ⊥) → bit (any n f) ≡ count n f
+unfolding any count
+count-once zero f h = refl
+count-once (suc n) f h =
+    let e : bit (any n f) ≡ count n f = count-once n f (λ i j a b. h i j a (omega arith)) in
+    ⊎-elim
+    (λ t.
+    let z : bit (any n f) ≡ 0 = bit-false (any n f) (not-T (any n f) (λ x. let r = any-take n f x in h (r .0) n (r .1) (omega arith) (r .2) t)) in
+    omega (arith, bit-true (f n) t, bit-true (f n || any n f) (or-left (f n) (any n f) t)))
+    (λ t. rw (T-false (f n) t) (omega arith))
+    (decide (f n))
 
 -- ---- sums, and counts as sums
 

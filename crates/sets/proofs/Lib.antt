@@ -5,3 +5,4 @@ pub mod Bits
 pub mod Writing
 pub mod Lowest
 pub mod Words
+pub mod Entries

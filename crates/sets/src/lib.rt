@@ -1,10 +1,12 @@
-// Sets of numbers as bits of 64-bit words: one bit set, cleared or looked at. A number past the last word is in no set. And the smaller of two numbers.
+// Sets of numbers as bits of 64-bit words: one bit set, cleared or looked at. A number past the last word is in no set. And the smaller of two numbers,
+// and how often each number stands in a list.
 //
 // The specs are what every crate above counts by: tests below a bound, bits, renumberings. Their laws are in proofs/.
 ghost use mathlib.Core.Path.{_≡_};
 ghost use Prim.Native.Nat.{min};
 ghost use lib.Dec.{eqb};
 ghost use Rattle.sets.specs.Bits.{bitAt, withBit, withoutBit};
+ghost use Rattle.sets.specs.Entries.{EntriesCounted};
 
 // Adds i to the set.
 pub fn mark(words: &mut [u64], i: usize)
@@ -41,4 +43,21 @@ pub fn smaller(a: usize, b: usize) -> usize
     ensures { λ r. ⌜ r ≡ min a b ⌝ }
 {
     if a < b { a } else { b }
+}
+
+// Counts how often each number below 512 stands in the list; the table that is lent gets the counts. It looks at no more than 65,535 entries, so that each
+// count fits.
+pub fn count_entries(list: &[u16], table: &mut [u16; 512])
+    ensures { λ _. ⌜ EntriesCounted (now (list .entry)) (now (table .exit)) ⌝ }
+{
+    let last = smaller(list.len(), 65535);
+    *table = [0u16; 512];
+    let mut i: usize = 0;
+    while i < last {
+        let v = list[i] as usize;
+        if v < 512 {
+            table[v] = table[v] + 1;
+        }
+        i += 1;
+    }
 }

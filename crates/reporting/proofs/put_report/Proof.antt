@@ -1,4 +1,4 @@
--- `reporting::put_report` meets its contract: line one, the groups, the cores, the outliers. After k steps of the loop the lines of the first k groups are
+-- `reporting::put_report` meets its contract: line one, the groups, the cores, the outliers, the totals. After k steps of the loop the lines of the first k groups are
 -- written. The measure is the count of groups left.
 use native.Mathlib.Omega.{arith}
 use Prim.Native.Nat.{_-_, _≤_}
@@ -15,10 +15,10 @@ use Rattle.reporting.proofs.put_report.Statement.{statement}
 use Rattle.reporting.proofs.put_report.Tie as tie
 
 abbrev Inv-loop : tie.InvT-loop
-Inv-loop text₀ starts members tallies cores outliers groups next₀ k₀ t13 t14 text next k = (k ≤ groups) × Wrote text₀ next₀ (tableLines starts members tallies k) text next
+Inv-loop text₀ numbers starts members tallies cores outliers groups next₀ k₀ t13 t14 text next k = (k ≤ groups) × Wrote text₀ next₀ (tableLines starts members tallies k) text next
 
 abbrev μ-loop : tie.MeasureT-loop
-μ-loop text₀ starts members tallies cores outliers groups next₀ k₀ t13 t14 text next k = groups - k
+μ-loop text₀ numbers starts members tallies cores outliers groups next₀ k₀ t13 t14 text next k = groups - k
 
 -- where the function starts, when line one is written, and when the cores are
 abbrev start : tie.After-put-head Inv-loop μ-loop → tie.Start Inv-loop μ-loop
@@ -78,16 +78,20 @@ slice-aggregate-put-set-2 c = search needs
 put-set-requires-2 : tie.Need-put-set-requires-2 Inv-loop μ-loop
 put-set-requires-2 c κs = search needs
 
+put-totals-requires : tie.Need-put-totals-requires Inv-loop μ-loop
+put-totals-requires c κs = search needs
+
 returns : tie.Need-returns Inv-loop μ-loop
 returns c =
-    let w4 = c .before .before in
+    let w5 = c .before .before in
+    let w4 = w5 .before .before .before .before in
     let w3 = cores w4 in
     let at-loop = w3 .before .before .before .before in
     let w1 = head at-loop in
     let s = start w1 in
     let a = s .args in
-    text-written (a .head) (now (a .starts)) (now (a .members)) (now (a .tallies)) (now (a .cores)) (now (a .outliers)) (omega (arith, s .good .0 .1)) (omega arith)
-    (w1 .put-head .ensures) (at-loop .loop .inv .1) (w3 .put-set .ensures) (w4 .put-set2 .ensures)
+    text-written (a .numbers) (now (a .starts)) (now (a .members)) (now (a .tallies)) (now (a .cores)) (now (a .outliers)) (omega (arith, s .good .0 .1)) (omega arith)
+    (w1 .put-head .ensures) (at-loop .loop .inv .1) (w3 .put-set .ensures) (w4 .put-set2 .ensures) (w5 .put-totals .ensures)
 
 same-length : tie.Need-same-length Inv-loop μ-loop
 same-length c = ap length (returns c .list) ∙ simp length-sets
@@ -110,5 +114,6 @@ put-report-spec =
     put-set-requires
     slice-aggregate-put-set-2
     put-set-requires-2
+    put-totals-requires
     same-length
     returns)

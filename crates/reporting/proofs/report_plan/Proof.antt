@@ -1,44 +1,35 @@
 -- `reporting::report_plan` meets its contract: the tables that its calls make are those of the image, and the text from them is the report's. The position
 -- after the measuring run is the text's length, so that it fits exactly when the test passes.
 use native.Mathlib.Omega.{arith}
-use mathlib.Core.Path.{_≡_, refl}
+use mathlib.Core.Path.{_≡_}
 use denote.Ref.{now}
 use Rattle.reporting.specs.Report.{reportText}
 use Rattle.reporting.specs.Held.{tableText}
-use Rattle.reporting.proofs.Whole.{groups-few, handsets-few, edges-fit, members-fit, text-held}
+use Rattle.reporting.proofs.Whole.{groups-few, edges-fit, members-fit, text-held}
 use Rattle.reporting.proofs.Answers.{filled-written, filled-refused}
 use borrow.Author.Needs.{needs}
 use Rattle.reporting.proofs.report_plan.Statement.{statement}
 use Rattle.reporting.proofs.report_plan.Tie as tie
 
--- where the function starts, when the edges are counted, the numbers below n marked, the members taken out, and the text measured
+-- where the function starts, when the edges are counted, the roles counted, and the text measured
 abbrev start : tie.After-struct-known2 → tie.Start
 start c = c .before .before .before .before .before .before .before
-
-abbrev counting : tie.After-tallies → tie.After-struct-known2
-counting c = c .before .before
 
 abbrev counted : tie.After-struct-known3 → tie.After-count-groups
 counted c = c .before .before
 
-abbrev marked : tie.After-outliers3 → tie.After-mark-below
-marked c = c .before .before
+abbrev told : tie.After-outliers2 → tie.After-count-roles
+told c = c .before .before .before
 
-abbrev left : tie.After-outliers5 → tie.After-unmark-all
-left c = c .before .before .before .before
-
-abbrev measured : tie.After-outliers6 → tie.After-put-report
+abbrev measured : tie.After-outliers3 → tie.After-put-report
 measured c = c .before .before .before .before .before
 
--- the start, from each of those
-abbrev marking-start : tie.After-struct-known3 → tie.Start
-marking-start c = start (counting (counted c .before))
+-- the start, from two of those
+abbrev counting-start : tie.After-count-groups → tie.Start
+counting-start c = start (c .before .before .before)
 
-abbrev leaving-start : tie.After-outliers3 → tie.Start
-leaving-start c = marking-start (marked c .before)
-
-abbrev measuring-start : tie.After-outliers5 → tie.Start
-measuring-start c = leaving-start (left c .before .before)
+abbrev measuring-start : tie.After-outliers2 → tie.Start
+measuring-start c = counting-start (counted (told c .before .before))
 
 cast-a : tie.Need-cast-a
 cast-a c = search needs
@@ -64,29 +55,20 @@ part-count-groups-end c = edges-fit (start c .pre)
 count-groups-requires : tie.Need-count-groups-requires
 count-groups-requires c κs = search needs
 
-slice-aggregate-mark-below : tie.Need-slice-aggregate-mark-below
-slice-aggregate-mark-below c = search needs
+sub-count-roles : tie.Need-sub-count-roles
+sub-count-roles c = search needs
 
-cast-mark-below : tie.Need-cast-mark-below
-cast-mark-below c = search needs
+part-count-roles-start : tie.Need-part-count-roles-start
+part-count-roles-start c = search needs
 
-mark-below-requires : tie.Need-mark-below-requires
-mark-below-requires c κs = (handsets-few (marking-start c .pre), refl)
+part-count-roles-end : tie.Need-part-count-roles-end
+part-count-roles-end c = members-fit (counting-start c .pre)
 
-slice-aggregate-unmark-all : tie.Need-slice-aggregate-unmark-all
-slice-aggregate-unmark-all c = search needs
+cast-count-roles : tie.Need-cast-count-roles
+cast-count-roles c = search needs
 
-sub-unmark-all : tie.Need-sub-unmark-all
-sub-unmark-all c = search needs
-
-part-unmark-all-start : tie.Need-part-unmark-all-start
-part-unmark-all-start c = search needs
-
-part-unmark-all-end : tie.Need-part-unmark-all-end
-part-unmark-all-end c = members-fit (leaving-start c .pre)
-
-unmark-all-requires : tie.Need-unmark-all-requires
-unmark-all-requires c κs = search needs
+count-roles-requires : tie.Need-count-roles-requires
+count-roles-requires c κs = search needs
 
 slice-aggregate-put-report : tie.Need-slice-aggregate-put-report
 slice-aggregate-put-report c = search needs
@@ -113,13 +95,12 @@ same-length : tie.Need-same-length
 same-length c = omega arith
 
 -- the text from the tables is the report's
-text-is-report : (c : tie.After-put-report) → (let l = left (c .before) in let a = measuring-start (c .before) .args in
-    tableText (a .head) (now (a .starts)) (now (a .members)) (counted (marked (l .before .before) .before) .count-groups .last .1 .1 .1 .1 .0) (now (a .cores)) (l .unmark-all .last .0)
+text-is-report : (c : tie.After-put-report) → (let r = told (c .before) in let a = measuring-start (c .before) .args in
+    tableText (record { head = a .head; totals = r .count-roles .result }) (now (a .starts)) (now (a .members)) (counted (r .before .before) .count-groups .last .1 .1 .1 .1 .0) (now (a .cores)) (r .count-roles .last .1 .1 .1 .0)
     ≡ reportText (now (a .image)))
 text-is-report c =
-    let l = left (c .before) in
-    let m = marked (l .before .before) in
-    text-held (measuring-start (c .before) .pre) _ _ _ (counted (m .before) .count-groups .ensures) (m .mark-below .ensures) (l .unmark-all .ensures)
+    let r = told (c .before) in
+    text-held (measuring-start (c .before) .pre) _ _ _ (counted (r .before .before) .count-groups .ensures) (r .count-roles .ensures)
 
 returns : tie.Need-returns
 returns c =
@@ -144,14 +125,11 @@ report-plan-spec =
     part-count-groups-start
     part-count-groups-end
     count-groups-requires
-    slice-aggregate-mark-below
-    cast-mark-below
-    mark-below-requires
-    slice-aggregate-unmark-all
-    sub-unmark-all
-    part-unmark-all-start
-    part-unmark-all-end
-    unmark-all-requires
+    sub-count-roles
+    part-count-roles-start
+    part-count-roles-end
+    cast-count-roles
+    count-roles-requires
     slice-aggregate-put-report
     slice-aggregate-put-report-2
     slice-aggregate-put-report-3

@@ -4,7 +4,8 @@ use mathlib.Core.List.{List}
 use lib.Seq.{take-all}
 use denote.Ref.{now}
 use Rattle.community.specs.Scores.{everyEdge}
-use Rattle.scores.proofs.Entries.{blank, table-le, table-tally}
+use Rattle.scores.specs.Held.{Multiplicities}
+use Rattle.scores.proofs.Entries.{counted, table-le, table-tally}
 use borrow.Author.Needs.{needs}
 use Rattle.scores.proofs.tally_listed.Statement.{statement}
 use Rattle.scores.proofs.tally_listed.Tie as tie
@@ -13,8 +14,8 @@ use Rattle.scores.proofs.tally_listed.Tie as tie
 abbrev start : tie.After-table → tie.Start
 start c = c .before .before .before
 
-abbrev entries : tie.After-table3 → tie.After-count-entries
-entries c = c .before .before
+abbrev entries : tie.After-table2 → tie.After-count-entries
+entries c = c .before
 
 abbrev list-of : tie.After-count-entries → List ℕ
 list-of c = now (start (c .before) .args .list)
@@ -23,11 +24,8 @@ list-of c = now (start (c .before) .args .list)
 abbrev table-of : tie.After-count-entries → List ℕ
 table-of c = c .count-entries .last .1 .0
 
-slice-aggregate-count-entries : tie.Need-slice-aggregate-count-entries
-slice-aggregate-count-entries c = search needs
-
 count-entries-requires : tie.Need-count-entries-requires
-count-entries-requires c κs = (start c .pre .2, blank)
+count-entries-requires c κs = search needs
 
 slice-aggregate-tally-edges : tie.Need-slice-aggregate-tally-edges
 slice-aggregate-tally-edges c = search needs
@@ -35,24 +33,27 @@ slice-aggregate-tally-edges c = search needs
 pairs-of-requires : tie.Need-pairs-of-requires
 pairs-of-requires c κs = search needs
 
+-- it holds the multiplicities
+held : (c : tie.After-count-entries) → Multiplicities (table-of c) (list-of c)
+held c = counted (list-of c) (table-of c) (start (c .before) .pre .2) (c .count-entries .ensures)
+
 tally-edges-requires : tie.Need-tally-edges-requires
 tally-edges-requires c κs =
     let e = entries (c .before) in
     let p = start (e .before) .pre in
-    (p .0, p .1, table-le (list-of e) (table-of e) (p .2) (e .count-entries .ensures))
+    (p .0, p .1, table-le (list-of e) (table-of e) (p .2) (held e))
 
 returns : tie.Need-returns
 returns c =
     let e = entries (c .before .before) in
     let s = start (e .before) in
     rw (c .tally-edges .ensures, c .before .pairs-of .ensures, take-all 512 (list-of e) (s .pre .2 .short))
-    (table-tally (now (s .args .edges)) (s .args .m) everyEdge (list-of e) (table-of e) (e .count-entries .ensures))
+    (table-tally (now (s .args .edges)) (s .args .m) everyEdge (list-of e) (table-of e) (held e))
 
 pub tally-listed-spec : {M : Type 1} → statement M
 tally-listed-spec =
     tie.close
     (tie.spec
-    slice-aggregate-count-entries
     count-entries-requires
     slice-aggregate-tally-edges
     pairs-of-requires

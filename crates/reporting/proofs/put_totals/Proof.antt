@@ -1,0 +1,40 @@
+-- `reporting::put_totals` meets its contract: the last line is a line of four words with their numbers.
+use Rattle.reporting.specs.Report.{totalsLine}
+use Rattle.reporting.specs.Held.{fourLine}
+use borrow.Author.Needs.{needs}
+use Rattle.reporting.proofs.put_totals.Statement.{statement}
+use Rattle.reporting.proofs.put_totals.Tie as tie
+
+slice-aggregate-put-four : tie.Need-slice-aggregate-put-four
+slice-aggregate-put-four c = search needs
+
+slice-aggregate-put-four-2 : tie.Need-slice-aggregate-put-four-2
+slice-aggregate-put-four-2 c = search needs
+
+slice-aggregate-put-four-3 : tie.Need-slice-aggregate-put-four-3
+slice-aggregate-put-four-3 c = search needs
+
+slice-aggregate-put-four-4 : tie.Need-slice-aggregate-put-four-4
+slice-aggregate-put-four-4 c = search needs
+
+put-four-requires : tie.Need-put-four-requires
+put-four-requires c κs = search needs
+
+same-length : tie.Need-same-length
+same-length c = search needs
+
+returns : tie.Need-returns
+unfolding totalsLine fourLine
+returns c = c .before .before .put-four .ensures
+
+pub put-totals-spec : {M : Type 1} → statement M
+put-totals-spec =
+    tie.close
+    (tie.spec
+    slice-aggregate-put-four
+    slice-aggregate-put-four-2
+    slice-aggregate-put-four-3
+    slice-aggregate-put-four-4
+    put-four-requires
+    same-length
+    returns)
