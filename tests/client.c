@@ -16,7 +16,8 @@ static const char report_of_s[] = "handsets 7 ties 8 groups 2 memberships 8\n"
                                   "group 0 density 2/6 conductance 1/9: 0 1 2 3\n"
                                   "group 1 density 2/6 conductance 1/9: 3 4 5 6\n"
                                   "cores: 2 4\n"
-                                  "outliers:\n";
+                                  "outliers:\n"
+                                  "cores 2 borders 5 outliers 0 multiple 1\n";
 #define REPORT_LENGTH (sizeof report_of_s - 1)
 
 static int failures = 0;

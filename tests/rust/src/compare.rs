@@ -367,6 +367,7 @@ mod tests {
         LosesPlace,
         OneGroupForABorder,
         ReportsTooShort,
+        CountsNoMultiple,
         IgnoresRepeats,
         TestsNumberItself,
     }
@@ -428,6 +429,9 @@ mod tests {
 
         fn report(&self, image: &[u8], text: &mut [u8]) -> Result<u64, u64> {
             let length = Fast.report(image, text)?;
+            if *self == Mistake::CountsNoMultiple {
+                text[length as usize - 2] = b'0';
+            }
             Ok(length - u64::from(*self == Mistake::ReportsTooShort))
         }
     }
@@ -453,6 +457,7 @@ mod tests {
             LosesPlace,
             OneGroupForABorder,
             ReportsTooShort,
+            CountsNoMultiple,
             IgnoresRepeats,
             TestsNumberItself,
         ];

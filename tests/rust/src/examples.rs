@@ -17,6 +17,8 @@ pub fn examples() -> Vec<(&'static str, Vec<u8>)> {
         ("report_hub", sites::hub().plain_image()),
         // Site S whose tie 5 repeats tie 3 the other way round: refused 10 5.
         ("report_refused", refused.plain_image()),
+        // Every role, and four totals that differ.
+        ("report_totals", sites::totals().plain_image()),
     ]
 }
 

@@ -526,6 +526,15 @@ struct Lines<'a, const W: usize, const R: usize> {
     /// s, t and o of each community.
     scores: [[u32; 3]; R],
     outliers: [u64; W],
+    totals: Totals,
+}
+
+/// How many handsets have each role, and how many are in two communities or more.
+struct Totals {
+    cores: u32,
+    borders: u32,
+    outliers: u32,
+    multiple: u32,
 }
 
 /// Where the text goes: into a count of bytes first, then into the buffer.
@@ -540,15 +549,26 @@ impl<'a, const W: usize, const R: usize> Lines<'a, W, R> {
     /// Everything but the scores.
     fn new(image: &Image, network: &'a Network<W, R>, found: &'a Communities<W, R>) -> Self {
         let mut memberships = 0;
-        let mut members = [0; W];
+        // Those in one community or more, and those in two or more, of which none is a core.
+        let (mut members, mut multiple) = ([0; W], [0; W]);
         for set in found.sets(network) {
             memberships += count(set);
-            members.iter_mut().zip(set).for_each(|(all, word)| *all |= word);
+            for i in 0..W {
+                multiple[i] |= members[i] & set[i];
+                members[i] |= set[i];
+            }
         }
         let mut outliers = [0; W];
         for u in 0..image.handset_count() {
             outliers[word_of::<W>(u)] |= u64::from(!has(&members, u)) << (u % 64);
         }
+        let cores = count(&found.cores);
+        let totals = Totals {
+            cores,
+            borders: count(&members) - cores,
+            outliers: count(&outliers),
+            multiple: count(&multiple),
+        };
         Lines {
             handsets: image.handset_count(),
             ties: image.tie_count(),
@@ -557,6 +577,7 @@ impl<'a, const W: usize, const R: usize> Lines<'a, W, R> {
             found,
             scores: [[0; 3]; R],
             outliers,
+            totals,
         }
     }
 
@@ -585,6 +606,15 @@ impl<'a, const W: usize, const R: usize> Lines<'a, W, R> {
         sink.handsets(&self.found.cores);
         sink.put("outliers:");
         sink.handsets(&self.outliers);
+        sink.put("cores ");
+        sink.number(self.totals.cores);
+        sink.put(" borders ");
+        sink.number(self.totals.borders);
+        sink.put(" outliers ");
+        sink.number(self.totals.outliers);
+        sink.put(" multiple ");
+        sink.number(self.totals.multiple);
+        sink.put("\n");
     }
 }
 
@@ -758,8 +788,8 @@ mod tests {
             let site = sites::hospital(handsets.max(1), 6 * handsets, &mut rng);
             agree(&site.image(Layout::any(&mut rng), &mut rng));
         }
-        for site in [sites::hub(), sites::two_hubs(), sites::shared_borders(), sites::one_clique()]
-        {
+        let full = [sites::two_hubs(), sites::shared_borders(), sites::one_clique()];
+        for site in [sites::hub(), sites::totals()].into_iter().chain(full) {
             agree(&site.plain_image());
         }
     }

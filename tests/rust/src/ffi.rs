@@ -145,7 +145,7 @@ mod tests {
     #[test]
     fn named_sites_equal_the_reference() {
         let untied = [sites::untied(0, 0), sites::untied(1, 1)];
-        let tied = [sites::site_s(4), sites::hub(), sites::two_hubs()];
+        let tied = [sites::site_s(4), sites::hub(), sites::totals(), sites::two_hubs()];
         for site in untied.into_iter().chain(tied) {
             let image = site.plain_image();
             assert_eq!(compare::image(&Proved, &image, &mut Rng::new(1)), Ok(()));

@@ -359,16 +359,30 @@ pub fn text(findings: &Findings) -> Vec<u8> {
         text += &format!("group {number} density {density} conductance {conductance}:");
         text += &numbers(community.members.iter().copied());
     }
-    let with_role = |wanted: fn(Role) -> bool| {
-        let handsets = 0..site.positions.len();
-        let role = |handset: usize| findings.record(handset as u64).expect("a handset").role;
-        numbers(handsets.filter(move |&handset| wanted(role(handset))))
-    };
-    text += "cores:";
-    text += &with_role(|role| matches!(role, Role::Core(_)));
-    text += "outliers:";
-    text += &with_role(|role| role == Role::Outlier);
+    text += &role_lines(findings);
     text.into_bytes()
+}
+
+/// The report's last three lines: the cores, the outliers, and how many handsets have each role.
+fn role_lines(findings: &Findings) -> String {
+    let role = |handset: usize| findings.record(handset as u64).expect("a handset").role;
+    let roles: Vec<Role> = (0..findings.site().positions.len()).map(role).collect();
+    let with_role = |wanted: fn(Role) -> bool| -> Vec<usize> {
+        (0..roles.len()).filter(|&handset| wanted(roles[handset])).collect()
+    };
+    let cores = with_role(|role| matches!(role, Role::Core(_)));
+    let borders = with_role(|role| matches!(role, Role::Border(_)));
+    let outliers = with_role(|role| role == Role::Outlier);
+    let multiple = with_role(|role| matches!(role, Role::Border(groups) if groups >= 2));
+    let totals = format!(
+        "cores {} borders {} outliers {} multiple {}\n",
+        cores.len(),
+        borders.len(),
+        outliers.len(),
+        multiple.len()
+    );
+    let (cores, outliers) = (numbers(cores.into_iter()), numbers(outliers.into_iter()));
+    format!("cores:{cores}outliers:{outliers}{totals}")
 }
 
 /// A score that is not reduced; none where the divisor is 0.
@@ -473,6 +487,7 @@ group 0 density 2/6 conductance 1/9: 0 1 2 3
 group 1 density 2/6 conductance 1/9: 3 4 5 6
 cores: 2 4
 outliers:
+cores 2 borders 5 outliers 0 multiple 1
 ";
 
     #[test]
@@ -547,12 +562,14 @@ outliers:
     fn sites_without_ties() {
         let found = findings(&sites::untied(0, 0));
         assert_eq!((found.start_table(), found.member_table()), (vec![0], vec![]));
-        let empty = b"handsets 0 ties 0 groups 0 memberships 0\ncores:\noutliers:\n";
-        assert_eq!(program(&sites::untied(0, 0).plain_image()), empty);
+        let empty = "handsets 0 ties 0 groups 0 memberships 0\ncores:\noutliers:\n\
+                     cores 0 borders 0 outliers 0 multiple 0\n";
+        assert_eq!(program(&sites::untied(0, 0).plain_image()), empty.as_bytes());
         assert_eq!(groups(&sites::untied(1, 1)), [[0]]);
         assert!(groups(&sites::untied(1, 2)).is_empty());
         let one = "handsets 1 ties 0 groups 1 memberships 1\n\
-                   group 0 density - conductance -: 0\ncores: 0\noutliers:\n";
+                   group 0 density - conductance -: 0\ncores: 0\noutliers:\n\
+                   cores 1 borders 0 outliers 0 multiple 0\n";
         assert_eq!(program(&sites::untied(1, 1).plain_image()), one.as_bytes());
     }
 
@@ -594,6 +611,54 @@ outliers:
         let swap = |handset: u16| [6, 1, 2, 3, 4, 5, 0][usize::from(handset)];
         site.ties = site.ties.iter().map(|&(u, v)| (swap(u), swap(v))).collect();
         assert_eq!(groups(&site), [[1, 2, 3, 6], [0, 3, 4, 5]]);
+    }
+
+    /// Each handset of a site with every role, and the last line of its report.
+    #[test]
+    fn totals_are_those_of_the_roles() {
+        use Role::{Border, Core, Outlier};
+        let roles = [
+            [Border(2), Border(1), Core(0), Border(1), Border(1), Core(1)].as_slice(),
+            &[Border(1), Border(3), Core(2), Core(2), Outlier, Border(2)],
+            &[Border(1), Border(1), Border(1), Core(3), Border(1), Border(1), Outlier],
+        ]
+        .concat();
+        let found = findings(&sites::totals());
+        let role = |handset| found.record(handset).map(|record| record.role);
+        assert_eq!((0..19).map(role).collect::<Result<Vec<Role>, Refusal>>(), Ok(roles));
+        assert_eq!(last_line(&found), "cores 5 borders 12 outliers 2 multiple 3");
+        assert_eq!(5 + 12 + 2, found.site().positions.len());
+    }
+
+    /// The last line says what the lines before it say, whatever the site.
+    #[test]
+    fn totals_are_those_of_the_other_lines() {
+        let mut rng = Rng::new(4);
+        for _ in 0..500 {
+            let site = sites::any(&mut rng);
+            let found = findings(&site);
+            let text = String::from_utf8(text(&found)).expect("text");
+            let listed = |label: &str| {
+                let lines = text.lines().filter(|line| line.starts_with(label));
+                let lists = lines.filter_map(|line| line.split_once(':'));
+                lists.flat_map(|(_, list)| list.split_whitespace()).collect::<Vec<&str>>()
+            };
+            let mut once = HashSet::new();
+            let (members, again): (Vec<&str>, Vec<&str>) =
+                listed("group ").into_iter().partition(|&member| once.insert(member));
+            let multiple = again.into_iter().collect::<HashSet<&str>>().len();
+            let (cores, outliers) = (listed("cores:").len(), listed("outliers:").len());
+            let borders = members.len() - cores;
+            assert_eq!(cores + borders + outliers, site.positions.len());
+            let expected =
+                format!("cores {cores} borders {borders} outliers {outliers} multiple {multiple}");
+            assert_eq!(last_line(&found), expected);
+        }
+    }
+
+    fn last_line(found: &Findings) -> String {
+        let text = String::from_utf8(text(found)).expect("text");
+        text.lines().last().expect("a line").to_string()
     }
 
     #[test]

@@ -244,6 +244,24 @@ pub fn hub() -> Site {
     Site { positions, ties, gamma_squared: 100, epsilon: (1, 4), mu: size }
 }
 
+/// A site with every role, whose four totals differ: 5 cores, 12 borders, 2 outliers, and 3 borders in
+/// two groups or more. Handset 7 is in three groups, 0 and 11 are in two; 12 and 13 are alike to two
+/// cores of one group and are in that one only. Cores 5 and 15 of different groups are tied and near,
+/// and not alike. Outlier 10 is alike to a border, and outlier 18 is tied to a core from too far away.
+pub fn totals() -> Site {
+    let mut positions = vec![(0, 0); 19];
+    positions[18] = (1, 0);
+    let groups = [
+        [(0, 2), (1, 2), (2, 3), (2, 7)].as_slice(),
+        &[(4, 5), (5, 6), (5, 7), (5, 17)],
+        &[(7, 8), (8, 9), (8, 12), (8, 13), (9, 11), (9, 12), (9, 13)],
+        &[(0, 15), (11, 15), (14, 15), (15, 16)],
+    ];
+    let mut ties = groups.concat();
+    ties.extend([(5, 15), (10, 14), (5, 18)]);
+    Site { positions, ties, gamma_squared: 0, epsilon: (2, 5), mu: 5 }
+}
+
 /// A site as hospitals have them: wards of some dozen handsets within 60 metres, most ties within a
 /// ward, gamma 200 metres, epsilon 2/5, mu 4.
 pub fn hospital(handsets: usize, ties: usize, rng: &mut Rng) -> Site {
@@ -655,5 +673,45 @@ mod tests {
             seen.iter_mut().zip(traits).for_each(|(count, has)| *count += usize::from(has));
         }
         assert!(seen.iter().all(|&count| count > 0), "{seen:?}");
+    }
+
+    /// Totals that are counted in a wrong way differ from the right ones on one site of fifty at least, so
+    /// that 2,000 sites hardly miss one.
+    #[test]
+    fn sites_tell_wrong_totals() {
+        const SITES: u64 = 400;
+        let mut seen = [0; 8];
+        for (site, image) in any_sites(SITES) {
+            let found = Findings::of(reference::open(&image).expect("accepted"));
+            let n = site.positions.len();
+            let in_groups: Vec<u64> = (0..n as u64)
+                .filter_map(|u| match found.record(u).expect("a handset").role {
+                    Role::Core(_) => None,
+                    Role::Border(groups) => Some(groups),
+                    Role::Outlier => Some(0),
+                })
+                .collect();
+            let with = |wanted: fn(u64) -> bool| in_groups.iter().filter(|&&g| wanted(g)).count();
+            let (cores, memberships) = (n - in_groups.len(), found.member_table().len());
+            let (borders, outliers) = (with(|groups| groups > 0), with(|groups| groups == 0));
+            let multiple = with(|groups| groups > 1);
+            let right_and_wrong = [
+                // One core for each group.
+                (cores, found.communities().len()),
+                // A border once for each of its groups; the outliers, too; those in one group only.
+                (borders, memberships - cores),
+                (borders, n - cores),
+                (borders, borders - multiple),
+                // All that no place of the member table is left for.
+                (outliers, n.saturating_sub(memberships)),
+                // A border once for each further group; in two groups just; in more than two.
+                (multiple, memberships - cores - borders),
+                (multiple, with(|groups| groups == 2)),
+                (multiple, with(|groups| groups > 2)),
+            ];
+            let differs = right_and_wrong.map(|(right, wrong)| right != wrong);
+            seen.iter_mut().zip(differs).for_each(|(count, has)| *count += u64::from(has));
+        }
+        assert!(seen.iter().all(|&count| 50 * count >= SITES), "{seen:?}");
     }
 }
