@@ -5,7 +5,7 @@
 --     multiplicity-once          in a list without repeats a handset stands once or not at all
 --     community-apart            a community lists no handset twice
 --     multiplicity-table         in the member table of a network's communities a handset stands as often as it has communities
-use Prim.Native.Nat.{ℕ, zero, suc, _+_, _<_}
+use Prim.Native.Nat.{ℕ, suc, _+_, _<_}
 use native.Mathlib.Omega.{arith}
 use mathlib.Core.Path.{_≡_, refl, sym, ap, ap₂, _∙_}
 use mathlib.Core.Bool.{Bool, true, false}

@@ -41,7 +41,7 @@ or-assoc : (a b c : Bool) → ((a || b) || c) ≡ (a || (b || c))
 or-assoc true b c = refl
 or-assoc false b c = refl
 
-pub contains-append : (v : ℕ) (a b : List ℕ) → contains v (a ++ b) ≡ (contains v a || contains v b)
+contains-append : (v : ℕ) (a b : List ℕ) → contains v (a ++ b) ≡ (contains v a || contains v b)
 unfolding contains
 contains-append v [] b = refl
 contains-append v (x ∷ a) b =

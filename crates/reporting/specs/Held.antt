@@ -33,7 +33,7 @@ use Rattle.reporting.specs.declared.Head.{Head}
 use Rattle.reporting.specs.declared.Numbers.{Numbers}
 use Rattle.reporting.specs.declared.Reported.{Reported}
 
-unfoldable pub fourLine : List ℕ → List ℕ → List ℕ → List ℕ → Four → List ℕ
+abbrev pub fourLine : List ℕ → List ℕ → List ℕ → List ℕ → Four → List ℕ
 fourLine w x y z f = (w ++ decimal (f .a)) ++ ((x ++ decimal (f .b)) ++ ((y ++ decimal (f .c)) ++ ((z ++ decimal (f .d)) ++ newline)))
 
 -- a group has at most 512 members

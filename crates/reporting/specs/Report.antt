@@ -58,7 +58,7 @@ use Rattle.reporting.specs.declared.Reported.the-variants as R
 abbrev pub newline : List ℕ
 newline = bytes "\n"
 
-unfoldable pub headLine : Head → List ℕ
+abbrev pub headLine : Head → List ℕ
 headLine h =
     bytes "handsets " ++ (decimal (h .handsets) ++ (bytes " ties " ++ (decimal (h .ties)
     ++ (bytes " groups " ++ (decimal (h .counts .groups) ++ (bytes " memberships " ++ (decimal (h .counts .memberships) ++ newline)))))))
@@ -76,7 +76,7 @@ groupLine k c l = scoresPart k c ++ (bytes ":" ++ (numbers l ++ newline))
 unfoldable pub listLine : List ℕ → List ℕ → List ℕ
 listLine word l = word ++ (numbers l ++ newline)
 
-unfoldable pub totalsLine : Totals → List ℕ
+abbrev pub totalsLine : Totals → List ℕ
 totalsLine t =
     bytes "cores " ++ (decimal (t .cores) ++ (bytes " borders " ++ (decimal (t .borders)
     ++ (bytes " outliers " ++ (decimal (t .outliers) ++ (bytes " multiple " ++ (decimal (t .multiple) ++ newline)))))))

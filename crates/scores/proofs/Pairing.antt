@@ -2,22 +2,17 @@
 --
 --     pairs-product           pairs of places of which one passes f and the other g, where none passes both: the product of the two counts
 --     pairs-half              all pairs of places: twice as many, and the places, make the square
-use Prim.Native.Nat.{ℕ, zero, suc, _+_, _*_, _≤_, _<_}
+use Prim.Native.Nat.{ℕ, zero, suc, _+_, _*_, _<_}
 use native.Mathlib.Omega.{arith}
 use native.Mathlib.Nat.{mul-add, add-mul}
-use mathlib.Core.Path.{_≡_, refl, sym, ap, _∙_}
-use mathlib.Core.Logic.{⊎-elim}
+use mathlib.Core.Path.{_≡_, refl, ap, _∙_}
 use mathlib.Core.Bool.{Bool, true, false, _&&_, _||_}
 use mathlib.Core.List.{List}
-use lib.Dec.{T, leb, eqb, eqb→eq, not-T, le→leb, leb→le}
-use lib.ListN.{length, getD}
-use Rattle.sets.specs.Below.{any, count, sum, bit}
-use Rattle.sets.proofs.Tests.{or-left, decide, any-take, eqb-of, T-false, T-ext}
-use Rattle.sets.proofs.Counting.{bit-true, bit-false, count-cong, count-le, count-some, count-but, count-false}
-use Rattle.sets.proofs.Selecting.{mem-at, at-mem}
-use Rattle.community.specs.Network.{contains}
+use lib.Dec.{T}
+use lib.ListN.{length}
+use Rattle.sets.specs.Below.{count, sum, bit}
+use Rattle.sets.proofs.Counting.{count-cong, count-false}
 use Rattle.community.specs.Scores.{countPairs, pairs}
-use Rattle.community.proofs.Roles.{contains-mem, mem-contains}
 
 -- one of the two places passes f and the other g
 abbrev pub oneOfEach : (ℕ → Bool) → (ℕ → Bool) → ℕ → ℕ → Bool

@@ -8,7 +8,7 @@
 --     counted-past          one more entry that has no place in the table
 --     counted-room          a count of fewer than 65,535 entries has room for one more
 --     counted-all           all counted
-use Prim.Native.Nat.{ℕ, zero, suc, _+_, _≤_, _<_, min}
+use Prim.Native.Nat.{ℕ, _+_, _≤_, _<_, min}
 use native.Mathlib.Omega.{arith}
 use native.Mathlib.Decide.{ℕ-discrete}
 use mathlib.Core.Path.{_≡_, refl, sym, ap, _∙_}

@@ -1,8 +1,8 @@
 -- Laws of the totals of roles.
 --
 --     totals-none, totals-more     the totals of the first handsets: of none, and of one more
---     with-core, with-outlier, with-border     the totals with one handset more, by its role
---     totals-below                 none of the four numbers is above the count of handsets
+--     core-by, border-by, outlier-by, multiple-by     the tests of a role, by whether the handset is a core and by how many groups it is in
+--     totals-below                 none of the four numbers is above the count of handsets, or a larger bound
 --     same-test                    a test that does not look at the number of a core's community is the same for two such roles
 --     totals-same                  roles that are the same, but for the number of a core's community, have the same totals
 --     roles-counted                the totals and the outliers by a table of counts are those by the member table
@@ -15,7 +15,7 @@ use mathlib.Core.Path.{_≡_, refl, sym, ap, ap₂, _∙_}
 use mathlib.Core.Bool.{Bool, true, false, _&&_, not}
 use mathlib.Core.List.{List}
 use lib.Dec.{eqb, leb, ltb}
-use borrow.Author.Tests.{lt-ltb, le-ltb, ne-eqb}
+use borrow.Author.Tests.{le-leb, lt-leb, lt-ltb, le-ltb, ne-eqb}
 use Rattle.sets.specs.Below.{bit, count}
 use Rattle.sets.specs.Bits.{bitAt}
 use Rattle.sets.specs.Entries.{EntriesCounted}
@@ -46,46 +46,40 @@ totals-more n r = λ i. record {
   multiple = count-more n (λ v. isMultiple (r v)) i;
 }
 
--- ---- one handset more, by its role
+-- ---- a role, by whether the handset is a core and by how many groups it is in
 
-module _ (t : Totals) where
-  pub with-core : (core : Bool) (k : ℕ) → core ≡ true
-      → record { cores = t .cores + 1; borders = t .borders; outliers = t .outliers; multiple = t .multiple } ≡ withRole t (roleBy core k)
-  with-core core k e =
-      let b : t .borders ≡ t .borders + 0 = omega arith in
-      let o : t .outliers ≡ t .outliers + 0 = omega arith in
-      let m : t .multiple ≡ t .multiple + 0 = omega arith in
-      rw e (λ i. record { cores = t .cores + 1; borders = b i; outliers = o i; multiple = m i })
+pub core-by : (core : Bool) (k : ℕ) → isCoreRole (roleBy core k) ≡ core
+core-by true k = refl
+core-by false zero = refl
+core-by false (suc k) = refl
 
-  pub with-outlier : (core : Bool) (k : ℕ) → core ≡ false → k ≡ 0
-      → record { cores = t .cores; borders = t .borders; outliers = t .outliers + 1; multiple = t .multiple } ≡ withRole t (roleBy core k)
-  with-outlier core k e z =
-      let c : t .cores ≡ t .cores + 0 = omega arith in
-      let b : t .borders ≡ t .borders + 0 = omega arith in
-      let m : t .multiple ≡ t .multiple + 0 = omega arith in
-      rw (e, z) (λ i. record { cores = c i; borders = b i; outliers = t .outliers + 1; multiple = m i })
+pub border-by : (core : Bool) (k : ℕ) → isBorder (roleBy core k) ≡ (not core && ltb 0 k)
+border-by true k = refl
+border-by false zero = refl
+border-by false (suc k) = sym (lt-ltb 0 (suc k) (omega arith))
 
-  pub with-border : (core : Bool) (k more : ℕ) → core ≡ false → (k ≡ 0 → ⊥) → more ≡ bit (leb 2 k)
-      → record { cores = t .cores; borders = t .borders + 1; outliers = t .outliers; multiple = t .multiple + more } ≡ withRole t (roleBy core k)
-  with-border core zero more e some q = absurd (some refl)
-  with-border core (suc k) more e some q =
-      let c : t .cores ≡ t .cores + 0 = omega arith in
-      let o : t .outliers ≡ t .outliers + 0 = omega arith in
-      rw e (λ i. record { cores = c i; borders = t .borders + 1; outliers = o i; multiple = t .multiple + q i })
-
--- an outlier is no core and in no group
 pub outlier-by : (core : Bool) (k : ℕ) → isOutlier (roleBy core k) ≡ (not core && eqb k 0)
 outlier-by true k = refl
 outlier-by false zero = refl
 outlier-by false (suc k) = sym (ne-eqb (suc k) 0 (λ e. omega arith))
 
-pub totals-below : (n : ℕ) (r : ℕ → Role) → TotalsBelow (totalsOf n r) n
-unfolding totalsOf
-totals-below n r = record { cores = count-le n _; borders = count-le n _; outliers = count-le n _; multiple = count-le n _ }
+pub multiple-by : (core : Bool) (k : ℕ) → isMultiple (roleBy core k) ≡ (not core && ltb 1 k)
+multiple-by true k = refl
+multiple-by false zero = refl
+multiple-by false (suc k) = pick (decLt 1 (suc k))
+  where
+    pick : Dec (1 < suc k) → leb 2 (suc k) ≡ ltb 1 (suc k)
+    pick (yes h) = le-leb 2 (suc k) (omega arith) ∙ sym (lt-ltb 1 (suc k) h)
+    pick (no h) = lt-leb 2 (suc k) (omega arith) ∙ sym (le-ltb 1 (suc k) (omega arith))
 
-pub below-more : (n k : ℕ) (r : ℕ → Role) → n ≤ k → TotalsBelow (totalsOf n r) k
-below-more n k r h =
-    let b = totals-below n r in record { cores = omega (arith, b .cores); borders = omega (arith, b .borders); outliers = omega (arith, b .outliers); multiple = omega (arith, b .multiple) }
+pub totals-below : (n k : ℕ) (r : ℕ → Role) → n ≤ k → TotalsBelow (totalsOf n r) k
+unfolding totalsOf
+totals-below n k r h = record {
+  cores = omega (arith, count-le n (λ v. isCoreRole (r v)));
+  borders = omega (arith, count-le n (λ v. isBorder (r v)));
+  outliers = omega (arith, count-le n (λ v. isOutlier (r v)));
+  multiple = omega (arith, count-le n (λ v. isMultiple (r v)));
+}
 
 -- a test that does not look at the number of a core's community
 pub same-test : (f : Role → Bool) → ((i j : ℕ) → f (Core i) ≡ f (Core j)) → {a b : Role} → SameRole a b → f a ≡ f b

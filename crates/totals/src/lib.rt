@@ -1,11 +1,10 @@
 // How many handsets have each role, from a plan's member table and the set of its cores.
 //
 // One pass over the member table gives each handset's count of groups; one over the handsets then counts the roles. The definitions are in specs/Totals.
-ghost use Prim.Native.Nat.{ℕ, _≤_, _<_, min};
+ghost use Prim.Native.Nat.{_≤_, _<_};
 ghost use mathlib.Core.Path.{_≡_};
-ghost use mathlib.Core.Bool.{_&&_};
-ghost use lib.Dec.{ltb};
 ghost use lib.ListN.{length, replicate};
+ghost use Rattle.sets.specs.Below.{bit};
 ghost use Rattle.totals.specs.Totals.{roleBy, RolesCounted};
 ghost use Rattle.totals.specs.Held.{withRole, TotalsBelow, RolesSummed};
 
@@ -17,33 +16,24 @@ pub struct Totals {
     pub multiple: usize,
 }
 
-// The totals with one handset more: a core, or no core and in so many groups.
+// 1 for a yes, 0 for a no.
+fn one_if(yes: bool) -> usize
+    ensures value { λ r. ⌜ r ≡ bit yes ⌝ }
+    ensures small { λ r. ⌜ r ≤ 1 ⌝ }
+{
+    if yes { 1 } else { 0 }
+}
+
+// The totals with one handset more, by whether it is a core and by how many groups it is in.
 fn add_handset(t: Totals, core: bool, groups: u16) -> Totals
     requires { ⌜ TotalsBelow t 512 ⌝ }
     ensures { λ r. ⌜ r ≡ withRole t (roleBy core groups) ⌝ }
 {
-    if core {
-        return Totals {
-            cores: t.cores + 1,
-            borders: t.borders,
-            outliers: t.outliers,
-            multiple: t.multiple,
-        };
-    }
-    if groups == 0 {
-        return Totals {
-            cores: t.cores,
-            borders: t.borders,
-            outliers: t.outliers + 1,
-            multiple: t.multiple,
-        };
-    }
-    let more: usize = if 1 < groups { 1 } else { 0 };
     Totals {
-        cores: t.cores,
-        borders: t.borders + 1,
-        outliers: t.outliers,
-        multiple: t.multiple + more,
+        cores: t.cores + one_if(core),
+        borders: t.borders + one_if(!core & (0 < groups)),
+        outliers: t.outliers + one_if(!core & (groups == 0)),
+        multiple: t.multiple + one_if(!core & (1 < groups)),
     }
 }
 

@@ -4,7 +4,6 @@ use native.Mathlib.Omega.{arith}
 use lib.ListN.{length}
 use denote.Ref.{now}
 use Rattle.text.proofs.Writing.{chain}
-use Rattle.reporting.specs.Held.{fourLine}
 use borrow.Author.Needs.{needs}
 use Rattle.reporting.proofs.put_four.Statement.{statement}
 use Rattle.reporting.proofs.put_four.Tie as tie
@@ -28,7 +27,6 @@ same-length : tie.Need-same-length
 same-length c = search needs
 
 returns : tie.Need-returns
-unfolding fourLine
 returns c =
     let w5 = c .before .before in
     let w4 = w5 .before .before .before .before in

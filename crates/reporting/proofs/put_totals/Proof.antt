@@ -1,6 +1,4 @@
 -- `reporting::put_totals` meets its contract: the last line is a line of four words with their numbers.
-use Rattle.reporting.specs.Report.{totalsLine}
-use Rattle.reporting.specs.Held.{fourLine}
 use borrow.Author.Needs.{needs}
 use Rattle.reporting.proofs.put_totals.Statement.{statement}
 use Rattle.reporting.proofs.put_totals.Tie as tie
@@ -24,8 +22,7 @@ same-length : tie.Need-same-length
 same-length c = search needs
 
 returns : tie.Need-returns
-unfolding totalsLine fourLine
-returns c = c .before .before .put-four .ensures
+returns c = search needs
 
 pub put-totals-spec : {M : Type 1} → statement M
 put-totals-spec =

@@ -47,19 +47,19 @@ mul-table : tie.Need-mul-table Inv-loop μ-loop
 mul-table c = omega (arith, entry (c .before))
 
 element-copy-out-table : tie.Need-element-copy-out-table Inv-loop μ-loop
-element-copy-out-table c = c .if1 .taken
+element-copy-out-table c = omega (arith, c .if1 .taken)
 
 add-table : tie.Need-add-table Inv-loop μ-loop
 add-table c =
     let turn = c .before .before .before in
     let l = turn .before .loop in
-    omega (arith, counted-room (list-of turn) (l .table) (l .i) (l .inv .2) (omega (arith, bounded turn .smaller .ensures)) _ (c .before .if1 .taken))
+    omega (arith, counted-room (list-of turn) (l .table) (l .i) (l .inv .2) (omega (arith, bounded turn .smaller .ensures)) (getD (list-of turn) (l .i) 0) (omega (arith, c .before .if1 .taken)))
 
 mul-table-2 : tie.Need-mul-table-2 Inv-loop μ-loop
 mul-table-2 c = omega (arith, entry (c .before .before))
 
 element-write-table : tie.Need-element-write-table Inv-loop μ-loop
-element-write-table c = c .before .if1 .taken
+element-write-table c = omega (arith, c .before .if1 .taken)
 
 add-i : tie.Need-add-i Inv-loop μ-loop
 add-i c = omega (arith, bounded (c .before .before) .smaller .ensures)
@@ -72,8 +72,8 @@ loop-again c =
     let turn = c .before .before in
     let l = turn .before .loop in
     ⊎-elim
-    (λ p. (omega arith, ap length (p .2) ∙ length-set (l .table) _ _ ∙ l .inv .1, rw (p .2) (counted-more (list-of turn) (l .table) (l .i) (l .inv .2) (l .inv .1) (p .0 .taken))))
-    (λ p. (omega arith, ap length (p .1) ∙ l .inv .1, rw (p .1) (counted-past (list-of turn) (l .table) (l .i) (l .inv .2) (p .0 .left))))
+    (λ p. (omega arith, ap length (p .2) ∙ length-set (l .table) _ _ ∙ l .inv .1, rw (p .2) (counted-more (list-of turn) (l .table) (l .i) (l .inv .2) (l .inv .1) (omega (arith, p .0 .taken)))))
+    (λ p. (omega arith, ap length (p .1) ∙ l .inv .1, rw (p .1) (counted-past (list-of turn) (l .table) (l .i) (l .inv .2) (omega (arith, p .0 .left)))))
     (c .if1 .came)
 
 returns : tie.Need-returns Inv-loop μ-loop

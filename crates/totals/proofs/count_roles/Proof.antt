@@ -1,8 +1,5 @@
 -- `totals::count_roles` meets its contract: the table holds each handset's count of groups, so that the roles by it are those by the member table.
-use mathlib.Core.Path.{refl}
-use native.Mathlib.Omega.{arith}
 use denote.Ref.{now}
-use lib.ListN.{length-replicate}
 use borrow.Author.Needs.{needs}
 use Rattle.totals.proofs.Adding.{roles-counted}
 use Rattle.totals.proofs.count_roles.Statement.{statement}
