@@ -1,3 +1,4 @@
 pub mod Adding
 pub mod Marking
 pub mod Plan
+pub mod Examples
