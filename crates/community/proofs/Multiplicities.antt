@@ -1,6 +1,7 @@
 -- How often a handset stands in a list and in a plan's member table. No community lists a handset twice, so that a handset stands in the member table as
 -- often as it is in a community.
 --
+--     Apart l                    no two places of a list hold the same
 --     multiplicity-contains      a list contains a handset exactly when it stands there at least once
 --     multiplicity-once          in a list without repeats a handset stands once or not at all
 --     community-apart            a community lists no handset twice
@@ -23,7 +24,6 @@ use Rattle.community.specs.Tables.{memberTable}
 use Rattle.community.proofs.Communities.{leader, community-at}
 use Rattle.community.proofs.Roles.{contains-mem, mem-contains}
 
--- no two places of a list hold the same
 abbrev pub Apart : List ℕ → Type 0
 Apart l = (i j : ℕ) → i < j → j < length l → getD l i 0 ≡ getD l j 0 → ⊥
 

@@ -18,7 +18,7 @@ use lib.Dec.{T, ltb, eqb, ltb→lt, lt→ltb, eqb→eq, eqb-refl, T-not, not-T}
 use lib.ListN.{length}
 use Rattle.sets.specs.Below.{any, bit}
 use Rattle.sets.specs.Bits.{bitAt, cell, withBit}
-use Rattle.sets.proofs.Tests.{and-make, and-left, and-right, or-left, or-right, or-cases, or-comm, T-true, T-false, T-ext, any-cong, eqb-of, eqb-not}
+use Rattle.sets.proofs.Tests.{and-make, and-left, and-right, or-left, or-right, or-cases, or-comm, T-true, T-false, T-ext, any-cong, eqb-of, eqb-not, passed-none, passed-other}
 use Rattle.sets.proofs.Counting.{bit-true, bit-false}
 use Rattle.sets.proofs.Bits.{bitAt-set-same, bitAt-set-other, length-withBit}
 use Rattle.image.specs.Image.{endA, endB, joins}
@@ -100,21 +100,14 @@ module _ (part : List ℕ) (k u v : ℕ) (ha : endA part k < 512) (hb : endB par
           ∙ ap (λ (y : Bool). bit (y || x)) (sym (elsewhere d p))
 
 -- ---- each handset with itself
-next-other : (k u : ℕ) → (u ≡ k → ⊥) → ltb u (k + 1) ≡ ltb u k
-next-other k u d =
-    T-ext (ltb u (k + 1)) (ltb u k) (λ t. lt→ltb u k (omega (arith, ltb→lt u (k + 1) t, d))) (λ t. lt→ltb u (k + 1) (omega (arith, ltb→lt u k t)))
-
-none-below : (u : ℕ) (b : Bool) → (ltb u 0 && b) ≡ false
-none-below u b = T-false (ltb u 0 && b) (not-T (ltb u 0 && b) (λ t. absurd (omega (arith, ltb→lt u 0 (and-left (ltb u 0) b t)))))
-
 pub selves-none : {rows sizes : List ℕ} → Cleared rows sizes → Table rows (λ u v. ltb u 0 && eqb u v)
-selves-none e = record { bits = λ u v h l. cleared-bit e (u * 512 + v) ∙ ap bit (sym (none-below u (eqb u v))) }
+selves-none e = record { bits = λ u v h l. cleared-bit e (u * 512 + v) ∙ ap bit (sym (passed-none u (eqb u v))) }
 
 pub selves-more : (rows : List ℕ) (k : ℕ) → k < 512 → length rows ≡ 4096 → Table rows (λ u v. ltb u k && eqb u v) → Table (withBit rows (k * 512 + k)) (λ u v. ltb u (k + 1) && eqb u v)
 selves-more rows k hk long t = record { bits = λ u v h l. go u v h l (ℕ-discrete (u * 512 + v) (k * 512 + k)) }
   where
     kept : (u v : ℕ) → v < 512 → (u * 512 + v ≡ (k * 512 + k) → ⊥) → Dec (u ≡ k) → (ltb u k && eqb u v) ≡ (ltb u (k + 1) && eqb u v)
-    kept u v l d (no e) = ap (λ (x : Bool). x && eqb u v) (sym (next-other k u e))
+    kept u v l d (no e) = sym (passed-other k u (eqb u v) e)
     kept u v l d (yes e) =
         let n : T (not (eqb u v)) = eqb-not u v (λ q. d (omega arith)) in
         T-ext (ltb u k && eqb u v) (ltb u (k + 1) && eqb u v)

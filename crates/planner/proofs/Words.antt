@@ -1,7 +1,7 @@
 -- Words that hold a test, one bit a number, and sets of edges in such words. A bit is set with no regard to the others, so a word of the numbers below k that
 -- pass a test becomes that of one more, and a set of words that with one more word.
 --
---     passed-none, -new, -self, -other     the numbers below k that pass a test: none at first, k not yet, k with one more, and no other; all-below: all of them
+--     all-below                    the numbers below k that pass a test, once all of them are below b
 --     word-none, word-put          an empty word, and a word with one bit more, as the code makes it; word-cong: equal tests have equal words
 --     below, below-lt, -first, -rest       a word with one bit more below its own, as the code makes it
 --     bitOf-past, first-bits       a word has no bit from 64 on; the word whose first c bits are set, as the code makes it
@@ -28,7 +28,7 @@ use lib.Pow.{pow-pos, pow-add, shl-exact, ones-lt, ones-split}
 use lib.Seq.{getD-set-same, getD-set-other}
 use Rattle.sets.specs.Below.{bit}
 use Rattle.sets.specs.Bits.{bitOf, bitAt}
-use Rattle.sets.proofs.Tests.{and-make, and-left, and-right, or-right, or-cases, decide, T-ext, T-true, T-false, eqb-of}
+use Rattle.sets.proofs.Tests.{passed-none, and-make, and-left, and-right, or-right, or-cases, decide, T-ext, T-true, T-false, eqb-of}
 use Rattle.sets.proofs.Counting.{bit-true, bit-false}
 use Rattle.sets.proofs.Bits.{bitOf-lt, bitOf-none, bitOf-or, bitOf-first, bitOf-half, bitOf-set-same, bitOf-set-other, bitOf-xor, bitAt-lt, bitAt-past, bitAt-zeros, shl-one, word-bit, zeros}
 use Rattle.sets.proofs.Lowest.{Lowest, cleared, cleared-lt, cleared-le, cleared-same, cleared-other}
@@ -46,20 +46,6 @@ one-true true e = tt
 one-true false e = absurd (omega (arith, e))
 
 -- ---- the numbers below k that pass a test
-pub passed-none : (i : ℕ) (b : Bool) → (ltb i 0 && b) ≡ false
-passed-none i b = T-false (ltb i 0 && b) (not-T (ltb i 0 && b) (λ t. absurd (omega (arith, ltb→lt i 0 (and-left (ltb i 0) b t)))))
-
-pub passed-new : (k : ℕ) (b : Bool) → T (not (ltb k k && b))
-passed-new k b = not-T (ltb k k && b) (λ t. omega (arith, ltb→lt k k (and-left (ltb k k) b t)))
-
-pub passed-self : (k : ℕ) (b : Bool) → (ltb k (k + 1) && b) ≡ b
-passed-self k b = ap (λ (x : Bool). x && b) (T-true (ltb k (k + 1)) (lt→ltb k (k + 1) (omega arith)))
-
-pub passed-other : (k i : ℕ) (b : Bool) → (i ≡ k → ⊥) → (ltb i (k + 1) && b) ≡ (ltb i k && b)
-passed-other k i b d =
-    ap (λ (x : Bool). x && b)
-    (T-ext (ltb i (k + 1)) (ltb i k) (λ t. lt→ltb i k (omega (arith, ltb→lt i (k + 1) t, d))) (λ t. lt→ltb i (k + 1) (omega (arith, ltb→lt i k t))))
-
 -- once all of them are below b
 pub all-below : (k m b : ℕ) (x : Bool) → m ≤ b → (ltb k b && (ltb k m && x)) ≡ (ltb k m && x)
 all-below k m b x h =

@@ -1,7 +1,10 @@
--- The texts that the report's loops write, one step more; and the text from the tables is the report's.
+-- The lines of the report as they are written.
+--
+--     lines-more       the lines of the first groups, one more
+--     text-written     the text by its five writes
 use Prim.Native.Nat.{ℕ, _+_, _≤_}
 use native.Mathlib.Numerals.{add-one}
-use mathlib.Core.Path.{_≡_, ap, _∙_, subst}
+use mathlib.Core.Path.{_≡_, ap}
 use mathlib.Core.List.{List, _++_, append-assoc}
 use lib.ListN.{length}
 use Rattle.lookup.specs.Lookup.{membersOf}
@@ -18,19 +21,10 @@ pub lines-more : (starts members ts : List ℕ) (k : ℕ)
 unfolding tableLines
 lines-more starts members ts k = ap (tableLines starts members ts) (add-one k)
 
--- five texts, one after the other
-five : (a b c d e : List ℕ) → (((a ++ b) ++ c) ++ d) ++ e ≡ a ++ (b ++ (c ++ (d ++ e)))
-five a b c d e = append-assoc ((a ++ b) ++ c) d e ∙ append-assoc (a ++ b) c (d ++ e) ∙ append-assoc a b (c ++ (d ++ e))
-
--- the text by its five writes
 pub text-written : {l l₁ l₂ l₃ l₄ l₅ : List ℕ} {k r₁ r₂ r₃ r₄ r₅ : ℕ} (f : Numbers) (starts members ts cores outliers : List ℕ) → length l ≤ 9223372036854775808
     → k ≡ f .head .counts .groups → Wrote l 0 (headLine (f .head)) l₁ r₁ → Wrote l₁ r₁ (tableLines starts members ts k) l₂ r₂
     → Wrote l₂ r₂ (listLine (bytes "cores:") (X.elementsOf cores)) l₃ r₃ → Wrote l₃ r₃ (listLine (bytes "outliers:") (X.elementsOf outliers)) l₄ r₄
     → Wrote l₄ r₄ (totalsLine (f .totals)) l₅ r₅ → Wrote l 0 (tableText f starts members ts cores outliers) l₅ r₅
 unfolding tableText
-text-written {l} {l₅ = l₅} {k} {r₅ = r₅} f starts members ts cores outliers small e p q r s t =
-    let lines : tableLines starts members ts k ≡ tableLines starts members ts (f .head .counts .groups) = ap (tableLines starts members ts) e in
-    subst (λ (x : List ℕ). Wrote l 0 x l₅ r₅)
-    (five (headLine (f .head)) (tableLines starts members ts k) (listLine (bytes "cores:") (X.elementsOf cores)) (listLine (bytes "outliers:") (X.elementsOf outliers)) (totalsLine (f .totals))
-    ∙ ap (λ (x : List ℕ). headLine (f .head) ++ (x ++ (listLine (bytes "cores:") (X.elementsOf cores) ++ (listLine (bytes "outliers:") (X.elementsOf outliers) ++ totalsLine (f .totals))))) lines)
-    (chain small (chain small (chain small (chain small p q) r) s) t)
+text-written f starts members ts cores outliers small e p q r s t =
+    simp append-assoc (simp append-assoc at (chain small (chain small (chain small (chain small p (rw e at q)) r) s) t))

@@ -1,11 +1,12 @@
 -- The text from the plan's tables is the report's: each part of the member table is a community, which lists no handset twice, so that its counts are
 -- the community's tally; and by the member table and the set of cores, the roles are the network's.
 --
---     groups-few           an accepted image has at most 512 communities
---     membersOf-tables     the part of the tables for group k is the k-th community
---     text-is              the text from the tables is the report's
---     edges-fit, members-fit               the bounds that the parts of the report ask for
---     text-held            the text from the tables as the report's functions leave them
+--     communities-few            a network has at most as many communities as handsets
+--     groups-few                 an accepted image has at most 512 communities
+--     membersOf-tables           the part of the tables for group k is the k-th community
+--     text-is                    the text from the tables is the report's
+--     edges-fit, members-fit     the bounds that the parts of the report ask for
+--     text-held                  the text from the tables as the report's functions leave them
 use Prim.Native.Nat.{ℕ, zero, suc, _+_, _*_, _-_, _≤_, _<_}
 use native.Mathlib.Omega.{arith}
 use mathlib.Core.Path.{_≡_, refl, sym, ap, ap₂, _∙_, subst, subst₂}

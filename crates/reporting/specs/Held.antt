@@ -1,10 +1,10 @@
 -- These definitions only serve the proofs; a caller need not believe them.
--- What the report's working tables hold, for the contracts inside the crate.
+-- What the report's working tables hold and what is written of them, for the contracts inside the crate.
 --
 --     fourLine w x y z f             a line of four words, each with its number
 --     groupTally ts k l              the tally of group k with the members l, from a table that holds the edges inside it at k and its leaving edges at 512 + k
 --     tableLines ..                  the lines of the first k groups, from the plan's two tables and the tallies
---     tableText ..                   the whole text from the tables and the two sets
+--     tableText ..                   the whole text from the numbers of the first and last line, the tables and the two sets
 --     Filled t l r l′                a text t was written into the buffer l where it fits: the answer r, and the buffer after
 --     PlanHeld s ..                  an accepted image's header, the numbers of line one, the plan in the two tables, and the set of cores
 use Prim.Native.Nat.{ℕ, zero, suc, _+_}

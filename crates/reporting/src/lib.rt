@@ -97,7 +97,7 @@ fn put_head(text: &mut [u8], at: usize, head: Head) -> usize
 fn put_totals(text: &mut [u8], at: usize, totals: Totals) -> usize
     ensures { λ r. ⌜ Wrote (now (text .entry)) at (totalsLine totals) (now (text .exit)) r ⌝ }
 {
-    let counts = Four {
+    let sums = Four {
         a: totals.cores as u64,
         b: totals.borders as u64,
         c: totals.outliers as u64,
@@ -110,7 +110,7 @@ fn put_totals(text: &mut [u8], at: usize, totals: Totals) -> usize
         b" borders ",
         b" outliers ",
         b" multiple ",
-        counts,
+        sums,
     )
 }
 

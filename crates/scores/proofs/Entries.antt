@@ -6,7 +6,7 @@
 --     entries-good        a list of at most 512 entries, all below n, passes question 13
 --     table-le            no place holds more than 512
 --     tiesOf, leaves      what one edge adds to t, and whether it adds to o, by a table; ties-le: at most 512 * 512
---     joined-more, joined-le, leaving-more, leaving-le     one more edge, and how much the first edges make
+--     joined-none, leaving-none, joined-more, leaving-more     no edge, and one more; joined-le, leaving-le: how much the first edges make
 --     table-tally         the counts by a table of multiplicities are the tally over the part
 use Prim.Native.Nat.{ℕ, zero, suc, _+_, _*_, _≤_, _<_}
 use native.Mathlib.Omega.{arith}
@@ -22,7 +22,7 @@ use lib.ListN.{length, getD, List·getD-eq-default}
 use lib.Seq.{take-all}
 use Rattle.sets.specs.Below.{any, count, sum, bit, find}
 use Rattle.sets.proofs.Tests.{or-left, or-right, or-cases, decide, not-any, none-any, find-law, find-none, eqb-not, T-true, T-false}
-use Rattle.sets.proofs.Counting.{count-cong, count-le, sum-cong}
+use Rattle.sets.proofs.Counting.{count-cong, count-le, count-more, sum-cong}
 use Rattle.sets.specs.Entries.{multiplicity, EntriesCounted}
 use Rattle.sets.proofs.Entries.{multiplicity-le, multiplicity-none}
 use Rattle.image.specs.Image.{endA, endB}
@@ -119,8 +119,8 @@ module _ (table part : List ℕ) (test : ℕ → Bool) where
   joined-more k = rw (add-one k) (omega arith)
 
   pub leaving-more : (k : ℕ) → leavingSum table part test (k + 1) ≡ leavingSum table part test k + bit (leaves k)
-  unfolding leavingSum count
-  leaving-more k = rw (add-one k) (omega arith)
+  unfolding leavingSum
+  leaving-more k = count-more k leaves
 
   pub leaving-le : (k : ℕ) → leavingSum table part test k ≤ k
   unfolding leavingSum

@@ -32,7 +32,7 @@ use Rattle.image.specs.declared.Opened.the-variants as O
 use Rattle.image.proofs.Acceptance.{accepted, accepted-fits, length-is, opened}
 use Rattle.community.specs.Network.{contains}
 use Rattle.community.specs.Scores.{countPairs, pairs, everyEdge, joinedBy, joinedPairs, leaving}
-use Rattle.community.proofs.Multiplicities.{multiplicity-once}
+use Rattle.community.proofs.Multiplicities.{Apart, multiplicity-once}
 use Rattle.community.proofs.Edges.{joins-make, joins-take, pair-sym, pair-trans}
 use Rattle.scores.specs.Scored.{tallyBy, tallyOf, askEntries, talliedFor, talliedOf, scoresFor, scoredFor, scoredOf}
 use Rattle.scores.specs.Held.{tallyAt}
@@ -109,7 +109,7 @@ module _ (s : List ℕ) (a : Accepted s) where
         ∙ sum-cong m (λ k. sum n (λ j. f j k)) (λ k. cond (test k) (multiplicity l (endA (edgeRecords s) k) * multiplicity l (endB (edgeRecords s) k)) 0)
         (λ k h. passed-pairs (test k) l k h)
 
-    pub joined-once : (l : List ℕ) → ((i j : ℕ) → i < j → j < length l → getD l i 0 ≡ getD l j 0 → ⊥)
+    pub joined-once : (l : List ℕ) → Apart l
         → joinedPairs s test l ≡ count (edgeCount s) (λ k. test k && (contains (endA (edgeRecords s) k) l && contains (endB (edgeRecords s) k) l))
     joined-once l once =
         let f : ℕ → ℕ = λ k. cond (test k) (multiplicity l (endA (edgeRecords s) k) * multiplicity l (endB (edgeRecords s) k)) 0 in

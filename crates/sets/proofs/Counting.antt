@@ -154,13 +154,15 @@ pub count-none : (f : ℕ → Bool) → count 0 f ≡ 0
 unfolding count
 count-none f = refl
 
-pub count-yes : (n : ℕ) (f : ℕ → Bool) → T (f n) → count (n + 1) f ≡ count n f + 1
+pub count-more : (n : ℕ) (f : ℕ → Bool) → count (n + 1) f ≡ count n f + bit (f n)
 unfolding count
-count-yes n f t = rw (add-one n) (omega (arith, bit-true (f n) t))
+count-more n f = rw (add-one n) (omega arith)
+
+pub count-yes : (n : ℕ) (f : ℕ → Bool) → T (f n) → count (n + 1) f ≡ count n f + 1
+count-yes n f t = omega (arith, count-more n f, bit-true (f n) t)
 
 pub count-no : (n : ℕ) (f : ℕ → Bool) → T (not (f n)) → count (n + 1) f ≡ count n f
-unfolding count
-count-no n f t = rw (add-one n) (omega (arith, bit-false (f n) t))
+count-no n f t = omega (arith, count-more n f, bit-false (f n) t)
 
 pub count-at : (i j : ℕ) (f : ℕ → Bool) → i ≡ j → count i f ≡ count j f
 count-at i j f e = ap (λ (k : ℕ). count k f) e

@@ -3,6 +3,7 @@
 --     multiplicity-le       a number stands at most as often as there are places
 --     multiplicity-none     a number that no place holds
 --     multiplicity-append   in two lists, one after the other
+--     countedTo l i v       how often v stands among the first i entries
 --     counted-none          before the first entry the table holds 0 everywhere
 --     counted-more          one more entry counted
 --     counted-past          one more entry that has no place in the table
@@ -41,7 +42,6 @@ multiplicity-append (x ∷ a) b v = omega (arith, multiplicity-cons x (a ++ b) v
 
 -- ---- counting into a table
 
--- how often v stands among the first i entries
 abbrev pub countedTo : List ℕ → ℕ → ℕ → ℕ
 countedTo l i v = count i (λ j. eqb v (getD l j 0))
 

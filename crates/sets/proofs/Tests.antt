@@ -1,11 +1,11 @@
 -- Laws of tests, and of tests over the numbers below a bound: a test is decided, `any` is a witness, `find` is the least witness.
-use Prim.Native.Nat.{ℕ, zero, suc, _<_}
+use Prim.Native.Nat.{ℕ, zero, suc, _+_, _<_}
 use native.Mathlib.Omega.{arith}
 use native.Mathlib.Decide.{ℕ-discrete}
 use mathlib.Core.Path.{_≡_, refl, sym, ap, ap₂, subst}
 use mathlib.Core.Logic.{_⊎_, inl, inr, ⊎-elim}
 use mathlib.Core.Bool.{Bool, true, false, _&&_, _||_, not, cond}
-use lib.Dec.{T, eqb, eqb→eq, eqb-refl, T-not, not-T}
+use lib.Dec.{T, eqb, ltb, eqb→eq, ltb→lt, lt→ltb, eqb-refl, T-not, not-T}
 use Rattle.sets.specs.Below.{any, find}
 
 pub and-make : (a b : Bool) → T a → T b → T (a && b)
@@ -143,3 +143,18 @@ or-comm false false = refl
 
 pub eqb-comm : (u v : ℕ) → eqb u v ≡ eqb v u
 eqb-comm u v = T-ext (eqb u v) (eqb v u) (λ t. eqb-of v u (sym (eqb→eq u v t))) (λ t. eqb-of u v (sym (eqb→eq v u t)))
+
+-- ---- the numbers below k that pass a test, as a loop goes through them: none at first, k not yet, k with one more, and no other
+pub passed-none : (i : ℕ) (b : Bool) → (ltb i 0 && b) ≡ false
+passed-none i b = T-false (ltb i 0 && b) (not-T (ltb i 0 && b) (λ t. absurd (omega (arith, ltb→lt i 0 (and-left (ltb i 0) b t)))))
+
+pub passed-new : (k : ℕ) (b : Bool) → T (not (ltb k k && b))
+passed-new k b = not-T (ltb k k && b) (λ t. omega (arith, ltb→lt k k (and-left (ltb k k) b t)))
+
+pub passed-self : (k : ℕ) (b : Bool) → (ltb k (k + 1) && b) ≡ b
+passed-self k b = ap (λ (x : Bool). x && b) (T-true (ltb k (k + 1)) (lt→ltb k (k + 1) (omega arith)))
+
+pub passed-other : (k i : ℕ) (b : Bool) → (i ≡ k → ⊥) → (ltb i (k + 1) && b) ≡ (ltb i k && b)
+passed-other k i b d =
+    ap (λ (x : Bool). x && b)
+    (T-ext (ltb i (k + 1)) (ltb i k) (λ t. lt→ltb i k (omega (arith, ltb→lt i (k + 1) t, d))) (λ t. lt→ltb i (k + 1) (omega (arith, ltb→lt i k t))))

@@ -1,7 +1,10 @@
 -- How often each number stands in a list.
 --
 --     multiplicity l v          how often v stands in a list
---     EntriesCounted l table    a table of 512 numbers: place v holds how often v stands among the first 65,535 entries of a list
+--     EntriesCounted l table    a table of 512 numbers: place v holds how often v stands among the first 65,535 entries of a list, so that each count fits 16
+--                               bits; larger numbers have no place
+--
+-- The laws are in proofs/Entries.
 use Prim.Native.Nat.{ℕ, _<_}
 use mathlib.Core.Path.{_≡_}
 use mathlib.Core.List.{List}

@@ -50,10 +50,10 @@ pub fn smaller(a: usize, b: usize) -> usize
 pub fn count_entries(list: &[u16], table: &mut [u16; 512])
     ensures { λ _. ⌜ EntriesCounted (now (list .entry)) (now (table .exit)) ⌝ }
 {
-    let last = smaller(list.len(), 65535);
+    let bound = smaller(list.len(), 65535);
     *table = [0u16; 512];
     let mut i: usize = 0;
-    while i < last {
+    while i < bound {
         let v = list[i] as usize;
         if v < 512 {
             table[v] = table[v] + 1;

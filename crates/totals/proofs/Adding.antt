@@ -2,7 +2,7 @@
 --
 --     totals-none, totals-more     the totals of the first handsets: of none, and of one more
 --     core-by, border-by, outlier-by, multiple-by     the tests of a role, by whether the handset is a core and by how many groups it is in
---     totals-below                 none of the four numbers is above the count of handsets, or a larger bound
+--     totals-at-most               none of the four numbers is above the count of handsets, or a larger bound
 --     same-test                    a test that does not look at the number of a core's community is the same for two such roles
 --     totals-same                  roles that are the same, but for the number of a core's community, have the same totals
 --     roles-counted                the totals and the outliers by a table of counts are those by the member table
@@ -10,7 +10,6 @@
 use Prim.Native.Nat.{ℕ, zero, suc, _+_, _≤_, _<_, min}
 use native.Mathlib.Omega.{arith}
 use native.Mathlib.Decide.{decLt}
-use native.Mathlib.Numerals.{add-one}
 use mathlib.Core.Path.{_≡_, refl, sym, ap, ap₂, _∙_}
 use mathlib.Core.Bool.{Bool, true, false, _&&_, not}
 use mathlib.Core.List.{List}
@@ -19,7 +18,7 @@ use borrow.Author.Tests.{le-leb, lt-leb, lt-ltb, le-ltb, ne-eqb}
 use Rattle.sets.specs.Below.{bit, count}
 use Rattle.sets.specs.Bits.{bitAt}
 use Rattle.sets.specs.Entries.{EntriesCounted}
-use Rattle.sets.proofs.Counting.{count-cong, count-le}
+use Rattle.sets.proofs.Counting.{count-cong, count-le, count-more}
 use Rattle.community.specs.Network.{role}
 use Rattle.community.specs.Renumbered.{SameRole}
 use Rattle.community.specs.Renumbered.SameRole.{both-core, both-border, both-outlier}
@@ -27,15 +26,11 @@ use Rattle.community.specs.declared.Role.{Role}
 use Rattle.community.specs.declared.Role.the-variants.{Core, Border, Outlier}
 use Rattle.totals.specs.Totals.{isCoreRole, isBorder, isOutlier, isMultiple, totalsOf, totals, TotalsAddUp, roleBy, tableRole, RolesCounted}
 use Rattle.totals.specs.declared.Totals.{Totals}
-use Rattle.totals.specs.Held.{withRole, TotalsBelow, heldRole, RolesSummed}
+use Rattle.totals.specs.Held.{withRole, TotalsAtMost, heldRole, RolesSummed}
 
 pub totals-none : (r : ℕ → Role) → totalsOf 0 r ≡ record { cores = 0; borders = 0; outliers = 0; multiple = 0 }
 unfolding totalsOf count
 totals-none r = refl
-
-count-more : (n : ℕ) (f : ℕ → Bool) → count (n + 1) f ≡ count n f + bit (f n)
-unfolding count
-count-more n f = rw (add-one n) (omega arith)
 
 pub totals-more : (n : ℕ) (r : ℕ → Role) → totalsOf (n + 1) r ≡ withRole (totalsOf n r) (r n)
 unfolding totalsOf
@@ -72,9 +67,9 @@ multiple-by false (suc k) = pick (decLt 1 (suc k))
     pick (yes h) = le-leb 2 (suc k) (omega arith) ∙ sym (lt-ltb 1 (suc k) h)
     pick (no h) = lt-leb 2 (suc k) (omega arith) ∙ sym (le-ltb 1 (suc k) (omega arith))
 
-pub totals-below : (n k : ℕ) (r : ℕ → Role) → n ≤ k → TotalsBelow (totalsOf n r) k
+pub totals-at-most : (n k : ℕ) (r : ℕ → Role) → n ≤ k → TotalsAtMost (totalsOf n r) k
 unfolding totalsOf
-totals-below n k r h = record {
+totals-at-most n k r h = record {
   cores = omega (arith, count-le n (λ v. isCoreRole (r v)));
   borders = omega (arith, count-le n (λ v. isBorder (r v)));
   outliers = omega (arith, count-le n (λ v. isOutlier (r v)));

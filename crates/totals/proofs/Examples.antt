@@ -1,4 +1,4 @@
--- The examples: the definitions compute to what the paper says.
+-- The examples: the definitions compute to these totals.
 use mathlib.Core.Path.{refl}
 use Rattle.image.specs.Image.{headerOf, neighbour, mu}
 use Rattle.totals.specs.Totals.{totals}

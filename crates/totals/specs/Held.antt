@@ -2,7 +2,7 @@
 -- What the call's steps hold, for the contracts inside the crate.
 --
 --     withRole t r        the totals with one handset more, of the role r
---     TotalsBelow t k     none of the four numbers is above k
+--     TotalsAtMost t k    none of the four numbers is above k
 --     heldRole ..         the role of v by a table of counts of groups and a set of cores
 --     RolesSummed ..      the totals and the outliers of the handsets below n, by such a table
 use Prim.Native.Nat.{ℕ, _+_, _≤_}
@@ -26,7 +26,7 @@ withRole t r = record {
   multiple = t .multiple + bit (isMultiple r);
 }
 
-pub record TotalsBelow (t : Totals) (k : ℕ) : Type 0 where
+pub record TotalsAtMost (t : Totals) (k : ℕ) : Type 0 where
   pub cores : t .cores ≤ k
   pub borders : t .borders ≤ k
   pub outliers : t .outliers ≤ k

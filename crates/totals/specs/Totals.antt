@@ -1,6 +1,6 @@
 -- How many handsets have each role (paper 02, order 1: the totals at the foot of the report).
 --
---     isCoreRole r                  the role is a core's
+--     isCoreRole r                  the role is a core's (`isCore` is the test of a handset of a network)
 --     isBorder r                    the role is a border's
 --     isOutlier r                   the role is an outlier's
 --     isMultiple r                  the role is that of a border in two communities or more; a core never is one
@@ -10,7 +10,10 @@
 --     roleBy core k                 the role of a handset that is a core or not and is in k groups; the number of a core's group is not told, and stands as 0
 --     tableRole members cores v     the role of v by a member table and a set of cores, where v is in as many groups as it stands in the table; the first 65,535
 --                                   entries count
---     RolesCounted ..               what the call leaves: the totals of the handsets below n, and the set of outliers
+--     RolesCounted ..               what the call leaves: the totals of the handsets below n and below 512, and the set of outliers
+--
+-- By the member table of a network's communities and the set of its cores these are `totals g` and the network's outliers (proofs/Plan: plan-totals,
+-- plan-outliers), where it has at most 512 handsets, as in an accepted image. The report's last two lines stand on that.
 use Prim.Native.Nat.{ℕ, _+_, min}
 use mathlib.Core.Path.{_≡_}
 use mathlib.Core.Bool.{Bool, true, false, _&&_, cond}

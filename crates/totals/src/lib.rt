@@ -1,12 +1,12 @@
 // How many handsets have each role, from a plan's member table and the set of its cores.
 //
 // One pass over the member table gives each handset's count of groups; one over the handsets then counts the roles. The definitions are in specs/Totals.
-ghost use Prim.Native.Nat.{_≤_, _<_};
+ghost use Prim.Native.Nat.{_≤_};
 ghost use mathlib.Core.Path.{_≡_};
 ghost use lib.ListN.{length, replicate};
 ghost use Rattle.sets.specs.Below.{bit};
 ghost use Rattle.totals.specs.Totals.{roleBy, RolesCounted};
-ghost use Rattle.totals.specs.Held.{withRole, TotalsBelow, RolesSummed};
+ghost use Rattle.totals.specs.Held.{withRole, TotalsAtMost, RolesSummed};
 
 // The handsets of a site: cores, borders, outliers; and of the borders those in two groups or more.
 pub struct Totals {
@@ -26,7 +26,7 @@ fn one_if(yes: bool) -> usize
 
 // The totals with one handset more, by whether it is a core and by how many groups it is in.
 fn add_handset(t: Totals, core: bool, groups: u16) -> Totals
-    requires { ⌜ TotalsBelow t 512 ⌝ }
+    requires { ⌜ TotalsAtMost t 512 ⌝ }
     ensures { λ r. ⌜ r ≡ withRole t (roleBy core groups) ⌝ }
 {
     Totals {
@@ -62,13 +62,13 @@ fn add_handsets(counts: &[u16], cores: &[u64], n: usize, outliers: &mut [u64]) -
 }
 
 // Counts the roles of the handsets below n, by a member table and a set of cores; the set that is lent gets the outliers. A handset's groups are counted by
-// how often it stands in the table. It looks at no more handsets than a site can have.
+// how often it stands in the table. It looks at no more than 512 handsets and 65,535 entries; a site has no more.
 pub fn count_roles(members: &[u16], cores: &[u64], n: usize, outliers: &mut [u64; 8]) -> Totals
     ensures { λ r. ⌜ RolesCounted (now (members .entry)) (now (cores .entry)) n r (now (outliers .exit)) ⌝ }
 {
-    let first = sets::smaller(n, 512);
+    let bound = sets::smaller(n, 512);
     let mut counts = [0u16; 512];
     sets::count_entries(members, &mut counts);
     *outliers = [0u64; 8];
-    add_handsets(&counts, cores, first, outliers)
+    add_handsets(&counts, cores, bound, outliers)
 }

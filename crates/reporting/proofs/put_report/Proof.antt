@@ -1,5 +1,5 @@
--- `reporting::put_report` meets its contract: line one, the groups, the cores, the outliers, the totals. After k steps of the loop the lines of the first k groups are
--- written. The measure is the count of groups left.
+-- `reporting::put_report` meets its contract: line one, the groups, the cores, the outliers, the totals. After k steps of the loop the lines of the first k
+-- groups are written. The measure is the count of groups left.
 use native.Mathlib.Omega.{arith}
 use Prim.Native.Nat.{_-_, _≤_}
 use mathlib.Core.Path.{ap, _∙_}

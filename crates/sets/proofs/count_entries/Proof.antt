@@ -13,10 +13,10 @@ use Rattle.sets.proofs.count_entries.Statement.{statement}
 use Rattle.sets.proofs.count_entries.Tie as tie
 
 abbrev Inv-loop : tie.InvT-loop
-Inv-loop list table₀ last i₀ table i = (i ≤ last) × (length table ≡ 512) × ((v : ℕ) → v < 512 → getD table v 0 ≡ countedTo list i v)
+Inv-loop list table₀ bound i₀ table i = (i ≤ bound) × (length table ≡ 512) × ((v : ℕ) → v < 512 → getD table v 0 ≡ countedTo list i v)
 
 abbrev μ-loop : tie.MeasureT-loop
-μ-loop list table₀ last i₀ table i = last - i
+μ-loop list table₀ bound i₀ table i = bound - i
 
 -- the bound, and the entry that is read
 abbrev bounded : tie.In-loop Inv-loop μ-loop → tie.After-smaller Inv-loop μ-loop

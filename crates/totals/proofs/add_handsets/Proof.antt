@@ -16,7 +16,7 @@ use Rattle.sets.proofs.Bits.{length-withBit}
 use Rattle.totals.specs.declared.Totals.{Totals}
 use Rattle.totals.specs.Totals.{isOutlier, totalsOf, roleBy}
 use Rattle.totals.specs.Held.{withRole, heldRole}
-use Rattle.totals.proofs.Adding.{totals-none, totals-more, totals-below, outlier-by}
+use Rattle.totals.proofs.Adding.{totals-none, totals-more, totals-at-most, outlier-by}
 use Rattle.totals.proofs.Marking.{marked-none, marked-yes, marked-no}
 use Rattle.totals.proofs.add_handsets.Statement.{statement}
 use Rattle.totals.proofs.add_handsets.Tie as tie
@@ -45,7 +45,7 @@ shared-slice-read-groups : tie.Need-shared-slice-read-groups Inv-loop μ-loop
 shared-slice-read-groups c = let s = c .before .before .before .before .before .before .before in omega (arith, s .pre)
 
 add-handset-requires : tie.Need-add-handset-requires Inv-loop μ-loop
-add-handset-requires c κs = let l = c .before .before .before .loop in rw (l .inv .1) (totals-below (l .v) 512 _ (omega arith))
+add-handset-requires c κs = let l = c .before .before .before .loop in rw (l .inv .1) (totals-at-most (l .v) 512 _ (omega arith))
 
 mark-requires : tie.Need-mark-requires Inv-loop μ-loop
 mark-requires c κs = search needs

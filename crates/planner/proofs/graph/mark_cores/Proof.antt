@@ -16,7 +16,8 @@ use Rattle.sets.specs.Rows.{SetOf}
 use Rattle.sets.proofs.Bits.{bitAt-zeros}
 use Rattle.sets.proofs.Counting.{bit-true, bit-false}
 use Rattle.planner.specs.Held.{WordOf}
-use Rattle.planner.proofs.Words.{passed-none, passed-new, passed-self, passed-other, word-at, word-put, put-word}
+use Rattle.sets.proofs.Tests.{passed-none, passed-new, passed-self, passed-other}
+use Rattle.planner.proofs.Words.{word-at, word-put, put-word}
 use Rattle.planner.proofs.graph.mark_cores.Statement.{statement}
 use Rattle.planner.proofs.graph.mark_cores.Tie as tie
 
