@@ -13,6 +13,7 @@ use borrow.Author.Needs.{needs}
 use Rattle.sets.specs.Below.{bit}
 use Rattle.sets.specs.Bits.{bitAt}
 use Rattle.sets.proofs.Bits.{length-withBit}
+use Rattle.community.specs.declared.Role.{Role}
 use Rattle.totals.specs.declared.Totals.{Totals}
 use Rattle.totals.specs.Totals.{isOutlier, totalsOf, roleBy}
 use Rattle.totals.specs.Held.{withRole, heldRole}
@@ -28,12 +29,25 @@ Inv-loop counts cores n outliers₀ totals₀ v₀ outliers totals v =
 abbrev μ-loop : tie.MeasureT-loop
 μ-loop counts cores n outliers₀ totals₀ v₀ outliers totals v = n - v
 
+-- where the function starts, where a turn of the loop does, and the roles by the two tables
+abbrev start : tie.At-loop Inv-loop μ-loop → tie.Start Inv-loop μ-loop
+start c = c .before .before .before .before
+
+abbrev turn : tie.After-shared-slice-known3 Inv-loop μ-loop → tie.At-loop Inv-loop μ-loop
+turn c = c .before .before .before
+
+abbrev roles : tie.Start Inv-loop μ-loop → ℕ → Role
+roles s = heldRole (now (s .args .counts)) (now (s .args .cores))
+
 loop-holds : tie.Need-loop-holds Inv-loop μ-loop
 loop-holds c =
     let s = c .before .before .before in
-    let r = heldRole (now (s .args .counts)) (now (s .args .cores)) in
-    let empty = s .pre .1 .1 in
-    (omega arith, sym (totals-none r), ap length empty ∙ length-replicate {A = ℕ} 8 0, λ u. ap (λ (m : List ℕ). bitAt m u) empty ∙ marked-none (λ v. isOutlier (r v)) u)
+    let empty = s .pre .1 .1 in (
+      omega arith,
+      sym (totals-none (roles s)),
+      ap length empty ∙ length-replicate {A = ℕ} 8 0,
+      λ u. ap (λ (m : List ℕ). bitAt m u) empty ∙ marked-none (λ v. isOutlier (roles s v)) u,
+    )
 
 has-requires : tie.Need-has-requires Inv-loop μ-loop
 has-requires c κs = search needs
@@ -42,10 +56,10 @@ mul-groups : tie.Need-mul-groups Inv-loop μ-loop
 mul-groups c = search needs
 
 shared-slice-read-groups : tie.Need-shared-slice-read-groups Inv-loop μ-loop
-shared-slice-read-groups c = let s = c .before .before .before .before .before .before .before in omega (arith, s .pre)
+shared-slice-read-groups c = omega (arith, start (turn c) .pre)
 
 add-handset-requires : tie.Need-add-handset-requires Inv-loop μ-loop
-add-handset-requires c κs = let l = c .before .before .before .loop in rw (l .inv .1) (totals-at-most (l .v) 512 _ (omega arith))
+add-handset-requires c κs = let l = turn c .loop in rw (l .inv .1) (totals-at-most (l .v) 512 (roles (start (turn c))) (omega arith))
 
 mark-requires : tie.Need-mark-requires Inv-loop μ-loop
 mark-requires c κs = search needs
@@ -60,29 +74,38 @@ loop-again : tie.Need-loop-again Inv-loop μ-loop
 loop-again c =
     let added = c .before in
     let asked = added .before .before in
-    let l = asked .before .before .loop in
-    let a = asked .before .before .before .before .before .before .args in
-    let r = heldRole (now (a .counts)) (now (a .cores)) in
-    let core : asked .has .result ≡ eqb (bitAt (now (a .cores)) (l .v)) 1 = asked .has .ensures in
-    let by : isOutlier (r (l .v)) ≡ (not (asked .has .result) && eqb (getD (now (a .counts)) (l .v) 0) 0) =
-    outlier-by (eqb (bitAt (now (a .cores)) (l .v)) 1) (getD (now (a .counts)) (l .v) 0) ∙ ap (λ (b : Bool). not b && eqb (getD (now (a .counts)) (l .v) 0) 0) (sym core) in
-    let more : added .add-handset .result ≡ totalsOf (l .v + 1) r =
-    added .add-handset .ensures ∙ ap₂ (λ (t : Totals) (b : Bool). withRole t (roleBy b (getD (now (a .counts)) (l .v) 0))) (l .inv .1) core ∙ sym (totals-more (l .v) r) in
+    let at-loop = turn (added .before) in
+    let l = at-loop .loop in
+    let s = start at-loop in
+    let groups : ℕ = getD (now (s .args .counts)) (l .v) 0 in
+    let outlier : ℕ → Bool = λ v. isOutlier (roles s v) in
+    let core : asked .has .result ≡ eqb (bitAt (now (s .args .cores)) (l .v)) 1 = asked .has .ensures in
+    let test : outlier (l .v) ≡ (not (asked .has .result) && eqb groups 0) =
+    outlier-by (eqb (bitAt (now (s .args .cores)) (l .v)) 1) groups ∙ ap (λ (b : Bool). not b && eqb groups 0) (sym core) in
+    let more : added .add-handset .result ≡ totalsOf (l .v + 1) (roles s) =
+    added .add-handset .ensures ∙ ap₂ (λ (t : Totals) (b : Bool). withRole t (roleBy b groups)) (l .inv .1) core ∙ sym (totals-more (l .v) (roles s)) in
     ⊎-elim
-    (λ w. (omega arith, more, ap length (w .5 ∙ w .2 .ensures) ∙ length-withBit (l .outliers) (l .v) ∙ l .inv .2, rw (w .5, w .2 .ensures) (marked-yes (λ v. isOutlier (r v)) (l .outliers) (l .v) (l .inv .3) (omega arith) (by ∙ w .0 .taken))))
-    (λ w. (omega arith, more, ap length (w .1) ∙ l .inv .2, rw (w .1) (marked-no (λ v. isOutlier (r v)) (l .outliers) (l .v) (l .inv .3) (by ∙ w .0 .left))))
+    (λ w. (
+      omega arith,
+      more,
+      ap length (w .5 ∙ w .2 .ensures) ∙ length-withBit (l .outliers) (l .v) ∙ l .inv .2,
+      rw (w .5, w .2 .ensures) (marked-yes outlier (l .outliers) (l .v) (l .inv .3) (omega arith) (test ∙ w .0 .taken)),
+    ))
+    (λ w. (omega arith, more, ap length (w .1) ∙ l .inv .2, rw (w .1) (marked-no outlier (l .outliers) (l .v) (l .inv .3) (test ∙ w .0 .left))))
     (c .if1 .came)
 
 same-length : tie.Need-same-length Inv-loop μ-loop
-same-length c = let s = c .before .before .before .before .before in omega (arith, c .before .loop .inv .2, ap length (s .pre .1 .1), length-replicate {A = ℕ} 8 0)
+same-length c = omega (arith, c .before .loop .inv .2, ap length (start (c .before) .pre .1 .1), length-replicate {A = ℕ} 8 0)
 
 returns : tie.Need-returns Inv-loop μ-loop
 returns c =
     let l = c .before .loop in
-    let e : l .v ≡ c .before .before .before .before .before .args .n = omega arith in
-    let a = c .before .before .before .before .before .args in
-    let r = heldRole (now (a .counts)) (now (a .cores)) in
-    record { numbers = l .inv .1 ∙ ap (λ (k : ℕ). totalsOf k r) e; marked = record { size = l .inv .2; bits = λ u h. l .inv .3 u ∙ ap (λ (k : ℕ). bit (ltb u k && isOutlier (r u))) e } }
+    let s = start (c .before) in
+    let e : l .v ≡ s .args .n = omega arith in
+    record {
+      numbers = l .inv .1 ∙ ap (λ (k : ℕ). totalsOf k (roles s)) e;
+      marked = record { size = l .inv .2; bits = λ u h. l .inv .3 u ∙ ap (λ (k : ℕ). bit (ltb u k && isOutlier (roles s u))) e };
+    }
 
 pub add-handsets-spec : {M : Type 1} → statement M
 add-handsets-spec =
