@@ -7,8 +7,8 @@ use mathlib.Core.List.{List}
 use lib.Dec.{T, leb, eqb, eqb-refl}
 use Rattle.sets.proofs.Tests.{or-left, eqb-comm, any-cong}
 use Rattle.sets.proofs.Counting.{sum-cong}
-use Rattle.fields.specs.Fields.{coordinateCount, coreSize}
-use Rattle.image.specs.Image.{headerOf, gap, gapSquared, coordinateOf, distanceBetween, distanceSquared, handsetRecords, handsetRecord, edgeRecords, joins, adjacent, within, edgeCount, neighbour, limitSquared, epsilonNum, epsilonDen, mu}
+use Rattle.fields.specs.Fields.{coordinateCount, coreSize, gap}
+use Rattle.image.specs.Image.{headerOf, gapSquared, coordinateOf, distanceBetween, distanceSquared, handsetRecords, handsetRecord, edgeRecords, joins, adjacent, within, edgeCount, neighbour, limitSquared, epsilonNum, epsilonDen, mu}
 use Rattle.image.specs.Questions.{Accepted}
 use Rattle.image.proofs.Edges.{joins-comm}
 use Rattle.image.proofs.Acceptance.{accepted-fits}
@@ -21,7 +21,7 @@ gap-comm a b = omega arith
 distance-comm : (a b : List ℕ) → distanceBetween a b ≡ distanceBetween b a
 unfolding distanceBetween
 distance-comm a b =
-    sum-cong coordinateCount (gapSquared a b) (gapSquared b a) (λ i h. ap (λ (d : ℕ). d * d) (gap-comm (coordinateOf a i) (coordinateOf b i)))
+    sum-cong coordinateCount (gapSquared (coordinateOf a) (coordinateOf b)) (gapSquared (coordinateOf b) (coordinateOf a)) (λ i h. ap (λ (d : ℕ). d * d) (gap-comm (coordinateOf a i) (coordinateOf b i)))
 
 pub within-comm : (s : List ℕ) (u v : ℕ) → within s u v ≡ within s v u
 unfolding within distanceSquared

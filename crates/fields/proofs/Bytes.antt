@@ -11,11 +11,11 @@ use native.Mathlib.Nat.{add-zero, zero-add, suc-add, mul-assoc, pow-succ'}
 use mathlib.Core.Path.{_≡_, refl, sym, ap, ap₂, _∙_}
 use mathlib.Core.Bool.{Bool, true, false, cond}
 use mathlib.Core.List.{List}
-use lib.Dec.{leb, le→leb}
+use lib.Dec.{leb, leb→le, le→leb}
 use borrow.Author.Tests.{leb-true}
 use lib.ListN.{length, getD, take, drop, length-take, length-drop}
 use lib.Seq.{getD-take, getD-drop}
-use Rattle.sets.proofs.Tests.{T-true}
+use Rattle.sets.proofs.Tests.{T-true, T-ext}
 use Rattle.fields.specs.Bytes.{le, number}
 
 shift : (x i : ℕ) → x + 1 + i ≡ x + suc i
@@ -55,8 +55,14 @@ pub number-cong : (w : ℕ) (s t : List ℕ) (a b : ℕ) → a + w ≤ length s 
     → ((i : ℕ) → i < w → getD t (b + i) 0 ≡ getD s (a + i) 0) → number w t b ≡ number w s a
 number-cong w s t a b ha hb e = number-le w t b hb ∙ le-cong w s t a b e ∙ sym (number-le w s a ha)
 
--- a number in a part of a list that has all of its bytes
-pub number-part : (w : ℕ) (s : List ℕ) (from n at : ℕ) → at + w ≤ n → from + n ≤ length s → number w (take n (drop from s)) at ≡ number w s (from + at)
-number-part w s from n at h k =
-    number-cong w s (take n (drop from s)) (from + at) at (omega arith) (simp (length-take, length-drop) (omega arith))
-    (λ i l. getD-take n (drop from s) (at + i) 0 (omega arith) ∙ getD-drop from s (at + i) 0 ∙ ap (λ (x : ℕ). getD s x 0) (omega arith))
+-- a number in a part of a list; where its bytes are not all there, they are not in the part either
+pub number-part : (w : ℕ) (s : List ℕ) (from n at : ℕ) → 1 ≤ w → at + w ≤ n → number w (take n (drop from s)) at ≡ number w s (from + at)
+unfolding number
+number-part w s from n at some h =
+    let t : List ℕ = take n (drop from s) in
+    ap₂ (λ (b : Bool) (x : ℕ). cond b x 0)
+    (T-ext (leb (at + w) (length t)) (leb (from + at + w) (length s))
+    (λ q. le→leb (from + at + w) (length s) (omega (arith, leb→le (at + w) (length t) q, length-take n (drop from s), length-drop from s)))
+    (λ q. le→leb (at + w) (length t) (omega (arith, leb→le (from + at + w) (length s) q, length-take n (drop from s), length-drop from s))))
+    (le-cong w s t (from + at) at
+    (λ i l. getD-take n (drop from s) (at + i) 0 (omega arith) ∙ getD-drop from s (at + i) 0 ∙ ap (λ (x : ℕ). getD s x 0) (omega arith)))

@@ -1,4 +1,4 @@
--- What the fields of the image mean (paper 01, "The site image"), and how many bytes a record has.
+-- What the fields of the image mean (paper 01, "The site image"), how many bytes a record has, and the limits of a coordinate.
 --
 --     coordinateBytes    how many bytes a coordinate has
 --     coordinateCount    how many coordinates a handset has
@@ -7,9 +7,14 @@
 --     blankMu            what a blank mu, 0, means
 --     coreSize mu        how many handsets make a core: mu, or blankMu where it is blank
 --     shifted x          the coordinate that the four bytes of x hold, plus 2 ^ 31
+--     coordinateLimit    how far from 0 a coordinate may be
+--     inLimits x         a coordinate, plus 2 ^ 31, is from -1,000,000 to 1,000,000 (image/specs/Signed: exactly when the signed number is)
+--     gap a b            how far apart two numbers are
 --     endsOf r           the two ends of an edge, from its record
-use Prim.Native.Nat.{ℕ, zero, suc, _+_, _*_, _%_}
+use Prim.Native.Nat.{ℕ, zero, suc, _+_, _*_, _-_, _%_}
+use mathlib.Core.Bool.{Bool, _&&_}
 use mathlib.Core.List.{List}
+use lib.Dec.{leb}
 use Rattle.fields.specs.Bytes.{number}
 use Rattle.fields.specs.declared.Ends.{Ends}
 
@@ -36,6 +41,16 @@ coreSize (suc k) = suc k
 -- are as far apart as the two signed numbers.
 abbrev pub shifted : ℕ → ℕ
 shifted x = (x + 2147483648) % 4294967296
+
+abbrev pub coordinateLimit : ℕ
+coordinateLimit = 1000000
+
+abbrev pub inLimits : ℕ → Bool
+inLimits x = leb (2147483648 - coordinateLimit) x && leb x (2147483648 + coordinateLimit)
+
+-- one of the two differences is 0
+abbrev pub gap : ℕ → ℕ → ℕ
+gap a b = (a - b) + (b - a)
 
 unfoldable pub endsOf : List ℕ → Ends
 unfolding number

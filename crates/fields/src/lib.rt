@@ -1,13 +1,13 @@
-// The fields of a site image: numbers in bytes, the lowest byte first, a coordinate, the ends of an edge, and the core size.
+// The fields of a site image: numbers in bytes, the lowest byte first, a coordinate with its limits and gaps, the ends of an edge, and the core size.
 //
 // Every read is of a place that may not be there, and then gives 0. Callers cite `number-cong` of proofs/Bytes where the same bytes stand at two places, and
 // `number-part` where they read from a part.
 ghost use mathlib.Core.Path.{_≡_};
-ghost use Prim.Native.Nat.{_+_, _≤_, _<_};
+ghost use Prim.Native.Nat.{_+_, _*_, _≤_, _<_};
 ghost use lib.Dec.{leb};
 ghost use lib.ListN.{length, getD};
 ghost use Rattle.fields.specs.Bytes.{le, number};
-ghost use Rattle.fields.specs.Fields.{coordinateBytes, coreSize, shifted, endsOf};
+ghost use Rattle.fields.specs.Fields.{coordinateBytes, coreSize, shifted, inLimits, gap, endsOf};
 
 // How many bytes a coordinate has.
 pub const COORDINATE_BYTES: usize = 4;
@@ -16,6 +16,9 @@ pub const COORDINATE_BYTES: usize = 4;
 pub const COORDINATES: usize = 2;
 
 pub const HANDSET_BYTES: usize = COORDINATE_BYTES * COORDINATES;
+
+// How far from 0 a coordinate may be.
+const COORDINATE_LIMIT: u32 = 1000000;
 
 // How many bytes an edge's record has.
 pub const EDGE_BYTES: usize = 4;
@@ -88,10 +91,26 @@ pub fn read8(s: &[u8], at: usize) -> u64
 }
 
 // The coordinate at a place, plus 2 ^ 31, so that it is never negative.
-pub fn coordinate(part: &[u8], at: usize) -> u64
+pub fn coordinate(part: &[u8], at: usize) -> u32
     ensures { λ r. ⌜ r ≡ shifted (number coordinateBytes (now (part .entry)) at) ⌝ }
 {
-    (read4(part, at) as u64 + 2147483648) % 4294967296
+    ((read4(part, at) as u64 + 2147483648) % 4294967296) as u32
+}
+
+// Whether a coordinate, plus 2 ^ 31, is no farther from 2 ^ 31 than the limit.
+pub fn in_limits(x: u32) -> bool
+    ensures { λ r. ⌜ r ≡ inLimits x ⌝ }
+{
+    (2147483648 - COORDINATE_LIMIT <= x) & (x <= 2147483648 + COORDINATE_LIMIT)
+}
+
+// The square of how far apart two coordinates, each plus 2 ^ 31, are.
+pub fn squared_gap(a: u32, b: u32) -> u64
+    ensures { λ r. ⌜ r ≡ gap a b * gap a b ⌝ }
+{
+    let d = (a as i64) - (b as i64);
+    let e = if d < 0 { -d } else { d };
+    (e as u64) * (e as u64)
 }
 
 // The two ends of an edge.

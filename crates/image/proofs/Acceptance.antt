@@ -21,9 +21,9 @@ use lib.Dec.{T, leb, ltb, eqb, leb→le, le→leb, ltb→lt, eqb→eq}
 use lib.ListN.{length, take, drop, length-take, length-drop}
 use Rattle.sets.specs.Below.{any}
 use Rattle.sets.proofs.Tests.{and-left, and-right, any-none, none-any, eqb-of}
-use Rattle.fields.specs.Fields.{coordinateCount, handsetBytes, edgeBytes}
+use Rattle.fields.specs.Fields.{coordinateCount, handsetBytes, edgeBytes, coordinateLimit, inLimits}
 use Rattle.image.specs.Image.{headerOf, handsetCount, edgeCount, handsetRecords, edgeRecords, handsetRecord, coordinateOf, endA, endB}
-use Rattle.image.specs.Questions.{coordinateLimit, limitSquaredMost, reservedValue, countsFit, thresholdsFit, tablesFit, inLimits, outOfLimits, badEnd, isLoop, repeatsEarlier, ask, askEach, askEdges, askRecords, askHeader, askImage, openOf, HeaderAccepted, Accepted}
+use Rattle.image.specs.Questions.{limitSquaredMost, reservedValue, countsFit, thresholdsFit, tablesFit, outOfLimits, badEnd, isLoop, repeatsEarlier, ask, askEach, askEdges, askRecords, askHeader, askImage, openOf, HeaderAccepted, Accepted}
 use Rattle.image.specs.Acceptance.{Acceptance}
 use Rattle.image.specs.declared.Header.{Header}
 use Rattle.image.specs.declared.Refusal.{Refusal}

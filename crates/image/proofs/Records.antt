@@ -28,7 +28,7 @@ pub ends-part : (part : List ℕ) (k : ℕ) → edgeBytes * k + edgeBytes ≤ le
 unfolding endsOf endA endB
 ends-part part k h =
     ap endsOf (part-is part (edgeBytes * k) edgeBytes)
-    ∙ (λ i. record { a = (number-part 2 part (edgeBytes * k) edgeBytes 0 (omega arith) h ∙ ap (number 2 part) (add-zero (edgeBytes * k))) i; b = number-part 2 part (edgeBytes * k) edgeBytes 2 (omega arith) h i })
+    ∙ (λ i. record { a = (number-part 2 part (edgeBytes * k) edgeBytes 0 (omega arith) (omega arith) ∙ ap (number 2 part) (add-zero (edgeBytes * k))) i; b = number-part 2 part (edgeBytes * k) edgeBytes 2 (omega arith) (omega arith) i })
 
 pub within-records : (s : List ℕ) (u v : ℕ)
     → within s u v ≡ leb (distanceBetween (handsetRecord (handsetRecords s) u) (handsetRecord (handsetRecords s) v)) (limitSquared s)

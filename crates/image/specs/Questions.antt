@@ -1,12 +1,10 @@
 -- The ten questions put to an image (paper 01, "Questions put to an image"), and the reader's answer.
 --
---     coordinateLimit          how far from 0 a coordinate may be
 --     limitSquaredMost         the most that G may be
 --     reservedValue            what the reserved bytes, 30 and 31, hold
 --     countsFit h              question 3, of a header: n and m are within their limits
 --     thresholdsFit h          question 5: so are G, p, q and mu
 --     tablesFit h              question 6: the two tables lie past the header and within the image, and do not overlap
---     inLimits x               a coordinate, plus 2 ^ 31, is from -1,000,000 to 1,000,000 (specs/Signed: exactly when the signed number is)
 --     outOfLimits r            question 7 gets a no for a handset's record: some coordinate is out of its limits
 --     badEnd part n k          question 8 gets a no for edge k: an end is no handset
 --     isLoop part k            question 9 gets a no: its two ends are the same
@@ -19,21 +17,18 @@
 --     refusalOf o              the refusal in an answer, for the else of let .. else; number 0 where the image is accepted
 --     HeaderAccepted s         questions 1 to 6 get a yes
 --     Accepted s               every question gets a yes (specs/Acceptance: exactly when the reader answers the header)
-use Prim.Native.Nat.{ℕ, _+_, _*_, _-_, _<_}
+use Prim.Native.Nat.{ℕ, _+_, _*_, _<_}
 use mathlib.Core.Bool.{Bool, true, false, _&&_, _||_, not}
 use mathlib.Core.List.{List}
 use lib.Dec.{T, leb, ltb, eqb}
 use lib.ListN.{length}
 use Rattle.sets.specs.Below.{any, find}
-use Rattle.fields.specs.Fields.{coordinateCount, handsetBytes, edgeBytes}
+use Rattle.fields.specs.Fields.{coordinateCount, handsetBytes, edgeBytes, inLimits}
 use Rattle.image.specs.Image.{headerOf, handsetCount, edgeCount, handsetRecords, edgeRecords, handsetRecord, coordinateOf, endA, endB, joins}
 use Rattle.image.specs.declared.Header.{Header}
 use Rattle.image.specs.declared.Refusal.{Refusal}
 use Rattle.image.specs.declared.Opened.{Opened}
 use Rattle.image.specs.declared.Opened.the-variants.{Site, Refused}
-
-abbrev pub coordinateLimit : ℕ
-coordinateLimit = 1000000
 
 abbrev pub limitSquaredMost : ℕ
 limitSquaredMost = 8000000000000
@@ -51,9 +46,6 @@ abbrev pub tablesFit : Header → Bool
 tablesFit h =
     leb 32 (h .handsets) && (leb 32 (h .edges) && (leb (h .handsets + handsetBytes * h .n) (h .len) && (leb (h .edges + edgeBytes * h .m) (h .len)
     && (leb (h .handsets + handsetBytes * h .n) (h .edges) || leb (h .edges + edgeBytes * h .m) (h .handsets)))))
-
-abbrev pub inLimits : ℕ → Bool
-inLimits x = leb (2147483648 - coordinateLimit) x && leb x (2147483648 + coordinateLimit)
 
 unfoldable pub outOfLimits : List ℕ → Bool
 unfolding any coordinateOf

@@ -13,14 +13,11 @@ ghost use Rattle.sets.specs.Below.{find};
 ghost use Rattle.sets.specs.Bits.{cell, withBit};
 ghost use Rattle.sets.specs.Rows.{Table, Counted};
 ghost use Rattle.fields.specs.Fields.{handsetBytes, edgeBytes};
-ghost use Rattle.image.specs.Image.{headerOf, gap, distanceBetween, endA, endB};
-ghost use Rattle.image.specs.Questions.{countsFit, thresholdsFit, tablesFit, inLimits, outOfLimits, ask, askEdges, askRecords, askHeader, askImage, openOf, refusalOf};
+ghost use Rattle.image.specs.Image.{headerOf, distanceBetween, endA, endB};
+ghost use Rattle.image.specs.Questions.{countsFit, thresholdsFit, tablesFit, outOfLimits, ask, askEdges, askRecords, askHeader, askImage, openOf, refusalOf};
 ghost use Rattle.image.specs.Answers.{openAnswer};
 ghost use Rattle.image.specs.Rows.{Room, Cleared, related, Held, Reading};
 ghost use Rattle.image.specs.Scan.{badRecord, Stand, linked, Added};
-
-// How far from 0 a coordinate may be.
-const COORDINATE_LIMIT: u64 = 1000000;
 
 // The most that G, the square of the near distance, may be.
 const LIMIT_SQUARED_MOST: u64 = 8000000000000;
@@ -123,13 +120,6 @@ fn ask_header(h: Header) -> Opened
     put_question(counts_fit(h), 3, 0, q4)
 }
 
-// A shifted coordinate is no farther from 2 ^ 31 than the limit.
-fn in_limits(x: u64) -> bool
-    ensures { λ r. ⌜ r ≡ inLimits x ⌝ }
-{
-    (2147483648 - COORDINATE_LIMIT <= x) & (x <= 2147483648 + COORDINATE_LIMIT)
-}
-
 // Question 7 of a handset's record: whether a coordinate is out of its limits.
 fn out_of_limits(handset: &[u8]) -> bool
     ensures { λ r. ⌜ r ≡ outOfLimits (now (handset .entry)) ⌝ }
@@ -137,7 +127,7 @@ fn out_of_limits(handset: &[u8]) -> bool
     let mut bad = false;
     let mut i: usize = 0;
     while i < fields::COORDINATES {
-        bad = bad | !in_limits(fields::coordinate(handset, fields::COORDINATE_BYTES * i));
+        bad = bad | !fields::in_limits(fields::coordinate(handset, fields::COORDINATE_BYTES * i));
         i += 1;
     }
     bad
@@ -185,16 +175,6 @@ fn first_bad(question: u32, part: &[u8], count: usize, n: usize) -> usize
     k
 }
 
-// The square of how far apart two shifted coordinates are.
-fn squared_gap(a: u64, b: u64) -> u64
-    requires { ⌜ (a < 4294967296) × (b < 4294967296) ⌝ }
-    ensures { λ r. ⌜ r ≡ gap a b * gap a b ⌝ }
-{
-    let d = (a as i64) - (b as i64);
-    let e = if d < 0 { -d } else { d };
-    (e as u64) * (e as u64)
-}
-
 // Whether two handsets, by their records, are no farther apart than the limit's root. What is left of the limit wraps only where the answer is a no.
 pub fn within(a: &[u8], b: &[u8], limit: u64) -> bool
     ensures { λ r. ⌜ r ≡ leb (distanceBetween (now (a .entry)) (now (b .entry))) limit ⌝ }
@@ -204,7 +184,7 @@ pub fn within(a: &[u8], b: &[u8], limit: u64) -> bool
     let mut i: usize = 0;
     while i < fields::COORDINATES {
         let at = fields::COORDINATE_BYTES * i;
-        let d = squared_gap(fields::coordinate(a, at), fields::coordinate(b, at));
+        let d = fields::squared_gap(fields::coordinate(a, at), fields::coordinate(b, at));
         let covered = d <= room;
         fits = fits & covered;
         room = std::num::wrapping_sub_u64(room, d);

@@ -14,8 +14,11 @@ cast-result c = search needs
 add-result : tie.Need-add-result
 add-result c = search needs
 
+cast-result-2 : tie.Need-cast-result-2
+cast-result-2 c = search needs
+
 returns : tie.Need-returns
 returns c = ap shifted (c .read4 .ensures)
 
 pub coordinate-spec : {M : Type 1} → statement M
-coordinate-spec = tie.close (tie.spec read4-requires cast-result add-result returns)
+coordinate-spec = tie.close (tie.spec read4-requires cast-result add-result cast-result-2 returns)

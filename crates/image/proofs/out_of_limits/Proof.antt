@@ -9,9 +9,9 @@ use mathlib.Core.List.{List}
 use borrow.Author.Needs.{needs}
 use Rattle.sets.specs.Below.{any}
 use Rattle.sets.proofs.Tests.{or-comm}
-use Rattle.fields.specs.Fields.{coordinateCount}
+use Rattle.fields.specs.Fields.{coordinateCount, inLimits}
 use Rattle.image.specs.Image.{coordinateOf}
-use Rattle.image.specs.Questions.{inLimits, outOfLimits}
+use Rattle.image.specs.Questions.{outOfLimits}
 use Rattle.image.proofs.out_of_limits.Statement.{statement}
 use Rattle.image.proofs.out_of_limits.Tie as tie
 

@@ -10,8 +10,8 @@ use lib.Dec.{T, leb, leb→le, le→leb}
 use borrow.Author.Needs.{needs}
 use Rattle.sets.specs.Below.{sum}
 use Rattle.sets.proofs.Tests.{T-true, T-ext, and-make, and-left, and-right}
-use Rattle.fields.specs.Fields.{coordinateCount}
-use Rattle.image.specs.Image.{coordinateOf, gap, gapSquared, distanceBetween}
+use Rattle.fields.specs.Fields.{coordinateCount, gap}
+use Rattle.image.specs.Image.{coordinateOf, gapSquared, distanceBetween}
 use Rattle.image.proofs.within.Statement.{statement}
 use Rattle.image.proofs.within.Tie as tie
 
@@ -35,7 +35,7 @@ left-more total limit room d x next fits l h hd hn e = record {
 }
 
 abbrev Inv-loop : tie.InvT-loop
-Inv-loop a b limit fits₀ room₀ i₀ fits room i = (i ≤ coordinateCount) × Left (sum i (gapSquared a b)) limit fits room
+Inv-loop a b limit fits₀ room₀ i₀ fits room i = (i ≤ coordinateCount) × Left (sum i (gapSquared (coordinateOf a) (coordinateOf b))) limit fits room
 
 abbrev μ-loop : tie.MeasureT-loop
 μ-loop a b limit fits₀ room₀ i₀ fits room i = coordinateCount - i
@@ -45,7 +45,7 @@ abbrev start : tie.At-loop Inv-loop μ-loop → tie.Start Inv-loop μ-loop
 start c = c .before .before .before
 
 abbrev squares : tie.At-loop Inv-loop μ-loop → ℕ → ℕ
-squares c = let s = start c .args in gapSquared (s .a .now) (s .b .now)
+squares c = let s = start c .args in gapSquared (coordinateOf (s .a .now)) (coordinateOf (s .b .now))
 
 abbrev loop : tie.After-squared-gap Inv-loop μ-loop → tie.At-loop Inv-loop μ-loop
 loop c = c .before .before .before .before
@@ -68,7 +68,7 @@ coordinate-requires-2 : tie.Need-coordinate-requires-2 Inv-loop μ-loop
 coordinate-requires-2 c κs = search needs
 
 squared-gap-requires : tie.Need-squared-gap-requires Inv-loop μ-loop
-squared-gap-requires c κs = (omega (arith, c .before .coordinate .ensures), omega (arith, c .coordinate2 .ensures))
+squared-gap-requires c κs = search needs
 
 wrapping-sub-u64-requires : tie.Need-wrapping-sub-u64-requires Inv-loop μ-loop
 wrapping-sub-u64-requires c κs = search needs

@@ -1,8 +1,8 @@
--- `image::in_limits` meets its contract: the code is the definition.
+-- `fields::in_limits` meets its contract: the code is the definition.
 use mathlib.Core.Path.{refl}
 use borrow.Author.Needs.{needs}
-use Rattle.image.proofs.in_limits.Statement.{statement}
-use Rattle.image.proofs.in_limits.Tie as tie
+use Rattle.fields.proofs.in_limits.Statement.{statement}
+use Rattle.fields.proofs.in_limits.Tie as tie
 
 sub-result : tie.Need-sub-result
 sub-result c = search needs

@@ -1,4 +1,4 @@
--- `image::squared_gap` meets its contract. The signed difference is as far from 0 as the gap, and turned round where it is negative it is the gap.
+-- `fields::squared_gap` meets its contract. The signed difference is as far from 0 as the gap, and turned round where it is negative it is the gap.
 use Prim.Native.Nat.{ℕ, zero, suc, _*_, _≤_, _<_}
 use native.Mathlib.Omega.{arith}
 use native.Mathlib.Nat.{zero-add, mul-le-mul}
@@ -11,10 +11,10 @@ use lib.Signed.{mag, ltZ, nonNeg}
 use mir.Syntax.{w64}
 use mir.Val.{Fits, SFits, toZ, ofZ}
 use mir.Facts.{toZ-pos, toZ-ofZ}
-use Rattle.image.specs.Image.{gap}
-use Rattle.image.proofs.Signed.{abs-sub}
-use Rattle.image.proofs.squared_gap.Statement.{statement}
-use Rattle.image.proofs.squared_gap.Tie as tie
+use Rattle.fields.specs.Fields.{gap}
+use Rattle.fields.proofs.Gaps.{abs-sub}
+use Rattle.fields.proofs.squared_gap.Statement.{statement}
+use Rattle.fields.proofs.squared_gap.Tie as tie
 
 mag-le : (z : ℤ) → mag z ≤ natAbs z
 mag-le (pos n) = omega arith
@@ -71,8 +71,8 @@ unfolding gap-of
 e-is c =
     let s = c .before in
     ⊎-elim
-    (λ w. ap (toZ w64) (w .1) ∙ turned-back (s .args .a) (s .args .b) (s .pre .0) (s .pre .1) (w .0 .taken))
-    (λ w. ap (toZ w64) (w .1) ∙ left-is (s .args .a) (s .args .b) (s .pre .0) (s .pre .1) (w .0 .left))
+    (λ w. ap (toZ w64) (w .1) ∙ turned-back (s .args .a) (s .args .b) (s .fits .a .fits) (s .fits .b .fits) (w .0 .taken))
+    (λ w. ap (toZ w64) (w .1) ∙ left-is (s .args .a) (s .args .b) (s .fits .a .fits) (s .fits .b .fits) (w .0 .left))
     (c .if1 .came)
 
 cast-d : tie.Need-cast-d
@@ -82,16 +82,16 @@ cast-d-2 : tie.Need-cast-d-2
 cast-d-2 c = record { sfits = omega arith }
 
 sub-d : tie.Need-sub-d
-sub-d c = d-fits (c .args .a) (c .args .b) (c .pre .0) (c .pre .1)
+sub-d c = d-fits (c .args .a) (c .args .b) (c .fits .a .fits) (c .fits .b .fits)
 
 sub-e : tie.Need-sub-e
 sub-e c =
     let s = c .before in
-    subst (SFits w64) (sym (turned-is (s .args .a) (s .args .b) (s .pre .0) (s .pre .1) (c .if1 .taken))) (gap-fits (s .args .a) (s .args .b) (s .pre .0) (s .pre .1))
+    subst (SFits w64) (sym (turned-is (s .args .a) (s .args .b) (s .fits .a .fits) (s .fits .b .fits) (c .if1 .taken))) (gap-fits (s .args .a) (s .args .b) (s .fits .a .fits) (s .fits .b .fits))
 
 cast-result : tie.Need-cast-result
 unfolding gap-of
-cast-result c = subst (λ (z : ℤ). T (nonNeg z) × Fits w64 (natAbs z)) (sym (e-is c)) (tt, record { fits = omega (arith, c .before .pre .0, c .before .pre .1) })
+cast-result c = subst (λ (z : ℤ). T (nonNeg z) × Fits w64 (natAbs z)) (sym (e-is c)) (tt, record { fits = omega (arith, c .before .fits .a .fits, c .before .fits .b .fits) })
 
 cast-result-2 : tie.Need-cast-result-2
 cast-result-2 c = cast-result c
@@ -100,7 +100,7 @@ mul-result : tie.Need-mul-result
 unfolding gap-of
 mul-result c =
     let s = c .before in
-    subst (λ (z : ℤ). Fits w64 (natAbs z * natAbs z)) (sym (e-is c)) (record { fits = omega (arith, square-fits (s .args .a) (s .args .b) (s .pre .0) (s .pre .1)) })
+    subst (λ (z : ℤ). Fits w64 (natAbs z * natAbs z)) (sym (e-is c)) (record { fits = omega (arith, square-fits (s .args .a) (s .args .b) (s .fits .a .fits) (s .fits .b .fits)) })
 
 returns : tie.Need-returns
 unfolding gap-of
