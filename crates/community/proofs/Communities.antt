@@ -9,7 +9,8 @@ use lib.Dec.{T, T-not, not-T}
 use lib.ListN.{length, getD, length-map}
 use Rattle.sets.specs.Below.{any, find}
 use Rattle.sets.proofs.Tests.{and-make, and-left, and-right, any-make, any-take, find-law, three}
-use Rattle.sets.proofs.Selecting.{mem-select, select-mem, mem-at, map-at, select-passes, select-below, select-ascends}
+use Rattle.sets.proofs.Counting.{count-le}
+use Rattle.sets.proofs.Selecting.{length-select, mem-select, select-mem, mem-at, map-at, select-passes, select-below, select-ascends}
 use Rattle.community.specs.Network.{Network, isCore, Reachable, IsCommunity, reachable, isLeader, leaders, members, communities}
 use Rattle.community.proofs.Reachability.{Reachable-trans, from-below, to-below, reachable-sound, reachable-complete}
 use Rattle.community.specs.Held.{Sound}
@@ -68,6 +69,10 @@ pub length-communities : (g : Network) → length (communities g) ≡ length (le
 unfolding communities
 length-communities g = length-map (leaders g) (members g)
 
+pub communities-few : (g : Network) → length (communities g) ≤ g .n
+unfolding leaders
+communities-few g = omega (arith, length-communities g, length-select (g .n) (isLeader g), count-le (g .n) (isLeader g))
+
 pub community-at : (g : Network) (k : ℕ) → k < length (communities g) → getD (communities g) k [] ≡ members g (leader g k)
 unfolding communities leader
 community-at g k h = map-at (members g) (leaders g) 0 [] k (rw (length-communities g) at h)
@@ -87,9 +92,17 @@ member-reachable g k v h m =
     let r = select-mem (g .n) (reachable g (leader g k)) v (rw (community-at g k h) at m) in
     reachable-sound g (leader g k) v (leader-below g k h) (r .0) (r .1)
 
+pub member-below : (g : Network) (k v : ℕ) → k < length (communities g) → List·Memᴰ v (getD (communities g) k []) → v < g .n
+member-below g k v h m = to-below (member-reachable g k v h m)
+
 pub reachable-member : (g : Network) (k v : ℕ) → k < length (communities g) → Reachable g (leader g k) v → List·Memᴰ v (getD (communities g) k [])
 unfolding members
 reachable-member g k v h r = rw (community-at g k h) (mem-select (g .n) (reachable g (leader g k)) v (to-below r) (reachable-complete g r))
+
+-- each community has a member, its leader
+pub leader-member : {g : Network} → Sound g → (k : ℕ) → k < length (communities g) → List·Memᴰ (leader g k) (getD (communities g) k [])
+leader-member {g} ok k h =
+    reachable-member g k (leader g k) h (core-self ok (leader g k) (leader-below g k h) (leader-core g (leader g k) (leader-leads g k h)))
 
 -- each leader has its place
 pub leader-place : (g : Network) (u : ℕ) → u < g .n → T (isLeader g u) → (k : ℕ) × (k < length (communities g)) × (leader g k ≡ u)

@@ -1,9 +1,7 @@
 -- The text from the plan's tables is the report's: each part of the member table is a community, which lists no handset twice, so that its counts are
 -- the community's tally; and by the member table and the set of cores, the roles are the network's.
 --
---     communities-few            a network has at most as many communities as handsets
 --     groups-few                 an accepted image has at most 512 communities
---     membersOf-tables           the part of the tables for group k is the k-th community
 --     text-is                    the text from the tables is the report's
 --     edges-fit, members-fit     the bounds that the parts of the report ask for
 --     text-held                  the text from the tables as the report's functions leave them
@@ -23,21 +21,20 @@ use Rattle.image.specs.Image.{headerOf, handsetCount, edgeCount, edgeRecords, e
 use Rattle.image.specs.declared.Header.{Header}
 use Rattle.image.proofs.Acceptance.{accepted-fits, length-is, edges-length, ends-below}
 use Rattle.image.proofs.Records as records
-use Rattle.community.specs.Network.{Network, isCore, isLeader, leaders, members, reachable, communities, cores, contains, role}
+use Rattle.community.specs.Network.{Network, isCore, members, reachable, communities, cores, contains, role}
 use Rattle.community.specs.Scores.{pairs, everyEdge, joinedPairs, justOne, leaving}
 use Rattle.community.specs.Site.{network}
 use Rattle.community.specs.Tables.{startTable, memberTable}
-use Rattle.community.proofs.Communities.{leader, length-communities, community-at}
+use Rattle.community.proofs.Communities.{leader, communities-few, community-at}
 use Rattle.community.proofs.Bound.{memberships-bound}
 use Rattle.community.proofs.Multiplicities.{community-apart}
-use Rattle.community.proofs.Tables.{length-startTable, table-community, starts-ordered, starts-within}
 use Rattle.lookup.specs.Lookup.{membersOf}
-use Rattle.lookup.proofs.Agreement.{members-slice}
 use Rattle.scores.specs.Scored.{tallyOf}
 use Rattle.scores.proofs.Tallying.{joined-once}
 use Rattle.text.specs.Text.{bytes}
 use Rattle.text.specs.Text as X
 use Rattle.tallies.specs.Tallies.{edgesIn, isMember, GroupsCounted}
+use Rattle.demands.proofs.Lookup.{table-part}
 use Rattle.totals.specs.declared.Totals.{Totals}
 use Rattle.totals.specs.Totals.{isOutlier, RolesCounted}
 use Rattle.totals.proofs.Plan.{plan-totals, plan-outliers}
@@ -47,23 +44,12 @@ use Rattle.reporting.specs.declared.Head.{Head}
 use Rattle.reporting.proofs.Elements.{held-members}
 
 module _ (g : Network) where
-  pub communities-few : length (communities g) ≤ g .n
-  unfolding leaders
-  communities-few = omega (arith, length-communities g, length-select (g .n) (isLeader g), count-le (g .n) (isLeader g))
-
   members-few : (u : ℕ) → length (members g u) ≤ g .n
   unfolding members
   members-few u = omega (arith, length-select (g .n) (reachable g u), count-le (g .n) (reachable g u))
 
   community-few : (k : ℕ) → k < length (communities g) → length (getD (communities g) k []) ≤ g .n
   community-few k h = rw (community-at g k h) (members-few (leader g k))
-
--- the part of the tables for group k is the k-th list
-pub membersOf-tables : (gs : List (List ℕ)) (x y : List ℕ) (k : ℕ) → k < length gs → membersOf (startTable gs ++ x) (memberTable gs ++ y) k ≡ getD gs k []
-membersOf-tables gs x y k h =
-    members-slice (startTable gs ++ x) (memberTable gs ++ y) k (omega (arith, length-append (startTable gs) x, length-startTable gs))
-    (starts-ordered gs x y k h) (starts-within gs x y k h)
-    ∙ table-community gs x y k h
 
 -- the lines from tables whose parts and tallies are those of the communities
 lines-are : (s : List ℕ) (gs : List (List ℕ)) (starts table ts : List ℕ) (k : ℕ)
@@ -90,7 +76,7 @@ module _ {s : List ℕ} {h : Header} {head : Head} {starts table cores-set : Lis
   part-at k l =
       let gs : List (List ℕ) = communities (network s) in
       rw (held .starts-are, held .members-are)
-      (membersOf-tables gs (drop (length (startTable gs)) (replicate 513 0)) (drop (length (memberTable gs)) (replicate 8704 0)) k (omega (arith, groups-are)))
+      (table-part gs (drop (length (startTable gs)) (replicate 513 0)) (drop (length (memberTable gs)) (replicate 8704 0)) k (omega (arith, groups-are)))
 
   -- every edge is counted, and a member of a group is one of its community
   all-edges : edgesIn (edgeRecords s) ≡ edgeCount s

@@ -1,7 +1,8 @@
 -- `reporting::report_site` meets its contract: the plan of an accepted image fits the two tables, so that it is made, and the answer is the text's.
 use native.Mathlib.Omega.{arith}
 use denote.Ref.{now}
-use Rattle.reporting.proofs.Planning.{plan-held, plan-granted}
+use Rattle.demands.proofs.Lengths.{plan-granted}
+use Rattle.reporting.proofs.Planning.{plan-held}
 use Rattle.reporting.proofs.Answers.{site-answer}
 use borrow.Author.Needs.{needs}
 use Rattle.reporting.proofs.report_site.Statement.{statement}
