@@ -1,7 +1,7 @@
 /* divanegret: the talk-group planner of a site controller, for firmware written in C.
  *
- * docs/SITE-IMAGE.md has the site image byte by byte, the meaning of near, core, group, role and
- * score, and every refusal; this file says how C calls the planner.
+ * docs/SITE-IMAGE.md has the site image byte by byte, the meaning of near, core, group, role,
+ * score and nearest group, and every refusal; this file says how C calls the planner.
  *
  * Every function here is a thin, proved wrapper around the planner's library; its outcome is
  * fixed for every input, byte by byte. The functions
@@ -16,7 +16,8 @@
  * added up, and confirmed by measuring (tests/rust, program stack). It is no part of what is proved,
  * and another compiler or target may need another amount.
  *
- *     dvg_report 91 KiB    dvg_plan, dvg_role 36 KiB    dvg_open, dvg_scores 35 KiB    dvg_members 1 KiB
+ *     dvg_report 91 KiB    dvg_nearest 70 KiB    dvg_plan, dvg_role 36 KiB
+ *     dvg_open, dvg_scores 35 KiB    dvg_members 1 KiB
  *
  * The caller owns everything that it lends, before, during and after the call. A pointer must be
  * valid for the length given with it, also where that length is 0 (any non-null pointer then
@@ -62,6 +63,7 @@ extern "C" {
                                 starts[k + 1] <= the member table's length? */
 #define DVG_LONG_INPUT 15    /* The report program alone: does its input end within 65,536 bytes? */
 #define DVG_TEXT_SHORT 16    /* dvg_report: does the buffer hold the whole text? */
+#define DVG_SPOT 17          /* dvg_nearest: are x and y from -1,000,000 to 1,000,000? */
 
 /* A start table of DVG_STARTS entries and a member table of DVG_MEMBERS entries suffice for every
  * image; for a given one, n + 1 and n + 2 m do. */
@@ -103,6 +105,15 @@ int64_t dvg_scores(const uint8_t *image, size_t image_len, const uint16_t *list,
 /* The count of members of group k, which stand at members + starts[k]. Refusal 14, place 0. */
 int64_t dvg_members(const uint32_t *starts, size_t starts_len, const uint16_t *members,
                     size_t members_len, uint64_t k);
+
+/* The group that stands nearest to the spot x, y, in metres: found + 2 * group + 65536 * squared
+ * distance, the distance from the spot to the group's nearest member. Of groups at the same least
+ * distance it is the one with the lowest number. Found is 1; the result is 0 where the plan has no
+ * groups, and only there. Refusals 1 to 10, 17. */
+int64_t dvg_nearest(const uint8_t *image, size_t image_len, int32_t x, int32_t y);
+#define DVG_FOUND(r) ((int32_t)((r) % 2))
+#define DVG_NEAREST_GROUP(r) ((int32_t)((r) / 2 % 32768))
+#define DVG_SQUARED_DISTANCE(r) ((int64_t)((r) / 65536))
 
 #ifdef __cplusplus
 }

@@ -209,6 +209,46 @@ static void check_scores(const uint8_t *image)
           DVG_NUMBER(scores) == DVG_ENTRY && DVG_PLACE(scores) == 512);
 }
 
+static int stands_nearest(int64_t answer, int32_t group, int64_t distance)
+{
+    return answer >= 0 && DVG_FOUND(answer) == 1 && DVG_NEAREST_GROUP(answer) == group &&
+           DVG_SQUARED_DISTANCE(answer) == distance;
+}
+
+static void check_nearest(const uint8_t *image)
+{
+    uint8_t other[LENGTH];
+    int64_t nearest = dvg_nearest(image, LENGTH, 3, -4);
+    check("of two groups as near to a spot the lower one", stands_nearest(nearest, 0, 25));
+    check("as the header encodes it", nearest == 1 + 65536 * 25);
+    check("a group at the spot itself", dvg_nearest(image, LENGTH, 0, 0) == 1);
+    nearest = dvg_nearest(image, LENGTH, -1000000, 1000000);
+    check("a spot at the limits", stands_nearest(nearest, 0, INT64_C(2000000000000)));
+    check("a spot beyond x", dvg_nearest(image, LENGTH, 1000001, 0) == -DVG_SPOT);
+    check("a spot beyond y", dvg_nearest(image, LENGTH, 0, -1000001) == -DVG_SPOT);
+    check("a spot far beyond", dvg_nearest(image, LENGTH, INT32_MIN, INT32_MAX) == -DVG_SPOT);
+    memcpy(other, image, LENGTH);
+    put(other + HANDSETS_AT + 8 * 6 + 4, 4, 0xffffffff); /* handset 6, of group 1, at (0, -1) */
+    put(other + 16, 8, 1);
+    check("the nearer group has the higher number",
+          stands_nearest(dvg_nearest(other, LENGTH, 3, -4), 1, 18));
+    put(other + 28, 2, 512);
+    check("no groups with mu 512", dvg_nearest(other, LENGTH, 3, -4) == 0);
+    put(other + HANDSETS_AT + 8 * 2, 4, 1000001);
+    nearest = dvg_nearest(other, LENGTH, 1000001, 0);
+    check("a refused image before a spot beyond the limits",
+          DVG_NUMBER(nearest) == DVG_COORDINATE && DVG_PLACE(nearest) == 2);
+    memset(other, 0, 32); /* the empty image: a header, and both tables empty behind it */
+    put(other + 4, 4, 32);
+    put(other + 8, 4, 32);
+    put(other + 12, 4, 32);
+    put(other + 24, 2, 1);
+    put(other + 26, 2, 2);
+    check("no groups without handsets", dvg_nearest(other, 32, 3, -4) == 0);
+    check("a spot beyond the limits is refused there too",
+          dvg_nearest(other, 32, 3, -1000001) == -DVG_SPOT);
+}
+
 int main(void)
 {
     uint8_t image[LENGTH];
@@ -221,6 +261,7 @@ int main(void)
     check_plan(image);
     check_roles(image);
     check_scores(image);
+    check_nearest(image);
     check("the image is as it was", memcmp(image, before, LENGTH) == 0);
     return failures != 0;
 }

@@ -1,10 +1,10 @@
 -- How large the numbers of an answer can be. An accepted image has at most 512 handsets and 4,096 edges, which bounds every count; a refusal is one of the
 -- paper's questions, and its place is an index below those bounds.
 --
---     Small r                        a refusal with a number from 1 to 16 and a place of at most 4,096
+--     Small r                        a refusal with a number from 1 to 17 and a place of at most 4,096
 --     OpenSmall, PlanSmall, ..       an answer whose numbers are small, by its cases
---     open-small, plan-small, role-small, tally-small, looked-small, report-small    those of each call are
-use Prim.Native.Nat.{ℕ, zero, suc, _+_, _-_, _≤_}
+--     open-small, plan-small, role-small, tally-small, looked-small, nearest-small, report-small    those of each call are
+use Prim.Native.Nat.{ℕ, zero, suc, _+_, _*_, _-_, _≤_, _<_}
 use native.Mathlib.Omega.{arith}
 use native.Mathlib.Decide.{decLe}
 use mathlib.Core.Path.{_≡_, refl, sym, subst}
@@ -12,10 +12,12 @@ use mathlib.Core.Logic.{⊎-elim}
 use mathlib.Core.Bool.{Bool, true, false, _&&_, not, cond}
 use mathlib.Core.List.{List, [], _∷_}
 use lib.Dec.{T, leb, ltb, eqb, leb→le, le→leb}
+use lib.IntN.{ℤ}
 use lib.ListN.{length, getD, drop, length-take, length-drop}
 use Rattle.sets.specs.Below.{any, find, count}
 use Rattle.sets.proofs.Tests.{and-left, and-right, or-right, decide, find-law, find-none, not-any}
 use Rattle.sets.proofs.Counting.{bit-le, count-le, sum-le, sum-const}
+use Rattle.fields.specs.Fields.{coordinateCount}
 use Rattle.image.specs.Image.{headerOf, handsetCount, edgeCount, handsetRecords, edgeRecords, handsetRecord, endA, endB}
 use Rattle.image.specs.Questions.{countsFit, thresholdsFit, tablesFit, outOfLimits, badEnd, isLoop, repeatsEarlier, ask, askEach, askEdges, askRecords, askHeader, openOf, Accepted}
 use Rattle.image.specs.Answers.{refusal}
@@ -31,6 +33,7 @@ use Rattle.community.specs.Tables.{memberTable}
 use Rattle.community.specs.declared.Role.{Role}
 use Rattle.community.specs.declared.Role.the-variants.{Core, Border, Outlier}
 use Rattle.community.proofs.Bound.{memberships-bound}
+use Rattle.community.proofs.Communities.{communities-few, member-below}
 use Rattle.tables.specs.Plan.{made}
 use Rattle.tables.specs.declared.Planned.{Planned}
 use Rattle.tables.specs.declared.Planned.the-variants as P
@@ -43,14 +46,19 @@ use Rattle.scores.specs.declared.Tallied.the-variants as T
 use Rattle.lookup.specs.Lookup.{startOf, placed, between, membersOf, lookedOf}
 use Rattle.lookup.specs.declared.Looked.{Looked}
 use Rattle.lookup.specs.declared.Looked.the-variants as L
+use Rattle.points.specs.Points.{pointInLimits}
+use Rattle.points.proofs.Distances.{gapMost, distance-most}
+use Rattle.nearest.specs.Nearest.{nearestOf}
+use Rattle.nearest.specs.declared.Nearest.{Nearest}
+use Rattle.nearest.specs.declared.Nearest.the-variants as N
+use Rattle.nearest.proofs.Meaning.{nearest-means}
 use Rattle.reporting.specs.Report.{reportText, writtenOf, reportFor, reportOf}
 use Rattle.reporting.specs.declared.Reported.{Reported}
 use Rattle.reporting.specs.declared.Reported.the-variants as R
-use Rattle.reporting.proofs.Whole.{communities-few}
 
 pub record Small (r : Refusal) : Type 0 where
   pub some : 1 ≤ r .number
-  pub number : r .number ≤ 16
+  pub number : r .number ≤ 17
   pub place : r .place ≤ 4096
 
 -- ---- the reader
@@ -59,7 +67,7 @@ abbrev pub OpenSmall : Opened → Type 0
 OpenSmall (O.Site h) = (h .n ≤ 512) × (h .m ≤ 4096)
 OpenSmall (O.Refused r) = Small r
 
-ask-small : (b : Bool) (k p : ℕ) (next : Opened) → 1 ≤ k → k ≤ 16 → p ≤ 4096 → (T b → OpenSmall next) → OpenSmall (ask b k p next)
+ask-small : (b : Bool) (k p : ℕ) (next : Opened) → 1 ≤ k → k ≤ 17 → p ≤ 4096 → (T b → OpenSmall next) → OpenSmall (ask b k p next)
 unfolding ask
 ask-small true k p next some few near rest = rest tt
 ask-small false k p next some few near rest = record { some = some; number = few; place = near }
@@ -67,7 +75,7 @@ ask-small false k p next some few near rest = record { some = some; number = few
 find-le : (n : ℕ) (f : ℕ → Bool) → find n f ≤ n
 find-le n f = ⊎-elim (λ t. omega (arith, find-law n f t .0)) (λ t. omega (arith, find-none n f t)) (decide (any n f))
 
-each-small : (n : ℕ) (bad : ℕ → Bool) (k : ℕ) (next : Opened) → 1 ≤ k → k ≤ 16 → n ≤ 4096 → OpenSmall next → OpenSmall (askEach n bad k next)
+each-small : (n : ℕ) (bad : ℕ → Bool) (k : ℕ) (next : Opened) → 1 ≤ k → k ≤ 17 → n ≤ 4096 → OpenSmall next → OpenSmall (askEach n bad k next)
 unfolding askEach
 each-small n bad k next some few near rest = ask-small (not (any n bad)) k (find n bad) next some few (omega (arith, find-le n bad)) (λ t. rest)
 
@@ -91,7 +99,7 @@ open-small s =
     (each-small (h .m) (repeatsEarlier (edgeRecords s)) 10 _ (omega arith) (omega arith) m (n, m))))))))))
 
 -- a refusal with a number of ours, and place 0
-own-small : (k : ℕ) → 1 ≤ k → k ≤ 16 → Small (refusal k)
+own-small : (k : ℕ) → 1 ≤ k → k ≤ 17 → Small (refusal k)
 own-small k some few = record { some = some; number = few; place = omega arith }
 
 -- ---- the plan
@@ -225,7 +233,7 @@ tally-small s l = go (openOf s) refl (open-small s)
     go (O.Site h) e small = entries (h .n) (any (length l) (badEntry (h .n) l)) refl (accepted s h e .0)
     go (O.Refused r) e small = small
 
--- ---- a group's members, and the report
+-- ---- a group's members
 
 abbrev pub LookedSmall : ℕ → Looked → Type 0
 LookedSmall room (L.Found k) = k ≤ room
@@ -244,6 +252,40 @@ looked-small starts table k = go (placed starts (length table) k)
     go : (q : Bool) → LookedSmall (length table) (cond q (L.Found (length (cond q (between a b table) []))) (L.Refused (refusal 14)))
     go true = omega (arith, length-take (b - a) (drop a table), length-drop a table)
     go false = own-small 14 (omega arith) (omega arith)
+
+-- ---- the nearest group
+
+abbrev pub NearestSmall : Nearest → Type 0
+NearestSmall (N.Group k d) = (k < 512) × (d ≤ coordinateCount * gapMost)
+NearestSmall N.NoGroups = 0 ≤ 512
+NearestSmall (N.Refused r) = Small r
+
+pub nearest-small : (s : List ℕ) (p : List ℤ) → length p ≡ coordinateCount → NearestSmall (nearestOf s p)
+unfolding communitiesOf
+nearest-small s p long = go (openOf s) refl (open-small s)
+  where
+    inside : Accepted s → T (pointInLimits p) → NearestSmall (nearestOf s p)
+    inside ok t = of (nearestOf s p) refl
+      where
+        of : (a : Nearest) → nearestOf s p ≡ a → NearestSmall a
+        of (N.Group k d) e =
+            let n = nearest-means .group s p (nearestOf s p) ok t refl k d .0 e in
+            let v = n .stands .0 in
+            let m = n .stands .1 in (
+              omega (arith, m .0, communities-at-most s ok),
+              omega (arith, n .stands .2, distance-most s ok p long t v (member-below (network s) k v (m .0) (m .1))),
+            )
+        of N.NoGroups e = omega arith
+        of (N.Refused r) e = absurd (nearest-means .not-refused s p (nearestOf s p) ok t refl r e)
+
+    go : (o : Opened) → openOf s ≡ o → OpenSmall o → NearestSmall (nearestOf s p)
+    go (O.Site h) e small =
+        let ok : Accepted s = accepted s h e .0 in
+        ⊎-elim (λ t. inside ok t)
+        (λ t. subst NearestSmall (sym (nearest-means .out-of-limits s p (nearestOf s p) ok t refl)) (own-small 17 (omega arith) (omega arith))) (decide (pointInLimits p))
+    go (O.Refused r) e small = subst NearestSmall (sym (nearest-means .image-first s p (nearestOf s p) r e refl)) small
+
+-- ---- the report
 
 abbrev pub ReportSmall : ℕ → Reported → Type 0
 ReportSmall room (R.Written k) = k ≤ room

@@ -33,12 +33,15 @@ use Rattle.lookup.specs.Lookup.{lookedOf}
 use Rattle.lookup.specs.Answers.{lookAnswer}
 use Rattle.lookup.specs.declared.Looked.{Looked}
 use Rattle.lookup.specs.declared.Looked.the-variants as L
+use Rattle.nearest.specs.Nearest.{nearestOf, nearestAnswer}
+use Rattle.nearest.specs.declared.Nearest.{Nearest}
+use Rattle.nearest.specs.declared.Nearest.the-variants as N
 use Rattle.reporting.specs.Report.{reportOf, reportAnswer}
 use Rattle.reporting.specs.declared.Reported.{Reported}
 use Rattle.reporting.specs.declared.Reported.the-variants as R
-use Rattle.divanegret.specs.Codes.{refusalCode, openCode, planCode, kindCode, roleCode, tallyCode, lookedCode, reportCode}
-use Rattle.divanegret.specs.Lossless.{int32, openMacros, planMacros, roleMacros, scoresMacros, itself, Taken, takenBy, siteAnswer, numberOnly, whole, Lossless}
-use Rattle.divanegret.proofs.Bounds.{Small, OpenSmall, PlanSmall, RoleSmall, KnownSmall, TallySmall, LookedSmall, ReportSmall, open-small, plan-small, role-small, tally-small, looked-small, report-small}
+use Rattle.divanegret.specs.Codes.{refusalCode, openCode, planCode, kindCode, roleCode, tallyCode, lookedCode, nearestCode, reportCode}
+use Rattle.divanegret.specs.Lossless.{int32, openMacros, planMacros, roleMacros, scoresMacros, nearestMacros, itself, Taken, takenBy, siteAnswer, numberOnly, whole, Lossless}
+use Rattle.divanegret.proofs.Bounds.{Small, OpenSmall, PlanSmall, RoleSmall, KnownSmall, TallySmall, LookedSmall, NearestSmall, ReportSmall, open-small, plan-small, role-small, tally-small, looked-small, nearest-small, report-small}
 
 -- a number below 2 ^ 31 is its int32_t
 low32 : (k x : ℕ) → k ≡ x → x < 2147483648 → int32 k ≡ pos x
@@ -138,6 +141,20 @@ looked-taken : (x : Looked) (room : ℕ) → room < 9223372036854775808 → Look
 looked-taken (L.Found k) room h small = count-taken k room h small
 looked-taken (L.Refused r) room h small = refusal-taken itself r small
 
+-- whether there is a group, its number and its distance
+nearest-of : (k x y z : ℕ) → k ≡ x + 2 * y + 65536 * z → x < 2 → y < 32768 → takenBy nearestMacros (pos k) ≡ whole (given (x ∷ y ∷ z ∷ []))
+unfolding takenBy
+nearest-of k x y z e h l =
+    let w : k / 2 ≡ y + 32768 * z = omega arith in
+    let m : k / 2 % 32768 ≡ y = omega (arith, w) in
+    let u : k / 65536 ≡ z = omega arith in
+    success (values-3 (low32 (k % 2) x (omega arith) (omega arith)) (low32 (k / 2 % 32768) y m (omega arith)) (ap pos u))
+
+nearest-taken : (x : Nearest) → NearestSmall x → takenBy nearestMacros (nearestCode x) ≡ whole (nearestAnswer x)
+nearest-taken (N.Group k d) small = nearest-of _ 1 k d (omega (arith, small .0, small .1)) (omega arith) (omega (arith, small .0))
+nearest-taken N.NoGroups small = nearest-of 0 0 0 0 (omega arith) (omega arith) (omega arith)
+nearest-taken (N.Refused r) small = refusal-taken nearestMacros r small
+
 report-taken : (x : Reported) (room : ℕ) → room < 9223372036854775808 → ReportSmall room x → takenBy itself (reportCode x) ≡ whole (numberOnly (reportAnswer x))
 report-taken (R.Written k) room h small = count-taken k room h small
 report-taken (R.Refused r) room h small =
@@ -152,5 +169,6 @@ lossless = record {
   role = λ s v. role-taken (knownOf s v) (role-small s v);
   scores = λ s l. tally-taken (talliedOf s l) (tally-small s l);
   members = λ starts table k h. looked-taken (lookedOf starts table k) (length table) h (looked-small starts table k);
+  nearest = λ s p long. nearest-taken (nearestOf s p) (nearest-small s p long);
   report = λ s room h. report-taken (reportOf s room) room h (report-small s room);
 }

@@ -7,6 +7,7 @@
 --     roleCode k        a handset: its role + 2 ^ 32 times its near count
 --     tallyCode t       a list: o + 65,536 t + 2 ^ 36 s
 --     lookedCode l      a group: the count of its members
+--     nearestCode n     the nearest group: 1 + 2 times its number + 65,536 times its squared distance, or 0 where there are no groups
 --     reportCode r      a report: the text's length, or the refusal's number made negative
 --
 -- Where a number might be larger than its share of the code, it is cut off at the end of that share. No call's answer is that large: specs/Lossless.
@@ -27,6 +28,8 @@ use Rattle.reporting.specs.declared.Reported.{Reported}
 use Rattle.reporting.specs.declared.Reported.the-variants as R
 use Rattle.lookup.specs.declared.Looked.{Looked}
 use Rattle.lookup.specs.declared.Looked.the-variants as L
+use Rattle.nearest.specs.declared.Nearest.{Nearest}
+use Rattle.nearest.specs.declared.Nearest.the-variants as N
 
 abbrev pub refusalCode : Refusal → ℤ
 refusalCode r = negℤ (pos (min (r .number) 255 + 256 * min (r .place) 4294967295))
@@ -55,6 +58,11 @@ tallyCode (T.Refused r) = refusalCode r
 abbrev pub lookedCode : Looked → ℤ
 lookedCode (L.Found n) = pos (min n 9223372036854775807)
 lookedCode (L.Refused r) = refusalCode r
+
+abbrev pub nearestCode : Nearest → ℤ
+nearestCode (N.Group k d) = pos (1 + 2 * min k 32767 + 65536 * min d 140737488355327)
+nearestCode N.NoGroups = pos 0
+nearestCode (N.Refused r) = refusalCode r
 
 abbrev pub reportCode : Reported → ℤ
 reportCode (R.Written n) = pos (min n 9223372036854775807)

@@ -1,10 +1,11 @@
 -- The numbers that C gets lose nothing: what the macros of include/divanegret.h take out of a call's number is all of the call's answer. No count, place or
 -- score is cut off, for any image, tables, handset, list or group. A call's number is its answer's code (specs/Codes), by the call's contract; its answer
--- as a number, a place and values is that of the library's own definitions (planAnswer, knownAnswer, tallyAnswer, lookAnswer, reportAnswer).
+-- as a number, a place and values is that of the library's own definitions (planAnswer, knownAnswer, tallyAnswer, lookAnswer, nearestAnswer, reportAnswer).
 --
 --     int32 k                    the (int32_t) of a macro: the low 32 bits of k, as a signed number
 --     openMacros, planMacros     the macros of dvg_open and dvg_plan, in the order of the answer's values
 --     roleMacros, scoresMacros   those of dvg_role and dvg_scores
+--     nearestMacros              those of dvg_nearest
 --     itself                     of dvg_members and dvg_report: the number itself
 --     Taken                      what a caller takes out of a call's number: a number, a place and values, each signed
 --     takenBy macros z           what a caller takes out of the number z: 0 or more is a success, with its values by their macros; less is a refusal, with
@@ -21,6 +22,7 @@ use mathlib.Core.Path.{_≡_}
 use mathlib.Core.List.{List, [], _∷_, map}
 use lib.IntN.{ℤ, pos, negsuc}
 use lib.ListN.{length}
+use Rattle.fields.specs.Fields.{coordinateCount}
 use Rattle.image.specs.Answers.{Answer, refused, given}
 use Rattle.image.specs.Questions.{openOf}
 use Rattle.image.specs.Signed.{signed32}
@@ -32,8 +34,9 @@ use Rattle.scores.specs.Scored.{talliedOf}
 use Rattle.scores.specs.Answers.{tallyAnswer}
 use Rattle.lookup.specs.Lookup.{lookedOf}
 use Rattle.lookup.specs.Answers.{lookAnswer}
+use Rattle.nearest.specs.Nearest.{nearestOf, nearestAnswer}
 use Rattle.reporting.specs.Report.{reportOf, reportAnswer}
-use Rattle.divanegret.specs.Codes.{openCode, planCode, roleCode, tallyCode, lookedCode, reportCode}
+use Rattle.divanegret.specs.Codes.{openCode, planCode, roleCode, tallyCode, lookedCode, nearestCode, reportCode}
 
 -- ---- the macros of a success r
 
@@ -55,6 +58,10 @@ roleMacros = (λ r. int32 (r / 4294967296)) ∷ (λ r. int32 (r % 65536)) ∷ (�
 -- DVG_PAIRS, DVG_TIED_PAIRS and DVG_LEAVING, which stay int64_t
 abbrev pub scoresMacros : List (ℕ → ℤ)
 scoresMacros = (λ r. pos (r / 68719476736)) ∷ (λ r. pos (r / 65536 % 1048576)) ∷ (λ r. pos (r % 65536)) ∷ []
+
+-- DVG_FOUND, DVG_NEAREST_GROUP and DVG_SQUARED_DISTANCE, which stays int64_t
+abbrev pub nearestMacros : List (ℕ → ℤ)
+nearestMacros = (λ r. int32 (r % 2)) ∷ (λ r. int32 (r / 2 % 32768)) ∷ (λ r. pos (r / 65536)) ∷ []
 
 abbrev pub itself : List (ℕ → ℤ)
 itself = pos ∷ []
@@ -83,7 +90,8 @@ whole a = record { number = pos (a .number); place = pos (a .place); values = ma
 
 -- ---- the theorem
 
--- s is an image; a and b are the lengths of a start table and a member table; v is a handset and l a list of handsets
+-- s is an image; a and b are the lengths of a start table and a member table; v is a handset, l a list of handsets and p a point of as many coordinates as a
+-- handset has
 pub record Lossless : Type 0 where
   pub opened : (s : List ℕ) → takenBy openMacros (openCode (openOf s)) ≡ whole (siteAnswer (openOf s))
   pub planned : (s : List ℕ) (a b : ℕ) → takenBy planMacros (planCode (planOf s a b)) ≡ whole (planAnswer (planOf s a b))
@@ -91,5 +99,7 @@ pub record Lossless : Type 0 where
   pub scores : (s l : List ℕ) → takenBy scoresMacros (tallyCode (talliedOf s l)) ≡ whole (tallyAnswer (talliedOf s l))
   pub members : (starts table : List ℕ) (k : ℕ) → length table < 9223372036854775808
       → takenBy itself (lookedCode (lookedOf starts table k)) ≡ whole (lookAnswer (lookedOf starts table k))
+  pub nearest : (s : List ℕ) (p : List ℤ) → length p ≡ coordinateCount
+      → takenBy nearestMacros (nearestCode (nearestOf s p)) ≡ whole (nearestAnswer (nearestOf s p))
   pub report : (s : List ℕ) (room : ℕ) → room < 9223372036854775808
       → takenBy itself (reportCode (reportOf s room)) ≡ whole (numberOnly (reportAnswer (reportOf s room)))

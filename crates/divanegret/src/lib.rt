@@ -3,17 +3,20 @@
 // Each call is that of the library, and a function that makes a number of its answer by the definitions of specs/Codes.
 ghost use mathlib.Core.Path.{_≡_};
 ghost use Prim.Native.Nat.{_+_, _*_, _<_, min};
+ghost use mathlib.Core.List.{[], _∷_};
 ghost use lib.ListN.{length};
 ghost use Rattle.image.specs.Questions.{openOf};
 ghost use Rattle.planner.specs.Plan.{planOf, startsAfter, membersAfter, knownOf};
 ghost use Rattle.scores.specs.Scored.{talliedOf};
 ghost use Rattle.reporting.specs.Report.{reportOf, textAfter};
 ghost use Rattle.lookup.specs.Lookup.{lookedOf};
-ghost use Rattle.divanegret.specs.Codes.{refusalCode, openCode, planCode, kindCode, roleCode, tallyCode, lookedCode, reportCode};
+ghost use Rattle.nearest.specs.Nearest.{nearestOf};
+ghost use Rattle.divanegret.specs.Codes.{refusalCode, openCode, planCode, kindCode, roleCode, tallyCode, lookedCode, nearestCode, reportCode};
 use community::Role;
 use image::Opened;
 use image::Refusal;
 use lookup::Looked;
+use nearest::Nearest;
 use planner::Known;
 use reporting::Reported;
 use scores::Tallied;
@@ -104,6 +107,19 @@ fn looked_code(looked: Looked) -> i64
     }
 }
 
+// The nearest group and its squared distance, 0 where there are no groups, or the refusal.
+fn nearest_code(nearest: Nearest) -> i64
+    ensures { λ z. ⌜ z ≡ nearestCode nearest ⌝ }
+{
+    match nearest {
+        Nearest::Group(k, d) => {
+            (1 + 2 * at_most(k as u64, 32767) + 65536 * at_most(d, 140737488355327)) as i64
+        }
+        Nearest::NoGroups => 0,
+        Nearest::Refused(r) => refusal_code(r),
+    }
+}
+
 // The text's length, or the refusal's number made negative, without its place.
 fn report_code(reported: Reported) -> i64
     ensures { λ z. ⌜ z ≡ reportCode reported ⌝ }
@@ -160,4 +176,12 @@ pub extern "C" fn dvg_members(starts: &[u32], members: &[u16], k: usize) -> i64
     ensures { λ z. ⌜ z ≡ lookedCode (lookedOf (now (starts .entry)) (now (members .entry)) k) ⌝ }
 {
     looked_code(lookup::find_group(starts, members, k))
+}
+
+// The group nearest to a point.
+#[no_mangle]
+pub extern "C" fn dvg_nearest(image: &[u8], x: i32, y: i32) -> i64
+    ensures { λ z. ⌜ z ≡ nearestCode (nearestOf (now (image .entry)) (x ∷ y ∷ [])) ⌝ }
+{
+    nearest_code(nearest::nearest_group(image, x, y))
 }
