@@ -45,6 +45,16 @@ pub struct Scores {
     pub leaving: u64,
 }
 
+/// The x and the y of a point that the call for the nearest community gets, within the limits or not.
+pub type Point = (i32, i32);
+
+/// The community nearest to a point, and the squared distance from the point to its nearest member.
+#[derive(Clone, Copy, Debug, PartialEq, Eq)]
+pub struct Nearest {
+    pub community: u64,
+    pub squared_distance: u64,
+}
+
 /// A planner under test.
 pub trait Planner {
     fn name(&self) -> &'static str;
@@ -64,6 +74,9 @@ pub trait Planner {
 
     /// The count of members of a community, which stand in `members` from its start on.
     fn members(&self, starts: &[u32], members: &[u16], community: u64) -> Result<u64, Refusal>;
+
+    /// None where there are no communities.
+    fn nearest(&self, image: &[u8], point: Point) -> Result<Option<Nearest>, Refusal>;
 
     /// The text's length, or the number of the refusal alone, as the C call answers.
     fn report(&self, image: &[u8], text: &mut [u8]) -> Result<u64, u64>;

@@ -7,9 +7,9 @@ use std::io::Write;
 use std::path::Path;
 use std::process::{Command, Stdio};
 
-use crate::calls::{Counts, Opened, Planner, Refusal, Role};
-use crate::reference::{self, Findings};
-use crate::sites::{self, Rng, MOST_HANDSETS};
+use crate::calls::{Counts, Nearest, Opened, Planner, Point, Refusal, Role};
+use crate::reference::{self, Community, Findings};
+use crate::sites::{self, Rng, Tables, MOST_COORDINATE, MOST_HANDSETS};
 
 /// Agreement, or what differs.
 pub type Outcome = Result<(), String>;
@@ -125,6 +125,9 @@ fn refused(planner: &dyn Planner, image: &[u8], refusal: Refusal, rng: &mut Rng)
     let mut list = vec![0; rng.pick(&[0, 1, 9, 512, 513])];
     list.iter_mut().for_each(|entry| *entry = rng.word() as u16);
     same("scores", planner.scores(image, &list), Err(refusal))?;
+    for point in [point_inside(rng), point_outside(rng)] {
+        same(format_args!("nearest to {point:?}"), planner.nearest(image, point), Err(refusal))?;
+    }
     let mut text = lent_text(rng.pick(&[0, 1, 100, 65_536]));
     same("report", planner.report(image, text.part()), Err(refusal.number))?;
     holds("report wrote before a refusal", text.holds(&[]))
@@ -149,6 +152,7 @@ fn accepted(
     let (starts, members) = (found.start_table(), found.member_table());
     (0..starts.len() as u64 + 2).try_for_each(|k| lookup(planner, &starts, &members, k))?;
     hostile_lookups(planner, &members, rng)?;
+    nearest(planner, image, found, rng)?;
     reports(planner, image, &reference::text(found), rng)
 }
 
@@ -262,6 +266,132 @@ fn hostile_lookups(planner: &dyn Planner, members: &[u16], rng: &mut Rng) -> Out
     Ok(())
 }
 
+// ---------------------------------------------------------------- the nearest community
+
+/// The community nearest to each of many points, as the reference has it, and as the planner's own plan
+/// of the image says.
+fn nearest(planner: &dyn Planner, image: &[u8], found: &Findings, rng: &mut Rng) -> Outcome {
+    let (sets, _) = plan_sets(planner, image, (513, 8704))?;
+    let positions = positions(image);
+    for point in points(found, rng) {
+        let what = format_args!("nearest to {point:?}");
+        let got = planner.nearest(image, point);
+        same(what, got, found.nearest(point))?;
+        if let Ok(answer) = got {
+            let right = is_nearest(&sets, &positions, point, answer);
+            holds(format_args!("{what}: {answer:?} is not"), right)?;
+        }
+    }
+    Ok(())
+}
+
+/// Whether an answer is right for a plan's sets: the named one is the first that has a member at just that
+/// distance, and no member of any is nearer. None is right where there are no sets, and only there.
+fn is_nearest(
+    sets: &[Vec<u16>],
+    positions: &[Point],
+    (x, y): Point,
+    answer: Option<Nearest>,
+) -> bool {
+    let Some(Nearest { community, squared_distance }) = answer else {
+        return sets.is_empty();
+    };
+    let distance = |&member: &u16| {
+        let (other_x, other_y) = positions[usize::from(member)];
+        let (dx, dy) = (i128::from(x) - i128::from(other_x), i128::from(y) - i128::from(other_y));
+        dx * dx + dy * dy
+    };
+    let at = |set: &Vec<u16>| set.iter().any(|u| distance(u) == squared_distance.into());
+    let nearer = |set: &Vec<u16>| set.iter().any(|u| distance(u) < squared_distance.into());
+    sets.iter().position(at) == Some(community as usize) && !sets.iter().any(nearer)
+}
+
+/// The positions in an accepted image.
+fn positions(image: &[u8]) -> Vec<Point> {
+    let (records, _) = image[Tables::of(image).handset_bytes()].as_chunks::<8>();
+    let position = |&[a, b, c, d, e, f, g, h]: &[u8; 8]| {
+        (i32::from_le_bytes([a, b, c, d]), i32::from_le_bytes([e, f, g, h]))
+    };
+    records.iter().map(position).collect()
+}
+
+/// Coordinates beyond the limits.
+const BEYOND: [i32; 4] = [MOST_COORDINATE + 1, -MOST_COORDINATE - 1, i32::MAX, i32::MIN];
+
+/// Points to ask for: anywhere, near handsets and on them, on borders that communities share, as far from
+/// one community as from another, at the limits, and beyond them.
+pub fn points(found: &Findings, rng: &mut Rng) -> Vec<Point> {
+    let far = MOST_COORDINATE;
+    let mut points = vec![point_inside(rng), (far, far), (far, -far), (-far, far), (-far, -far)];
+    for limit in [far, -far].into_iter().chain(BEYOND) {
+        let (x, y) = point_inside(rng);
+        points.extend([(limit, y), (x, limit)]);
+    }
+    points.push((rng.pick(&BEYOND), rng.pick(&BEYOND)));
+    let positions: Vec<Point> =
+        found.site().positions.iter().map(|&(x, y)| (x as i32, y as i32)).collect();
+    if !positions.is_empty() {
+        for _ in 0..4 {
+            let ((x, y), reach) = (rng.pick(&positions), rng.pick(&[1, 8, 90]));
+            let mut near = |z: i32| (z + rng.between(-reach, reach)).clamp(-far, far);
+            points.extend([(x, y), (near(x), near(y))]);
+        }
+    }
+    let mut members = found.member_table();
+    members.sort_unstable();
+    let shared: Vec<u16> = members.windows(2).filter(|w| w[0] == w[1]).map(|w| w[0]).collect();
+    if !shared.is_empty() {
+        points.push(positions[usize::from(rng.pick(&shared))]);
+    }
+    (0..4).for_each(|_| points.extend(equidistant(found, &positions, rng)));
+    points
+}
+
+/// Points as far from a member of one community as from a member of another, where they have whole numbers:
+/// halfway between the two, and a third corner of the square on whose diagonal they stand. Half of the time
+/// the two are close to each other, so that hardly a member is nearer to the point.
+fn equidistant(found: &Findings, positions: &[Point], rng: &mut Rng) -> Vec<Point> {
+    let communities = found.communities();
+    if communities.len() < 2 {
+        return Vec::new();
+    }
+    let chosen = rng.below(communities.len());
+    let members = |communities: &[Community]| -> Vec<Point> {
+        let members = communities.iter().flat_map(|community| &community.members);
+        members.map(|&u| positions[u]).collect()
+    };
+    let these = members(&communities[chosen..=chosen]);
+    let others = [members(&communities[..chosen]), members(&communities[chosen + 1..])].concat();
+    let (mut here, mut there) = (rng.pick(&these), rng.pick(&others));
+    if rng.one_in(2) {
+        there = nearest_to(here, &others);
+        here = nearest_to(there, &these);
+    }
+    let (dx, dy) = (there.0 - here.0, there.1 - here.1);
+    let (x, y) = (here.0 + there.0, here.1 + there.1);
+    let doubled = [(x, y), (x - dy, y + dx)];
+    let whole = doubled.into_iter().filter(|(x, y)| x % 2 == 0 && y % 2 == 0);
+    whole.map(|(x, y)| (x / 2, y / 2)).collect()
+}
+
+fn nearest_to(point: Point, others: &[Point]) -> Point {
+    let distance = |other: &&Point| sites::squared_distance(point, **other);
+    *others.iter().min_by_key(distance).expect("a community has members")
+}
+
+/// Both coordinates within the limits.
+fn point_inside(rng: &mut Rng) -> Point {
+    let mut coordinate = || rng.between(-MOST_COORDINATE, MOST_COORDINATE);
+    (coordinate(), coordinate())
+}
+
+/// One coordinate beyond the limits, or both.
+fn point_outside(rng: &mut Rng) -> Point {
+    let (x, y) = point_inside(rng);
+    let beyond = rng.pick(&BEYOND);
+    rng.pick(&[(beyond, y), (x, beyond), (beyond, beyond)])
+}
+
 /// Reports into buffers of just the text's length, longer, one short and empty.
 fn reports(planner: &dyn Planner, image: &[u8], text: &[u8], rng: &mut Rng) -> Outcome {
     let length = text.len();
@@ -315,21 +445,33 @@ fn numbered_back(
     planner: &dyn Planner,
     image: &[u8],
     back: &[u16],
+    lengths: (usize, usize),
+) -> Result<(Vec<Vec<u16>>, Counts), String> {
+    let (mut sets, counts) = plan_sets(planner, image, lengths)?;
+    for set in &mut sets {
+        set.iter_mut().for_each(|member| *member = back[usize::from(*member)]);
+        set.sort_unstable();
+    }
+    sets.sort_unstable();
+    Ok((sets, counts))
+}
+
+/// The sets of a plan, with its counts.
+fn plan_sets(
+    planner: &dyn Planner,
+    image: &[u8],
     (starts_len, members_len): (usize, usize),
 ) -> Result<(Vec<Vec<u16>>, Counts), String> {
     let (mut starts, mut members) = (vec![0; starts_len], vec![0; members_len]);
     let counts = planner
         .plan(image, &mut starts, &mut members)
-        .map_err(|refusal| format!("a renumbering was refused: {refusal:?}"))?;
-    let mut sets = Vec::new();
-    for k in 0..counts.communities {
-        let part = reference::members(&starts, &members, k)
-            .map_err(|_| format!("the plan's start table {starts:?} is not one"))?;
-        let mut set: Vec<u16> = part.iter().map(|&member| back[usize::from(member)]).collect();
-        set.sort_unstable();
-        sets.push(set);
-    }
-    sets.sort_unstable();
+        .map_err(|refusal| format!("the plan was refused: {refusal:?}"))?;
+    let set = |k| {
+        let part = reference::members(&starts, &members, k);
+        part.map(<[u16]>::to_vec)
+            .map_err(|_| format!("the plan's start table {starts:?} is not one"))
+    };
+    let sets = (0..counts.communities).map(set).collect::<Result<Vec<Vec<u16>>, String>>()?;
     Ok((sets, counts))
 }
 
@@ -370,6 +512,9 @@ mod tests {
         CountsNoMultiple,
         IgnoresRepeats,
         TestsNumberItself,
+        TakesLastOfEquals,
+        RefusesTheLimit,
+        TestsPointBeforeImage,
     }
 
     impl Planner for Mistake {
@@ -427,6 +572,24 @@ mod tests {
             Fast.members(starts, members, k)
         }
 
+        fn nearest(&self, image: &[u8], point: Point) -> Result<Option<Nearest>, Refusal> {
+            let most = point.0.unsigned_abs().max(point.1.unsigned_abs());
+            let refuses = match self {
+                Mistake::RefusesTheLimit => most == MOST_COORDINATE as u32,
+                Mistake::TestsPointBeforeImage => most > MOST_COORDINATE as u32,
+                _ => false,
+            };
+            if refuses {
+                return Err(Refusal { number: 17, place: 0 });
+            }
+            let nearest = Fast.nearest(image, point)?;
+            // All handsets of site S are at one place.
+            Ok(nearest.map(|nearest| match self {
+                Mistake::TakesLastOfEquals => Nearest { community: 1, ..nearest },
+                _ => nearest,
+            }))
+        }
+
         fn report(&self, image: &[u8], text: &mut [u8]) -> Result<u64, u64> {
             let length = Fast.report(image, text)?;
             if *self == Mistake::CountsNoMultiple {
@@ -460,9 +623,30 @@ mod tests {
             CountsNoMultiple,
             IgnoresRepeats,
             TestsNumberItself,
+            TakesLastOfEquals,
+            RefusesTheLimit,
+            TestsPointBeforeImage,
         ];
         for mistake in mistakes {
             assert!(outcome(mistake).is_err(), "{mistake:?} was not noticed");
         }
+    }
+
+    #[test]
+    fn nearest_of_a_few_sets() {
+        let sets = [vec![2, 3], vec![0, 1, 2]];
+        let positions = [(-1_000_000, 1_000_000), (0, 1), (3, 1), (3, 7), (3, 2)];
+        let right = |point, community, squared_distance| {
+            is_nearest(&sets, &positions, point, Some(Nearest { community, squared_distance }))
+        };
+        assert!(right((3, 3), 0, 4) && right((3, 1), 0, 0) && right((1, 1), 1, 1));
+        assert!(right((-1_000_000, 1_000_000), 1, 0));
+        // The other group, another distance, a member that is not the nearest, no group of that number.
+        assert!(!right((3, 3), 1, 4) && !right((3, 3), 0, 5) && !right((3, 3), 0, 16));
+        assert!(!right((1, 1), 0, 4) && !right((1, 1), 1, 0) && !right((1, 1), 2, 1));
+        // Handset 4 is in no group.
+        assert!(!right((3, 2), 0, 0) && right((3, 2), 0, 1));
+        assert!(!is_nearest(&sets, &positions, (3, 3), None));
+        assert!(is_nearest(&[], &positions, (3, 3), None));
     }
 }

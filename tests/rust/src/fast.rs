@@ -12,7 +12,7 @@
 //!
 //! Every pass is linear in the handsets and ties, times the words of a row.
 
-use crate::calls::{Counts, Opened, Planner, Record, Refusal, Role, Scores};
+use crate::calls::{Counts, Nearest, Opened, Planner, Point, Record, Refusal, Role, Scores};
 
 const HEADER: usize = 32;
 const MOST_HANDSETS: usize = 512;
@@ -33,6 +33,11 @@ struct Image<'a> {
     p: u64,
     q: u64,
     mu: u16,
+}
+
+/// Beyond the limits of a coordinate.
+fn outside(coordinate: i32) -> bool {
+    coordinate.wrapping_add(MOST_COORDINATE) as u32 > 2 * MOST_COORDINATE as u32
 }
 
 /// A tie record as it stands: the first end in the low half.
@@ -115,9 +120,6 @@ impl<'a> Image<'a> {
 
     /// Question 7. The whole table is tested without a branch; only a fault is searched for.
     fn check_positions(&self) -> Result<(), Refusal> {
-        let outside = |coordinate: i32| {
-            coordinate.wrapping_add(MOST_COORDINATE) as u32 > 2 * MOST_COORDINATE as u32
-        };
         let bad = |[x, y]: [i32; 2]| outside(x) | outside(y);
         if self.positions().fold(false, |fault, position| fault | bad(position)) {
             return refuse(7, self.positions().position(bad).unwrap_or(0));
@@ -452,6 +454,46 @@ fn role<const W: usize, const R: usize>(image: &Image, handset: u64) -> Result<R
     Ok(Record { near, role })
 }
 
+/// The members of all communities are looked at together, each handset once; then the first community
+/// is searched for that has one of those at the least distance.
+fn nearest<const W: usize, const R: usize>(
+    image: &Image,
+    (x, y): Point,
+) -> Result<Option<Nearest>, Refusal> {
+    let mut network = Network::<W, R>::new();
+    network.read(image)?;
+    if outside(x) | outside(y) {
+        return refuse(17, 0);
+    }
+    network.keep_near();
+    let found = network.communities(image);
+    if found.count == 0 {
+        return Ok(None);
+    }
+    let mut members = [0; W];
+    for set in found.sets(&network) {
+        (0..W).for_each(|i| members[i] |= set[i]);
+    }
+    let square = |difference: i32| i64::from(difference) * i64::from(difference);
+    let mut distances = [i64::MAX; R];
+    let mut least = i64::MAX;
+    for (u, [other_x, other_y]) in image.positions().enumerate() {
+        let distance = square(x - other_x) + square(y - other_y);
+        // All ones for an outlier.
+        let mask = i64::from(has(&members, u)) - 1;
+        distances[u & (R - 1)] = distance | (mask & i64::MAX);
+        least = least.min(distances[u & (R - 1)]);
+    }
+    let mut at_least_distance = [0; W];
+    for (u, &distance) in distances.iter().enumerate() {
+        at_least_distance[word_of::<W>(u)] |= u64::from(distance == least) << (u % 64);
+    }
+    let meets =
+        |set: &[u64; W]| (0..W).fold(0, |all, i| all | (set[i] & at_least_distance[i])) != 0;
+    let community = found.sets(&network).position(meets).unwrap_or(0) as u64;
+    Ok(Some(Nearest { community, squared_distance: least as u64 }))
+}
+
 /// One pass over the list, one over the ties; t is the sum over the ties of the places of one end
 /// times the places of the other.
 fn scores(image: &Image, list: &[u16]) -> Result<Scores, Refusal> {
@@ -767,6 +809,11 @@ impl Planner for Fast {
         Ok(u64::from(end - first))
     }
 
+    fn nearest(&self, image: &[u8], point: Point) -> Result<Option<Nearest>, Refusal> {
+        let image = Image::read(image)?;
+        by_width!(image, nearest(&image, point))
+    }
+
     fn report(&self, image: &[u8], text: &mut [u8]) -> Result<u64, u64> {
         let whole = Image::read(image).and_then(|image| by_width!(image, report(&image, text)));
         whole.map(|length| length as u64).map_err(|refusal| refusal.number)
@@ -789,7 +836,7 @@ mod tests {
             agree(&site.image(Layout::any(&mut rng), &mut rng));
         }
         let full = [sites::two_hubs(), sites::shared_borders(), sites::one_clique()];
-        for site in [sites::hub(), sites::totals()].into_iter().chain(full) {
+        for site in [sites::apart(), sites::hub(), sites::totals()].into_iter().chain(full) {
             agree(&site.plain_image());
         }
     }
@@ -814,5 +861,8 @@ mod tests {
             (planner.report(image, &mut text), text)
         };
         assert_eq!(report(&Fast), report(&Reference));
+        for point in [(0, 0), (1_000_000, -1_000_000), (-3, 1_000_001)] {
+            assert_eq!(Fast.nearest(image, point), Reference.nearest(image, point));
+        }
     }
 }

@@ -2,7 +2,7 @@
 //! functions that decode the answers. Nothing checks these declarations against the library, so they
 //! are kept beside the header, in its order.
 
-use crate::calls::{Counts, Opened, Planner, Record, Refusal, Role, Scores};
+use crate::calls::{Counts, Nearest, Opened, Planner, Point, Record, Refusal, Role, Scores};
 
 /// The header's functions.
 mod c {
@@ -36,6 +36,7 @@ mod c {
             members_len: usize,
             k: u64,
         ) -> i64;
+        pub fn dvg_nearest(image: *const u8, image_len: usize, x: i32, y: i32) -> i64;
     }
 }
 
@@ -68,6 +69,17 @@ fn decode_record(answer: u64) -> Record {
 fn decode_scores(answer: u64) -> Scores {
     let (leaving, rest) = split(answer);
     Scores { pairs: rest / 1_048_576, tied_pairs: rest % 1_048_576, leaving }
+}
+
+/// Whether there is a community, its number, and the squared distance. A number or a distance where
+/// there is none is an error.
+fn decode_nearest(answer: u64) -> Option<Nearest> {
+    let (low, squared_distance) = split(answer);
+    match (low % 2, low / 2, squared_distance) {
+        (1, community, squared_distance) => Some(Nearest { community, squared_distance }),
+        (_, 0, 0) => None,
+        _ => panic!("no community, yet the answer {answer}"),
+    }
 }
 
 /// The proved planner behind the trait.
@@ -129,6 +141,11 @@ impl Planner for Proved {
         })
     }
 
+    fn nearest(&self, image: &[u8], (x, y): Point) -> Result<Option<Nearest>, Refusal> {
+        let answer = unsafe { c::dvg_nearest(image.as_ptr(), image.len(), x, y) };
+        decode(answer).map(decode_nearest)
+    }
+
     fn report(&self, image: &[u8], text: &mut [u8]) -> Result<u64, u64> {
         let answer =
             unsafe { c::dvg_report(image.as_ptr(), image.len(), text.as_mut_ptr(), text.len()) };
@@ -144,13 +161,31 @@ mod tests {
 
     #[test]
     fn named_sites_equal_the_reference() {
-        let untied = [sites::untied(0, 0), sites::untied(1, 1)];
+        let untied = [sites::untied(0, 0), sites::untied(1, 1), sites::apart()];
         let tied = [sites::site_s(4), sites::hub(), sites::totals(), sites::two_hubs()];
         for site in untied.into_iter().chain(tied) {
             let image = site.plain_image();
             assert_eq!(compare::image(&Proved, &image, &mut Rng::new(1)), Ok(()));
             assert_eq!(compare::renumbering(&Proved, &image, &mut Rng::new(1)), Ok(()));
         }
+    }
+
+    /// The numbers that docs/SITE-IMAGE.md has.
+    #[test]
+    fn nearest_as_documented() {
+        let nearest =
+            |image: &[u8], x, y| unsafe { c::dvg_nearest(image.as_ptr(), image.len(), x, y) };
+        let mut s = sites::site_s(4);
+        assert_eq!(nearest(&s.plain_image(), 3, -4), 1_638_401);
+        s.gamma_squared = 1;
+        s.positions[6] = (0, -1);
+        assert_eq!(nearest(&s.plain_image(), 3, -4), 1_179_651);
+        let apart = sites::apart().plain_image();
+        assert_eq!((nearest(&apart, 0, 0), nearest(&apart, 1, 0)), (131_073, 65_539));
+        assert_eq!(nearest(&apart, 1_000_000, -1_000_000), 131_072_000_000_131_073);
+        let empty = sites::untied(0, 0).plain_image();
+        assert_eq!((nearest(&empty, 0, -1_000_000), nearest(&empty, 0, -1_000_001)), (0, -17));
+        assert_eq!((nearest(&empty, 1_000_001, 0), nearest(&[], 1_000_001, 0)), (-17, -1));
     }
 
     #[test]
@@ -163,5 +198,9 @@ mod tests {
         assert_eq!(decode_record(near + 2), Record { near: 4, role: Role::Outlier });
         let scores = Scores { pairs: 130_816, tied_pairs: 4000, leaving: 4096 };
         assert_eq!(decode_scores(4096 + 65_536 * 4000 + 68_719_476_736 * 130_816), scores);
+        let nearest = Nearest { community: 511, squared_distance: 8_000_000_000_000 };
+        assert_eq!(decode_nearest(1 + 2 * 511 + 65_536 * 8_000_000_000_000), Some(nearest));
+        let here = Nearest { community: 0, squared_distance: 0 };
+        assert_eq!((decode_nearest(1), decode_nearest(0)), (Some(here), None));
     }
 }

@@ -5,7 +5,7 @@
 
 use std::collections::{BTreeSet, HashMap, HashSet, VecDeque};
 
-use crate::calls::{Counts, Opened, Planner, Record, Refusal, Role, Scores};
+use crate::calls::{Counts, Nearest, Opened, Planner, Point, Record, Refusal, Role, Scores};
 
 const HEADER: usize = 32;
 const MOST_HANDSETS: usize = 512;
@@ -242,6 +242,20 @@ impl Findings {
         scores.leaving = self.site.ties.iter().filter(leaving).count() as u64;
         Ok(scores)
     }
+
+    /// The least of all pairs of a member's squared distance and its community's number, or refusal 17.
+    pub fn nearest(&self, (x, y): Point) -> Result<Option<Nearest>, Refusal> {
+        let point = (x.into(), y.into());
+        ask(17, in_area(point.0) && in_area(point.1))?;
+        let mut pairs = Vec::new();
+        for (number, community) in self.communities.iter().enumerate() {
+            for &member in &community.members {
+                pairs.push((squared_distance(point, self.site.positions[member]), number as u64));
+            }
+        }
+        let least = pairs.into_iter().min();
+        Ok(least.map(|(squared_distance, community)| Nearest { community, squared_distance }))
+    }
 }
 
 /// The geo-social neighbourhood of each handset, itself included (3.2).
@@ -453,6 +467,10 @@ impl Planner for Reference {
 
     fn members(&self, starts: &[u32], table: &[u16], community: u64) -> Result<u64, Refusal> {
         members(starts, table, community).map(|part| part.len() as u64)
+    }
+
+    fn nearest(&self, image: &[u8], point: Point) -> Result<Option<Nearest>, Refusal> {
+        Findings::of(open(image)?).nearest(point)
     }
 
     fn report(&self, image: &[u8], text: &mut [u8]) -> Result<u64, u64> {
@@ -672,6 +690,41 @@ cores 2 borders 5 outliers 0 multiple 1
         assert_eq!(found.scores(&[0; 512]), scores(130_816, 0, 2));
         assert_eq!(found.scores(&[0; 513]), Err(refusal(13, 512)));
         assert_eq!(found.scores(&[0, 7, 8]), Err(refusal(13, 1)));
+    }
+
+    #[test]
+    fn nearest_group_of_a_point() {
+        let nearest =
+            |community, squared_distance| Ok(Some(Nearest { community, squared_distance }));
+        let s = findings(&sites::site_s(4));
+        assert_eq!(s.nearest((3, -4)), nearest(0, 25));
+        let apart = findings(&sites::apart());
+        assert_eq!(apart.nearest((0, 0)), nearest(0, 2));
+        assert_eq!(apart.nearest((1, 0)), nearest(1, 1));
+        assert_eq!(apart.nearest((1_000_000, -1_000_000)), nearest(0, 2_000_000_000_002));
+        assert_eq!(apart.nearest((-1_000_000, 1_000_000)), nearest(0, 2_000_000_000_002));
+        // The shared border of two groups; a border that is nearer than every core; an outlier.
+        let mut site = sites::site_s(4);
+        site.gamma_squared = 100;
+        site.positions[3] = (0, 5);
+        site.positions[6] = (0, 9);
+        assert_eq!(findings(&site).nearest((0, 6)), nearest(0, 1));
+        assert_eq!(findings(&site).nearest((0, 8)), nearest(1, 1));
+        let site = sites::Site { epsilon: (3, 5), mu: 3, ..site };
+        assert_eq!(findings(&site).nearest((0, 5)), nearest(1, 16));
+    }
+
+    #[test]
+    fn nearest_where_there_are_no_groups_or_limits_are_passed() {
+        for site in [sites::untied(0, 0), sites::untied(1, 2)] {
+            let found = findings(&site);
+            assert_eq!(found.nearest((0, -1_000_000)), Ok(None));
+            for beyond in [1_000_001, -1_000_001, i32::MAX, i32::MIN] {
+                assert_eq!(found.nearest((beyond, 0)), Err(refusal(17, 0)));
+                assert_eq!(found.nearest((0, beyond)), Err(refusal(17, 0)));
+            }
+        }
+        assert_eq!(Reference.nearest(&[], (1_000_001, 0)), Err(refusal(1, 0)));
     }
 
     #[test]

@@ -224,6 +224,11 @@ pub fn untied(handsets: usize, mu: u16) -> Site {
     }
 }
 
+/// Two handsets that are not tied, at (-1, -1) and (1, 1): a community each.
+pub fn apart() -> Site {
+    Site { positions: vec![(-1, -1), (1, 1)], ..untied(2, 1) }
+}
+
 /// Handset 0 is a border in five communities: five cliques of seven, each with one handset tied to it.
 /// It is alike to six handsets, itself among them, one short of mu. The last handset is tied to it from
 /// too far away and is an outlier.
@@ -559,7 +564,7 @@ fn any_gamma_squared(site: &Site, rng: &mut Rng) -> u64 {
     }
 }
 
-fn squared_distance(one: (i32, i32), other: (i32, i32)) -> u64 {
+pub fn squared_distance(one: (i32, i32), other: (i32, i32)) -> u64 {
     let square = |difference: u32| u64::from(difference) * u64::from(difference);
     square(one.0.abs_diff(other.0)) + square(one.1.abs_diff(other.1))
 }
@@ -610,9 +615,12 @@ fn relabel(site: &mut Site, rng: &mut Rng) {
 #[cfg(test)]
 mod tests {
     use super::*;
-    use crate::calls::Role;
+    use crate::calls::{Point, Role};
     use crate::compare;
+    use crate::damage;
     use crate::reference::{self, Findings, Reference};
+    use std::cmp::Reverse;
+    use std::collections::HashMap;
 
     fn any_sites(count: u64) -> impl Iterator<Item = (Site, Vec<u8>)> {
         (0..count).map(|seed| {
@@ -713,5 +721,82 @@ mod tests {
             seen.iter_mut().zip(differs).for_each(|(count, has)| *count += u64::from(has));
         }
         assert!(seen.iter().all(|&count| 50 * count >= SITES), "{seen:?}");
+    }
+
+    /// A community that is chosen in a wrong way is another one than the nearest, and limits that are tested
+    /// in a wrong way refuse another point, on one site of fifty at least with the points asked for there.
+    #[test]
+    fn sites_tell_wrong_nearest_communities() {
+        const SITES: u64 = 400;
+        let mut seen = [0; 13];
+        for (seed, (_, image)) in (0..).zip(any_sites(SITES)) {
+            let mut rng = Rng::new(seed);
+            let found = Findings::of(reference::open(&image).expect("accepted"));
+            let points = compare::points(&found, &mut rng);
+            let chosen = |choose: &dyn Fn(Point) -> Option<(u64, u64)>| {
+                let mut nearest = points.iter().map(|&point| (point, found.nearest(point)));
+                nearest.any(|(point, nearest)| {
+                    nearest.is_ok_and(|nearest| {
+                        nearest.map(|nearest| nearest.community) != choose(point).map(|(_, k)| k)
+                    })
+                })
+            };
+            let by = |far: fn(u64, u64) -> u64, looked_at: &dyn Fn(usize, u64) -> bool| {
+                chosen(&|point| members(&found, point, far, looked_at).min())
+            };
+            let community = |k: u64| &found.communities()[k as usize];
+            let mut last = HashMap::new();
+            (0..).zip(found.communities()).for_each(|(k, community)| {
+                last.extend(community.members.iter().map(|&u| (u, k)));
+            });
+            let square = |dx: u64, dy: u64| dx * dx + dy * dy;
+            let anyone = &|_, _| true;
+            let refused = |limits: fn(u32, u32) -> bool| {
+                points.iter().any(|&(x, y)| {
+                    found.nearest((x, y)).is_err() != limits(x.unsigned_abs(), y.unsigned_abs())
+                })
+            };
+            let differs = [
+                // Of equals the last.
+                chosen(&|point| {
+                    let members = members(&found, point, square, anyone);
+                    members.min_by_key(|&(distance, k)| (distance, Reverse(k)))
+                }),
+                // The smallest member alone, the smallest core, the cores; each border in its last group.
+                by(square, &|u, k| community(k).members.first() == Some(&u)),
+                by(square, &|u, k| community(k).cores.first() == Some(&u)),
+                by(square, &|u, k| community(k).cores.contains(&u)),
+                by(square, &|u, k| last[&u] == k),
+                // By x or y alone, by the sum of both, by the larger, in 32 bits.
+                by(|dx, _| dx * dx, anyone),
+                by(|_, dy| dy * dy, anyone),
+                by(|dx, dy| dx + dy, anyone),
+                by(|dx, dy| dx.max(dy), anyone),
+                by(|dx, dy| (dx * dx + dy * dy) % (1 << 32), anyone),
+                // The limits exclusive; those of x alone.
+                refused(|x, y| x.max(y) >= MOST_COORDINATE as u32),
+                refused(|x, _| x > MOST_COORDINATE as u32),
+                // 17 before the image's refusal: each refused image is asked with such a point.
+                reference::open(&damage::several(&image, &mut rng)).is_err(),
+            ];
+            seen.iter_mut().zip(differs).for_each(|(count, has)| *count += u64::from(has));
+        }
+        assert!(seen.iter().all(|&count| 50 * count >= SITES), "{seen:?}");
+    }
+
+    /// How far each member is that is looked at, and its community's number.
+    fn members<'a>(
+        found: &'a Findings,
+        (x, y): Point,
+        far: fn(u64, u64) -> u64,
+        looked_at: &'a dyn Fn(usize, u64) -> bool,
+    ) -> impl Iterator<Item = (u64, u64)> + 'a {
+        (0..).zip(found.communities()).flat_map(move |(k, community)| {
+            let members = community.members.iter().filter(move |&&u| looked_at(u, k));
+            members.map(move |&u| {
+                let (other_x, other_y) = found.site().positions[u];
+                (far(other_x.abs_diff(x.into()), other_y.abs_diff(y.into())), k)
+            })
+        })
     }
 }

@@ -1,4 +1,4 @@
-//! The benchmark: open, plan and report of the proved planner (feature `proved`), of the optimised
+//! The benchmark: open, plan, nearest and report of the proved planner (feature `proved`), of the optimised
 //! one and of the reference, on the same images in the same run.
 //!
 //!     bench [ROUNDS]
@@ -101,11 +101,16 @@ impl Tables {
 enum Call {
     Open,
     Plan,
+    Nearest,
     Report,
 }
 
-const CALLS: [(Call, &str); 3] =
-    [(Call::Open, "open"), (Call::Plan, "plan"), (Call::Report, "report")];
+const CALLS: [(Call, &str); 4] = [
+    (Call::Open, "open"),
+    (Call::Plan, "plan"),
+    (Call::Nearest, "nearest"),
+    (Call::Report, "report"),
+];
 
 fn run(planner: &dyn Planner, call: Call, image: &[u8], tables: &mut Tables) {
     let image = black_box(image);
@@ -114,6 +119,7 @@ fn run(planner: &dyn Planner, call: Call, image: &[u8], tables: &mut Tables) {
         Call::Plan => {
             black_box(planner.plan(image, &mut tables.starts, &mut tables.members)).is_ok()
         }
+        Call::Nearest => black_box(planner.nearest(image, black_box((0, 0)))).is_ok(),
         Call::Report => black_box(planner.report(image, &mut tables.text)).is_ok(),
     };
     assert!(accepted, "{} refused a site of the benchmark", planner.name());
@@ -133,7 +139,7 @@ type Samples = Vec<Vec<f64>>;
 impl Bench<'_> {
     /// Times every call on each image and prints them with the ratios; gives the samples by call and
     /// case.
-    fn compare(&mut self, title: &str, cases: &[Case]) -> [Vec<Samples>; 3] {
+    fn compare(&mut self, title: &str, cases: &[Case]) -> [Vec<Samples>; CALLS.len()] {
         print!("{title:<40}");
         self.planners.iter().for_each(|planner| print!("{:>12}", planner.name()));
         let first = self.planners[0].name();
@@ -156,7 +162,7 @@ impl Bench<'_> {
     }
 
     /// How many times as long each call takes as with half the ties.
-    fn growth(&self, title: &str, cases: &[Case], samples: &[Vec<Samples>; 3]) {
+    fn growth(&self, title: &str, cases: &[Case], samples: &[Vec<Samples>; CALLS.len()]) {
         println!("growth as {title}: the time divided by the one before");
         for (i, case) in cases.iter().enumerate().skip(1) {
             for ((_, name), samples) in CALLS.iter().zip(samples) {

@@ -71,7 +71,8 @@ impl Lent {
 }
 
 /// The calls; the first shows what the measurement itself takes.
-const NAMES: [&str; 7] = ["nothing", "open", "plan", "role", "scores", "members", "report"];
+const NAMES: [&str; 8] =
+    ["nothing", "open", "plan", "role", "scores", "members", "nearest", "report"];
 
 /// One call by its place in `NAMES`.
 fn run(call: usize, image: &[u8], lent: &mut Lent) {
@@ -82,6 +83,7 @@ fn run(call: usize, image: &[u8], lent: &mut Lent) {
         3 => Proved.role(image, 511).is_ok(),
         4 => Proved.scores(image, &lent.list).is_ok(),
         5 => Proved.members(&lent.starts, &lent.members, 0).is_ok(),
+        6 => Proved.nearest(image, (0, 0)).is_ok(),
         _ => Proved.report(image, &mut lent.text).is_ok(),
     };
     black_box(accepted);
