@@ -49,7 +49,7 @@ extern "C" {
 #define DVG_COUNTS 3         /* Are there at most 512 handsets and at most 4,096 ties? */
 #define DVG_RESERVED 4       /* Are bytes 30 and 31 zero? */
 #define DVG_THRESHOLDS 5     /* Is G at most 8,000,000,000,000, 1 <= p <= q <= 1,000, and mu at
-                                most 512? */
+                                most 512? (A mu of 0 is blank and means 4.) */
 #define DVG_TABLES 6         /* Is each table past the header, in the image, clear of the other? */
 #define DVG_COORDINATE 7     /* Is every x and y from -1,000,000 to 1,000,000? Place: a handset. */
 #define DVG_NO_HANDSET 8     /* Is each end of every tie below n? Place: a tie. */

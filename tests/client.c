@@ -187,6 +187,30 @@ static void check_roles(const uint8_t *image)
           has_role(dvg_role(other, LENGTH, 3), DVG_OUTLIER, 0, 3));
 }
 
+/* A blank mu, 0, means 4; a site that wants the groups of mu 3 writes 3. */
+static void check_blank_mu(const uint8_t *image)
+{
+    uint8_t other[LENGTH];
+    uint8_t text[256];
+    memcpy(other, image, LENGTH);
+    put(other + 28, 2, 0);
+    check("a blank mu is accepted", dvg_open(other, LENGTH) == dvg_open(image, LENGTH));
+    check("its report is that of mu 4",
+          dvg_report(other, LENGTH, text, sizeof text) == (int64_t)REPORT_LENGTH &&
+              memcmp(text, report_of_s, REPORT_LENGTH) == 0);
+    check("handset 3 is a border in two groups with it",
+          has_role(dvg_role(other, LENGTH, 3), DVG_BORDER, 2, 3));
+    put(other + 28, 2, 3);
+    check("with mu 3 written out handset 3 is a core of group 0",
+          has_role(dvg_role(other, LENGTH, 3), DVG_CORE, 0, 3));
+    put(other + 28, 2, 1);
+    check("with mu 1, too", has_role(dvg_role(other, LENGTH, 3), DVG_CORE, 0, 3));
+    put(other + 28, 2, 512);
+    check("mu may be 512", dvg_open(other, LENGTH) == dvg_open(image, LENGTH));
+    put(other + 28, 2, 513);
+    check("and no more", dvg_open(other, LENGTH) == -DVG_THRESHOLDS);
+}
+
 static void check_scores(const uint8_t *image)
 {
     static const uint16_t group[4] = {0, 1, 2, 3};
@@ -260,6 +284,7 @@ int main(void)
     check_refused(image);
     check_plan(image);
     check_roles(image);
+    check_blank_mu(image);
     check_scores(image);
     check_nearest(image);
     check("the image is as it was", memcmp(image, before, LENGTH) == 0);

@@ -1,4 +1,4 @@
--- The examples of paper 01: the definitions compute to what the paper says.
+-- The examples of the papers: the definitions compute to what the papers say.
 use mathlib.Core.Path.{refl}
 use Rattle.image.specs.Image.{headerOf, neighbour, mu}
 use Rattle.image.specs.Questions.{openOf}
@@ -13,10 +13,12 @@ examples = record {
   cores-mu4 = refl;
   communities-mu4 = refl;
   border-mu4 = refl;
-  cores-mu3 = refl;
-  communities-mu3 = refl;
+  accepted-mu0 = refl;
   cores-mu0 = refl;
   communities-mu0 = refl;
+  border-mu0 = refl;
+  cores-mu3 = refl;
+  communities-mu3 = refl;
   communities-eps35 = refl;
   outlier-eps35 = refl;
   common-2-3 = refl;

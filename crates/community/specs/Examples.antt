@@ -1,4 +1,5 @@
--- The examples of paper 01 that are theorems of the definitions, marked there with a diamond, from the images' bytes: one list. The proof is proofs/Examples.
+-- The examples of paper 01 that are theorems of the definitions, marked there with a diamond, as paper 02 changes them, from the
+-- images' bytes: one list. The proof is proofs/Examples.
 --
 --     siteS p q m    site S with epsilon p/q and mu m
 --     pair G         two handsets, tied, at (0, 0) and (1, 2), with the square G of the near distance
@@ -43,11 +44,14 @@ pub record Examples : Type 0 where
   pub cores-mu4 : cores (network (siteS 1 2 4)) ≡ 2 ∷ 4 ∷ []
   pub communities-mu4 : communities (network (siteS 1 2 4)) ≡ (0 ∷ 1 ∷ 2 ∷ 3 ∷ []) ∷ (3 ∷ 4 ∷ 5 ∷ 6 ∷ []) ∷ []
   pub border-mu4 : role (network (siteS 1 2 4)) 3 ≡ Border 2
-  -- mu 3, and mu 0: all cores, one group of seven
+  -- mu 0, which is blank and means 4 (paper 02, order 3): the same
+  pub accepted-mu0 : openOf (siteS 1 2 0) ≡ Site (headerOf (siteS 1 2 0))
+  pub cores-mu0 : cores (network (siteS 1 2 0)) ≡ 2 ∷ 4 ∷ []
+  pub communities-mu0 : communities (network (siteS 1 2 0)) ≡ (0 ∷ 1 ∷ 2 ∷ 3 ∷ []) ∷ (3 ∷ 4 ∷ 5 ∷ 6 ∷ []) ∷ []
+  pub border-mu0 : role (network (siteS 1 2 0)) 3 ≡ Border 2
+  -- mu 3: all cores, one group of seven
   pub cores-mu3 : cores (network (siteS 1 2 3)) ≡ seven
   pub communities-mu3 : communities (network (siteS 1 2 3)) ≡ seven ∷ []
-  pub cores-mu0 : cores (network (siteS 1 2 0)) ≡ seven
-  pub communities-mu0 : communities (network (siteS 1 2 0)) ≡ seven ∷ []
   -- epsilon 3/5, mu 3: groups {0,1,2} and {4,5,6}; 3 is an outlier
   pub communities-eps35 : communities (network (siteS 3 5 3)) ≡ (0 ∷ 1 ∷ 2 ∷ []) ∷ (4 ∷ 5 ∷ 6 ∷ []) ∷ []
   pub outlier-eps35 : role (network (siteS 3 5 3)) 3 ≡ Outlier

@@ -31,7 +31,7 @@ abbrev pub edgeBytes : ℕ
 edgeBytes = 4
 
 abbrev pub blankMu : ℕ
-blankMu = 3
+blankMu = 4
 
 abbrev pub coreSize : ℕ → ℕ
 coreSize zero = blankMu

@@ -1,4 +1,4 @@
-// The report program on site S with a blank mu, which means 3: one group of seven.
+// The report program on site S with a blank mu, which means 4: two groups, and a border in both.
 fn main() {
     report_run::run();
 }

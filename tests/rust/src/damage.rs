@@ -1,7 +1,7 @@
 //! Damaged images: edits of one accepted image, alone and several at once. An edit may leave an image
 //! that is accepted; what is right is for the reference to say.
 
-use crate::sites::{Rng, Tables, MOST_COORDINATE, MOST_GAMMA_SQUARED};
+use crate::sites::{Rng, Tables, BLANK_MU, MOST_COORDINATE, MOST_GAMMA_SQUARED};
 
 /// One edit of an image.
 #[derive(Clone, Copy, Debug, PartialEq, Eq)]
@@ -101,7 +101,7 @@ fn header_edits(image: &[u8], tables: &Tables) -> Vec<Edit> {
         (16, 8, around(&[0, most, most + (1 << 32), 1 << 63, u64::MAX])),
         (24, 2, around(&[0, q, 1000, 0xffff])),
         (26, 2, around(&[0, p, 1000, 0xffff])),
-        (28, 2, around(&[0, 3, 512, 0xffff])),
+        (28, 2, around(&[0, BLANK_MU.into(), 512, 0xffff])),
         (30, 2, around(&[0, 256, 0xffff])),
     ];
     let set = |(at, width, values): (usize, usize, Vec<u64>)| {

@@ -9,7 +9,7 @@ pub fn examples() -> Vec<(&'static str, Vec<u8>)> {
     vec![
         // Site S of the specification with mu 4.
         ("report", sites::site_s(4).plain_image()),
-        // Site S with a blank mu.
+        // Site S with a blank mu, which means 4.
         ("report_blank", sites::site_s(0).plain_image()),
         // No handsets.
         ("report_empty", sites::untied(0, 3).plain_image()),
@@ -17,6 +17,8 @@ pub fn examples() -> Vec<(&'static str, Vec<u8>)> {
         ("report_hub", sites::hub().plain_image()),
         // Site S whose tie 5 repeats tie 3 the other way round: refused 10 5.
         ("report_refused", refused.plain_image()),
+        // Site S with mu 3 written out.
+        ("report_three", sites::site_s(3).plain_image()),
         // Every role, and four totals that differ.
         ("report_totals", sites::totals().plain_image()),
     ]

@@ -85,7 +85,7 @@ impl<'a> Image<'a> {
             gamma_squared,
             p: p.into(),
             q: q.into(),
-            mu: if mu == 0 { 3 } else { mu },
+            mu: if mu == 0 { 4 } else { mu },
         })
     }
 

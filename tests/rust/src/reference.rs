@@ -14,7 +14,7 @@ const MOST_GAMMA_SQUARED: u64 = 8_000_000_000_000;
 const MOST_COORDINATE: i64 = 1_000_000;
 const MOST_DENOMINATOR: u64 = 1000;
 const MOST_MU: usize = 512;
-const MU_FOR_ZERO: usize = 3;
+const MU_FOR_ZERO: usize = 4;
 const PROGRAM_INPUT: usize = 65_536;
 const PROGRAM_TEXT: usize = 65_536;
 
@@ -522,23 +522,25 @@ cores 2 borders 5 outliers 0 multiple 1
     }
 
     #[test]
-    fn site_s_with_mu_4_has_two_groups_and_a_shared_border() {
-        let found = findings(&sites::site_s(4));
-        assert_eq!(groups(&sites::site_s(4)), [[0, 1, 2, 3], [3, 4, 5, 6]]);
-        assert_eq!(found.start_table(), [0, 4, 8]);
-        assert_eq!(found.member_table(), [0, 1, 2, 3, 3, 4, 5, 6]);
-        let record = |near, role| Ok(Record { near, role });
-        assert_eq!(found.record(0), record(3, Role::Border(1)));
-        assert_eq!(found.record(2), record(4, Role::Core(0)));
-        assert_eq!(found.record(3), record(3, Role::Border(2)));
-        assert_eq!(found.record(4), record(4, Role::Core(1)));
-        assert_eq!(found.record(7), Err(refusal(13, 0)));
-        assert_eq!(found.record(u64::MAX), Err(refusal(13, 0)));
+    fn site_s_with_mu_4_or_a_blank_one_has_two_groups_and_a_shared_border() {
+        for mu in [4, 0] {
+            let found = findings(&sites::site_s(mu));
+            assert_eq!(groups(&sites::site_s(mu)), [[0, 1, 2, 3], [3, 4, 5, 6]]);
+            assert_eq!(found.start_table(), [0, 4, 8]);
+            assert_eq!(found.member_table(), [0, 1, 2, 3, 3, 4, 5, 6]);
+            let record = |near, role| Ok(Record { near, role });
+            assert_eq!(found.record(0), record(3, Role::Border(1)));
+            assert_eq!(found.record(2), record(4, Role::Core(0)));
+            assert_eq!(found.record(3), record(3, Role::Border(2)));
+            assert_eq!(found.record(4), record(4, Role::Core(1)));
+            assert_eq!(found.record(7), Err(refusal(13, 0)));
+            assert_eq!(found.record(u64::MAX), Err(refusal(13, 0)));
+        }
     }
 
     #[test]
-    fn site_s_with_mu_3_or_0_is_one_group() {
-        for mu in [3, 0] {
+    fn site_s_with_mu_1_to_3_is_one_group() {
+        for mu in 1..=3 {
             assert_eq!(groups(&sites::site_s(mu)), [[0, 1, 2, 3, 4, 5, 6]]);
             let found = findings(&sites::site_s(mu));
             assert_eq!(found.communities()[0].cores.len(), 7);

@@ -7,6 +7,8 @@ pub const MOST_HANDSETS: usize = 512;
 pub const MOST_TIES: usize = 4096;
 pub const MOST_COORDINATE: i32 = 1_000_000;
 pub const MOST_GAMMA_SQUARED: u64 = 8_000_000_000_000;
+/// What a blank mu, 0, means.
+pub const BLANK_MU: u16 = 4;
 const HEADER: usize = 32;
 
 // ---------------------------------------------------------------- random numbers
@@ -428,6 +430,9 @@ fn complete(draft: Draft, rng: &mut Rng) -> Site {
         site.epsilon = rng.pick(&[(1, 1000), (1, 20), (1, 5), (1, 4)]);
         site.mu = mu as u16;
     }
+    if site.mu == BLANK_MU && rng.one_in(2) {
+        site.mu = 0;
+    }
     site
 }
 
@@ -586,14 +591,16 @@ fn any_epsilon(rng: &mut Rng) -> (u16, u16) {
     }
 }
 
-/// Half of the time one more than the ties of some handset, so that some are cores and some are not.
+/// Often blank, and half of the time one more than the ties of some handset, so that some are cores and
+/// some are not.
 fn any_mu(site: &Site, rng: &mut Rng) -> u16 {
     let handset = rng.below(site.positions.len().max(1)) as u16;
     let ends_here = |&&(u, v): &&(u16, u16)| u == handset || v == handset;
     match rng.below(16) {
         0 => rng.below(MOST_HANDSETS + 1) as u16,
         1 => rng.pick(&[1, 511, 512]),
-        2..=7 => rng.below(7) as u16,
+        2 | 3 => rng.between(1, 6) as u16,
+        4..=7 => 0,
         _ => site.ties.iter().filter(ends_here).count() as u16 + 1,
     }
 }
@@ -681,6 +688,35 @@ mod tests {
             seen.iter_mut().zip(traits).for_each(|(count, has)| *count += usize::from(has));
         }
         assert!(seen.iter().all(|&count| count > 0), "{seen:?}");
+    }
+
+    /// A blank mu is there on one site of eight at least; and a mu that is read in a wrong way gives other
+    /// communities, or other cores of them, on one site of fifty at least.
+    #[test]
+    fn sites_tell_wrong_readings_of_mu() {
+        const SITES: u64 = 400;
+        let mut blank = 0;
+        let mut seen = [0; 4];
+        for (site, image) in any_sites(SITES) {
+            let opened = reference::open(&image).expect("accepted");
+            let right = Findings::of(opened.clone());
+            let read_as = |mu| {
+                let wrong = Findings::of(reference::Site { mu, ..opened.clone() });
+                wrong.communities() != right.communities()
+            };
+            blank += u64::from(site.mu == 0);
+            let differs = [
+                // Blank is three, as it was; five; as it stands.
+                site.mu == 0 && read_as(3),
+                site.mu == 0 && read_as(5),
+                site.mu == 0 && read_as(0),
+                // One is blank too.
+                site.mu == 1 && read_as(BLANK_MU.into()),
+            ];
+            seen.iter_mut().zip(differs).for_each(|(count, has)| *count += u64::from(has));
+        }
+        assert!(8 * blank >= SITES, "{blank}");
+        assert!(seen.iter().all(|&count| 50 * count >= SITES), "{seen:?}");
     }
 
     /// Totals that are counted in a wrong way differ from the right ones on one site of fifty at least, so
