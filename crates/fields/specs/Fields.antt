@@ -4,7 +4,7 @@
 --     coordinateCount    how many coordinates a handset has
 --     handsetBytes       how many bytes a handset's record has
 --     edgeBytes          how many bytes an edge's record has
---     blankMu            what a blank mu, 0, means
+--     blankMu            what a blank mu, 0, means: 3 in paper 01, 4 since paper 02, order 3
 --     coreSize mu        how many handsets make a core: mu, or blankMu where it is blank
 --     shifted x          the coordinate that the four bytes of x hold, plus 2 ^ 31
 --     coordinateLimit    how far from 0 a coordinate may be

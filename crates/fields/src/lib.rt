@@ -24,7 +24,7 @@ const COORDINATE_LIMIT: u32 = 1000000;
 pub const EDGE_BYTES: usize = 4;
 
 // What a blank mu, 0, means.
-pub const BLANK_MU: u16 = 4;
+const BLANK_MU: u16 = 4;
 
 // Whether w bytes stand at a place in len bytes. No place is so far off that the sum wraps.
 fn stands(len: usize, at: usize, w: usize) -> bool
