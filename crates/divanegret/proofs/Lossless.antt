@@ -39,7 +39,7 @@ use Rattle.nearest.specs.declared.Nearest.the-variants as N
 use Rattle.reporting.specs.Report.{reportOf, reportAnswer}
 use Rattle.reporting.specs.declared.Reported.{Reported}
 use Rattle.reporting.specs.declared.Reported.the-variants as R
-use Rattle.divanegret.specs.Codes.{refusalCode, openCode, planCode, kindCode, roleCode, tallyCode, lookedCode, nearestCode, reportCode}
+use Rattle.codes.specs.Codes.{refusalCode, openCode, planCode, kindCode, roleCode, tallyCode, lookedCode, nearestCode, reportCode}
 use Rattle.divanegret.specs.Lossless.{int32, openMacros, planMacros, roleMacros, scoresMacros, nearestMacros, itself, Taken, takenBy, siteAnswer, numberOnly, whole, Lossless}
 use Rattle.divanegret.proofs.Bounds.{Small, OpenSmall, PlanSmall, RoleSmall, KnownSmall, TallySmall, LookedSmall, NearestSmall, ReportSmall, open-small, plan-small, role-small, tally-small, looked-small, nearest-small, report-small}
 

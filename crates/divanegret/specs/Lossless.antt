@@ -1,6 +1,7 @@
 -- The numbers that C gets lose nothing: what the macros of include/divanegret.h take out of a call's number is all of the call's answer. No count, place or
--- score is cut off, for any image, tables, handset, list or group. A call's number is its answer's code (specs/Codes), by the call's contract; its answer
--- as a number, a place and values is that of the library's own definitions (planAnswer, knownAnswer, tallyAnswer, lookAnswer, nearestAnswer, reportAnswer).
+-- score is cut off, for any image, tables, handset, list or group. A call's number is its answer's code (codes/specs/Codes), by the call's contract; its
+-- answer as a number, a place and values is that of the library's own definitions (planAnswer, knownAnswer, tallyAnswer, lookAnswer, nearestAnswer,
+-- reportAnswer).
 --
 --     int32 k                    the (int32_t) of a macro: the low 32 bits of k, as a signed number
 --     openMacros, planMacros     the macros of dvg_open and dvg_plan, in the order of the answer's values
@@ -36,7 +37,7 @@ use Rattle.lookup.specs.Lookup.{lookedOf}
 use Rattle.lookup.specs.Answers.{lookAnswer}
 use Rattle.nearest.specs.Nearest.{nearestOf, nearestAnswer}
 use Rattle.reporting.specs.Report.{reportOf, reportAnswer}
-use Rattle.divanegret.specs.Codes.{openCode, planCode, roleCode, tallyCode, lookedCode, nearestCode, reportCode}
+use Rattle.codes.specs.Codes.{openCode, planCode, roleCode, tallyCode, lookedCode, nearestCode, reportCode}
 
 -- ---- the macros of a success r
 

@@ -7,7 +7,7 @@ use denote.Ref.{now}
 use borrow.Author.Needs.{needs}
 use Rattle.nearest.specs.Nearest.{nearestOf}
 use Rattle.nearest.proofs.Answers.{nearest-same}
-use Rattle.divanegret.specs.Codes.{nearestCode}
+use Rattle.codes.specs.Codes.{nearestCode}
 use Rattle.divanegret.proofs.dvg_nearest.Statement.{statement}
 use Rattle.divanegret.proofs.dvg_nearest.Tie as tie
 

@@ -3,7 +3,7 @@ use mathlib.Core.Path.{ap, _∙_}
 use mir.Facts.{toZ-ofZ}
 use Rattle.image.specs.Questions.{openOf}
 use Rattle.image.proofs.Answers.{open-same}
-use Rattle.divanegret.specs.Codes.{openCode}
+use Rattle.codes.specs.Codes.{openCode}
 use borrow.Author.Needs.{needs}
 use Rattle.divanegret.proofs.dvg_open.Statement.{statement}
 use Rattle.divanegret.proofs.dvg_open.Tie as tie

@@ -3,7 +3,7 @@ use mathlib.Core.Path.{ap, _∙_}
 use mir.Facts.{toZ-ofZ}
 use Rattle.tables.proofs.Answers.{plan-same}
 use Rattle.planner.specs.Plan.{planOf}
-use Rattle.divanegret.specs.Codes.{planCode}
+use Rattle.codes.specs.Codes.{planCode}
 use borrow.Author.Needs.{needs}
 use Rattle.divanegret.proofs.dvg_plan.Statement.{statement}
 use Rattle.divanegret.proofs.dvg_plan.Tie as tie

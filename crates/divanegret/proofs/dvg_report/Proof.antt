@@ -3,7 +3,7 @@ use mathlib.Core.Path.{ap, _∙_}
 use mir.Facts.{toZ-ofZ}
 use Rattle.reporting.specs.Report.{reportOf}
 use Rattle.reporting.proofs.Answers.{report-same}
-use Rattle.divanegret.specs.Codes.{reportCode}
+use Rattle.codes.specs.Codes.{reportCode}
 use borrow.Author.Needs.{needs}
 use Rattle.divanegret.proofs.dvg_report.Statement.{statement}
 use Rattle.divanegret.proofs.dvg_report.Tie as tie

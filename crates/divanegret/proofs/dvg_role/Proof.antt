@@ -3,7 +3,7 @@ use mathlib.Core.Path.{ap, _∙_}
 use mir.Facts.{toZ-ofZ}
 use Rattle.planner.specs.Plan.{knownOf}
 use Rattle.planner.proofs.Answers.{known-same}
-use Rattle.divanegret.specs.Codes.{roleCode}
+use Rattle.codes.specs.Codes.{roleCode}
 use borrow.Author.Needs.{needs}
 use Rattle.divanegret.proofs.dvg_role.Statement.{statement}
 use Rattle.divanegret.proofs.dvg_role.Tie as tie

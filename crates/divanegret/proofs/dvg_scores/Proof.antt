@@ -3,7 +3,7 @@ use mathlib.Core.Path.{ap, _∙_}
 use mir.Facts.{toZ-ofZ}
 use Rattle.scores.specs.Scored.{talliedOf}
 use Rattle.scores.proofs.Answers.{tally-same}
-use Rattle.divanegret.specs.Codes.{tallyCode}
+use Rattle.codes.specs.Codes.{tallyCode}
 use borrow.Author.Needs.{needs}
 use Rattle.divanegret.proofs.dvg_scores.Statement.{statement}
 use Rattle.divanegret.proofs.dvg_scores.Tie as tie
