@@ -7,6 +7,7 @@
 --     roleCode k        a handset: its role + 2 ^ 32 times its near count
 --     tallyCode t       a list: o + 65,536 t + 2 ^ 36 s
 --     lookedCode l      a group: the count of its members
+--     scheduledCode s   a group at a time: which member table, 0 for the first plan's and 1 for the second's, + 2 times the count of its members
 --     nearestCode n     the nearest group: 1 + 2 times its number + 65,536 times its squared distance, or 0 where there are no groups
 --     reportCode r      a report: the text's length, or the refusal's number made negative
 --
@@ -28,6 +29,8 @@ use Rattle.reporting.specs.declared.Reported.{Reported}
 use Rattle.reporting.specs.declared.Reported.the-variants as R
 use Rattle.lookup.specs.declared.Looked.{Looked}
 use Rattle.lookup.specs.declared.Looked.the-variants as L
+use Rattle.schedule.specs.declared.Scheduled.{Scheduled}
+use Rattle.schedule.specs.declared.Scheduled.the-variants as S
 use Rattle.nearest.specs.declared.Nearest.{Nearest}
 use Rattle.nearest.specs.declared.Nearest.the-variants as N
 
@@ -58,6 +61,11 @@ tallyCode (T.Refused r) = refusalCode r
 abbrev pub lookedCode : Looked → ℤ
 lookedCode (L.Found n) = pos (min n 9223372036854775807)
 lookedCode (L.Refused r) = refusalCode r
+
+abbrev pub scheduledCode : Scheduled → ℤ
+scheduledCode (S.Workday n) = pos (2 * min n 4611686018427387903)
+scheduledCode (S.Restday n) = pos (1 + 2 * min n 4611686018427387903)
+scheduledCode (S.Refused r) = refusalCode r
 
 abbrev pub nearestCode : Nearest → ℤ
 nearestCode (N.Group k d) = pos (1 + 2 * min k 32767 + 65536 * min d 140737488355327)

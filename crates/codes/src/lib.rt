@@ -4,7 +4,7 @@
 // one that no call gives. Where a number may be larger than its share of the code it is cut off; divanegret/specs/Lossless says that no call's answer is.
 ghost use mathlib.Core.Path.{_≡_};
 ghost use Prim.Native.Nat.{_<_, min};
-ghost use Rattle.codes.specs.Codes.{refusalCode, openCode, planCode, kindCode, roleCode, tallyCode, lookedCode, nearestCode, reportCode};
+ghost use Rattle.codes.specs.Codes.{refusalCode, openCode, planCode, kindCode, roleCode, tallyCode, lookedCode, scheduledCode, nearestCode, reportCode};
 use community::Role;
 use image::Opened;
 use image::Refusal;
@@ -12,6 +12,7 @@ use lookup::Looked;
 use nearest::Nearest;
 use planner::Known;
 use reporting::Reported;
+use schedule::Scheduled;
 use scores::Tallied;
 use tables::Planned;
 
@@ -97,6 +98,17 @@ pub fn looked_code(looked: Looked) -> i64
     match looked {
         Looked::Found(count) => at_most(count as u64, 9223372036854775807) as i64,
         Looked::Refused(r) => refusal_code(r),
+    }
+}
+
+// The plan and the count of the group's members in it, or the refusal.
+pub fn scheduled_code(scheduled: Scheduled) -> i64
+    ensures { λ z. ⌜ z ≡ scheduledCode scheduled ⌝ }
+{
+    match scheduled {
+        Scheduled::Workday(count) => (2 * at_most(count as u64, 4611686018427387903)) as i64,
+        Scheduled::Restday(count) => (1 + 2 * at_most(count as u64, 4611686018427387903)) as i64,
+        Scheduled::Refused(r) => refusal_code(r),
     }
 }
 

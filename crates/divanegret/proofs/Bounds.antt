@@ -1,9 +1,10 @@
 -- How large the numbers of an answer can be. An accepted image has at most 512 handsets and 4,096 edges, which bounds every count; a refusal is one of the
 -- paper's questions, and its place is an index below those bounds.
 --
---     Small r                        a refusal with a number from 1 to 17 and a place of at most 4,096
+--     highest                        the highest number of a refusal
+--     Small r                        a refusal with a number from 1 to the highest, and a place of at most 4,096
 --     OpenSmall, PlanSmall, ..       an answer whose numbers are small, by its cases
---     open-small, plan-small, role-small, tally-small, looked-small, nearest-small, report-small    those of each call are
+--     open-small, plan-small, role-small, tally-small, looked-small, scheduled-small, nearest-small, report-small    those of each call are
 use Prim.Native.Nat.{ℕ, zero, suc, _+_, _*_, _-_, _≤_, _<_}
 use native.Mathlib.Omega.{arith}
 use native.Mathlib.Decide.{decLe}
@@ -46,6 +47,12 @@ use Rattle.scores.specs.declared.Tallied.the-variants as T
 use Rattle.lookup.specs.Lookup.{startOf, placed, between, membersOf, lookedOf}
 use Rattle.lookup.specs.declared.Looked.{Looked}
 use Rattle.lookup.specs.declared.Looked.the-variants as L
+use Rattle.schedule.specs.Schedule.{dateFits, timeFits, isWorking, planAt, choiceOf, inPlan, scheduledOf}
+use Rattle.schedule.specs.declared.Time.{Time}
+use Rattle.schedule.specs.declared.Window.{Window}
+use Rattle.schedule.specs.declared.Choice.the-variants as C
+use Rattle.schedule.specs.declared.Scheduled.{Scheduled}
+use Rattle.schedule.specs.declared.Scheduled.the-variants as S
 use Rattle.points.specs.Points.{pointInLimits}
 use Rattle.points.proofs.Distances.{gapMost, distance-most}
 use Rattle.nearest.specs.Nearest.{nearestOf}
@@ -55,10 +62,15 @@ use Rattle.nearest.proofs.Meaning.{nearest-means}
 use Rattle.reporting.specs.Report.{reportText, writtenOf, reportFor, reportOf}
 use Rattle.reporting.specs.declared.Reported.{Reported}
 use Rattle.reporting.specs.declared.Reported.the-variants as R
+use Rattle.divanegret.specs.Lossless.{entryLimit}
+
+-- the highest number of a refusal
+abbrev highest : ℕ
+highest = 19
 
 pub record Small (r : Refusal) : Type 0 where
   pub some : 1 ≤ r .number
-  pub number : r .number ≤ 17
+  pub number : r .number ≤ highest
   pub place : r .place ≤ 4096
 
 -- ---- the reader
@@ -67,7 +79,7 @@ abbrev pub OpenSmall : Opened → Type 0
 OpenSmall (O.Site h) = (h .n ≤ 512) × (h .m ≤ 4096)
 OpenSmall (O.Refused r) = Small r
 
-ask-small : (b : Bool) (k p : ℕ) (next : Opened) → 1 ≤ k → k ≤ 17 → p ≤ 4096 → (T b → OpenSmall next) → OpenSmall (ask b k p next)
+ask-small : (b : Bool) (k p : ℕ) (next : Opened) → 1 ≤ k → k ≤ highest → p ≤ 4096 → (T b → OpenSmall next) → OpenSmall (ask b k p next)
 unfolding ask
 ask-small true k p next some few near rest = rest tt
 ask-small false k p next some few near rest = record { some = some; number = few; place = near }
@@ -75,7 +87,7 @@ ask-small false k p next some few near rest = record { some = some; number = few
 find-le : (n : ℕ) (f : ℕ → Bool) → find n f ≤ n
 find-le n f = ⊎-elim (λ t. omega (arith, find-law n f t .0)) (λ t. omega (arith, find-none n f t)) (decide (any n f))
 
-each-small : (n : ℕ) (bad : ℕ → Bool) (k : ℕ) (next : Opened) → 1 ≤ k → k ≤ 17 → n ≤ 4096 → OpenSmall next → OpenSmall (askEach n bad k next)
+each-small : (n : ℕ) (bad : ℕ → Bool) (k : ℕ) (next : Opened) → 1 ≤ k → k ≤ highest → n ≤ 4096 → OpenSmall next → OpenSmall (askEach n bad k next)
 unfolding askEach
 each-small n bad k next some few near rest = ask-small (not (any n bad)) k (find n bad) next some few (omega (arith, find-le n bad)) (λ t. rest)
 
@@ -99,7 +111,7 @@ open-small s =
     (each-small (h .m) (repeatsEarlier (edgeRecords s)) 10 _ (omega arith) (omega arith) m (n, m))))))))))
 
 -- a refusal with a number of ours, and place 0
-own-small : (k : ℕ) → 1 ≤ k → k ≤ 17 → Small (refusal k)
+own-small : (k : ℕ) → 1 ≤ k → k ≤ highest → Small (refusal k)
 own-small k some few = record { some = some; number = few; place = omega arith }
 
 -- ---- the plan
@@ -252,6 +264,34 @@ looked-small starts table k = go (placed starts (length table) k)
     go : (q : Bool) → LookedSmall (length table) (cond q (L.Found (length (cond q (between a b table) []))) (L.Refused (refusal 14)))
     go true = omega (arith, length-take (b - a) (drop a table), length-drop a table)
     go false = own-small 14 (omega arith) (omega arith)
+
+-- ---- a group's members at a time
+
+abbrev pub ScheduledSmall : Scheduled → Type 0
+ScheduledSmall (S.Workday k) = k < entryLimit
+ScheduledSmall (S.Restday k) = k < entryLimit
+ScheduledSmall (S.Refused r) = Small r
+
+in-workday : (l : Looked) (room : ℕ) → room < entryLimit → LookedSmall room l → ScheduledSmall (inPlan S.Workday l)
+in-workday (L.Found k) room few small = omega arith
+in-workday (L.Refused r) room few small = small
+
+in-restday : (l : Looked) (room : ℕ) → room < entryLimit → LookedSmall room l → ScheduledSmall (inPlan S.Restday l)
+in-restday (L.Found k) room few small = omega arith
+in-restday (L.Refused r) room few small = small
+
+pub scheduled-small : (t : Time) (w : Window) (k : ℕ) (starts table starts′ table′ : List ℕ) → length table < entryLimit → length table′ < entryLimit
+    → ScheduledSmall (scheduledOf (choiceOf t w) (lookedOf starts table k) (lookedOf starts′ table′ k))
+unfolding choiceOf planAt scheduledOf
+scheduled-small t w k starts table starts′ table′ few few′ = go (dateFits t) (timeFits t w) (isWorking t w)
+  where
+    go : (a b c : Bool)
+        → ScheduledSmall
+        (scheduledOf (cond a (cond b (cond c C.Workday C.Restday) (C.Neither (refusal 19))) (C.Neither (refusal 18))) (lookedOf starts table k) (lookedOf starts′ table′ k))
+    go true true true = in-workday (lookedOf starts table k) (length table) few (looked-small starts table k)
+    go true true false = in-restday (lookedOf starts′ table′ k) (length table′) few′ (looked-small starts′ table′ k)
+    go true false c = own-small 19 (omega arith) (omega arith)
+    go false b c = own-small 18 (omega arith) (omega arith)
 
 -- ---- the nearest group
 

@@ -33,15 +33,19 @@ use Rattle.lookup.specs.Lookup.{lookedOf}
 use Rattle.lookup.specs.Answers.{lookAnswer}
 use Rattle.lookup.specs.declared.Looked.{Looked}
 use Rattle.lookup.specs.declared.Looked.the-variants as L
+use Rattle.schedule.specs.Schedule.{choiceOf, scheduledOf}
+use Rattle.schedule.specs.Answers.{scheduledAnswer}
+use Rattle.schedule.specs.declared.Scheduled.{Scheduled}
+use Rattle.schedule.specs.declared.Scheduled.the-variants as S
 use Rattle.nearest.specs.Nearest.{nearestOf, nearestAnswer}
 use Rattle.nearest.specs.declared.Nearest.{Nearest}
 use Rattle.nearest.specs.declared.Nearest.the-variants as N
 use Rattle.reporting.specs.Report.{reportOf, reportAnswer}
 use Rattle.reporting.specs.declared.Reported.{Reported}
 use Rattle.reporting.specs.declared.Reported.the-variants as R
-use Rattle.codes.specs.Codes.{refusalCode, openCode, planCode, kindCode, roleCode, tallyCode, lookedCode, nearestCode, reportCode}
-use Rattle.divanegret.specs.Lossless.{int32, openMacros, planMacros, roleMacros, scoresMacros, nearestMacros, itself, Taken, takenBy, siteAnswer, numberOnly, whole, Lossless}
-use Rattle.divanegret.proofs.Bounds.{Small, OpenSmall, PlanSmall, RoleSmall, KnownSmall, TallySmall, LookedSmall, NearestSmall, ReportSmall, open-small, plan-small, role-small, tally-small, looked-small, nearest-small, report-small}
+use Rattle.codes.specs.Codes.{refusalCode, openCode, planCode, kindCode, roleCode, tallyCode, lookedCode, scheduledCode, nearestCode, reportCode}
+use Rattle.divanegret.specs.Lossless.{int32, openMacros, planMacros, roleMacros, scoresMacros, scheduledMacros, nearestMacros, itself, Taken, takenBy, siteAnswer, numberOnly, whole, Lossless}
+use Rattle.divanegret.proofs.Bounds.{Small, OpenSmall, PlanSmall, RoleSmall, KnownSmall, TallySmall, LookedSmall, ScheduledSmall, NearestSmall, ReportSmall, open-small, plan-small, role-small, tally-small, looked-small, scheduled-small, nearest-small, report-small}
 
 -- a number below 2 ^ 31 is its int32_t
 low32 : (k x : ℕ) → k ≡ x → x < 2147483648 → int32 k ≡ pos x
@@ -141,6 +145,18 @@ looked-taken : (x : Looked) (room : ℕ) → room < 9223372036854775808 → Look
 looked-taken (L.Found k) room h small = count-taken k room h small
 looked-taken (L.Refused r) room h small = refusal-taken itself r small
 
+-- which table, and a count
+scheduled-of : (k x y : ℕ) → k ≡ x + 2 * y → x < 2 → takenBy scheduledMacros (pos k) ≡ whole (given (x ∷ y ∷ []))
+unfolding takenBy
+scheduled-of k x y e h =
+    let u : k / 2 ≡ y = omega arith in
+    success (values-2 (low32 (k % 2) x (omega arith) (omega arith)) (ap pos u))
+
+scheduled-taken : (x : Scheduled) → ScheduledSmall x → takenBy scheduledMacros (scheduledCode x) ≡ whole (scheduledAnswer x)
+scheduled-taken (S.Workday k) small = scheduled-of _ 0 k (omega arith) (omega arith)
+scheduled-taken (S.Restday k) small = scheduled-of _ 1 k (omega arith) (omega arith)
+scheduled-taken (S.Refused r) small = refusal-taken scheduledMacros r small
+
 -- whether there is a group, its number and its distance
 nearest-of : (k x y z : ℕ) → k ≡ x + 2 * y + 65536 * z → x < 2 → y < 32768 → takenBy nearestMacros (pos k) ≡ whole (given (x ∷ y ∷ z ∷ []))
 unfolding takenBy
@@ -169,6 +185,8 @@ lossless = record {
   role = λ s v. role-taken (knownOf s v) (role-small s v);
   scores = λ s l. tally-taken (talliedOf s l) (tally-small s l);
   members = λ starts table k h. looked-taken (lookedOf starts table k) (length table) h (looked-small starts table k);
+  scheduled = λ t w k starts table starts′ table′ few few′.
+      scheduled-taken (scheduledOf (choiceOf t w) (lookedOf starts table k) (lookedOf starts′ table′ k)) (scheduled-small t w k starts table starts′ table′ few few′);
   nearest = λ s p long. nearest-taken (nearestOf s p) (nearest-small s p long);
   report = λ s room h. report-taken (reportOf s room) room h (report-small s room);
 }

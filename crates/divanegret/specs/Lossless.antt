@@ -1,23 +1,26 @@
 -- The numbers that C gets lose nothing: what the macros of include/divanegret.h take out of a call's number is all of the call's answer. No count, place or
--- score is cut off, for any image, tables, handset, list or group. A call's number is its answer's code (codes/specs/Codes), by the call's contract; its
--- answer as a number, a place and values is that of the library's own definitions (planAnswer, knownAnswer, tallyAnswer, lookAnswer, nearestAnswer,
--- reportAnswer).
+-- score is cut off, for any image, tables, handset, list, group or time. A call's number is its answer's code (codes/specs/Codes), by the call's contract; its
+-- answer as a number, a place and values is that of the library's own definitions (planAnswer, knownAnswer, tallyAnswer, lookAnswer, scheduledAnswer,
+-- nearestAnswer, reportAnswer).
 --
 --     int32 k                    the (int32_t) of a macro: the low 32 bits of k, as a signed number
 --     openMacros, planMacros     the macros of dvg_open and dvg_plan, in the order of the answer's values
 --     roleMacros, scoresMacros   those of dvg_role and dvg_scores
+--     scheduledMacros            those of dvg_members_at
 --     nearestMacros              those of dvg_nearest
 --     itself                     of dvg_members and dvg_report: the number itself
 --     Taken                      what a caller takes out of a call's number: a number, a place and values, each signed
 --     takenBy macros z           what a caller takes out of the number z: 0 or more is a success, with its values by their macros; less is a refusal, with
 --                                its number and place by DVG_NUMBER and DVG_PLACE
 --     siteAnswer o               the answer of dvg_open: n and m, or the refusal
+--     entryLimit                 2 ^ 62: a member table in C has fewer entries
 --     numberOnly a               the answer with place 0, as dvg_report tells it
 --     whole a                    all numbers of an answer
 --     Lossless                   the theorem: what is taken out of each call's number is the whole answer
 --
--- Proved in proofs/Lossless as `lossless`. The part of dvg_members asks for a member table of fewer than 2 ^ 63 entries, and that of dvg_report for a buffer
--- of fewer than 2 ^ 63 bytes; a caller in C can lend no longer one.
+-- Proved in proofs/Lossless as `lossless`. The part of dvg_members asks for a member table of fewer than 2 ^ 63 entries, that of dvg_members_at for two of
+-- fewer than 2 ^ 62, and that of dvg_report for a buffer of fewer than 2 ^ 63 bytes; a caller in C can lend no longer ones, since no object in C has 2 ^ 63
+-- bytes, and an entry has two.
 use Prim.Native.Nat.{ℕ, suc, _%_, _/_, _<_}
 use mathlib.Core.Path.{_≡_}
 use mathlib.Core.List.{List, [], _∷_, map}
@@ -35,9 +38,13 @@ use Rattle.scores.specs.Scored.{talliedOf}
 use Rattle.scores.specs.Answers.{tallyAnswer}
 use Rattle.lookup.specs.Lookup.{lookedOf}
 use Rattle.lookup.specs.Answers.{lookAnswer}
+use Rattle.schedule.specs.Schedule.{choiceOf, scheduledOf}
+use Rattle.schedule.specs.Answers.{scheduledAnswer}
+use Rattle.schedule.specs.declared.Time.{Time}
+use Rattle.schedule.specs.declared.Window.{Window}
 use Rattle.nearest.specs.Nearest.{nearestOf, nearestAnswer}
 use Rattle.reporting.specs.Report.{reportOf, reportAnswer}
-use Rattle.codes.specs.Codes.{openCode, planCode, roleCode, tallyCode, lookedCode, nearestCode, reportCode}
+use Rattle.codes.specs.Codes.{openCode, planCode, roleCode, tallyCode, lookedCode, scheduledCode, nearestCode, reportCode}
 
 -- ---- the macros of a success r
 
@@ -59,6 +66,10 @@ roleMacros = (λ r. int32 (r / 4294967296)) ∷ (λ r. int32 (r % 65536)) ∷ (�
 -- DVG_PAIRS, DVG_TIED_PAIRS and DVG_LEAVING, which stay int64_t
 abbrev pub scoresMacros : List (ℕ → ℤ)
 scoresMacros = (λ r. pos (r / 68719476736)) ∷ (λ r. pos (r / 65536 % 1048576)) ∷ (λ r. pos (r % 65536)) ∷ []
+
+-- DVG_TABLE, and DVG_COUNT, which stays int64_t
+abbrev pub scheduledMacros : List (ℕ → ℤ)
+scheduledMacros = (λ r. int32 (r % 2)) ∷ (λ r. pos (r / 2)) ∷ []
 
 -- DVG_FOUND, DVG_NEAREST_GROUP and DVG_SQUARED_DISTANCE, which stays int64_t
 abbrev pub nearestMacros : List (ℕ → ℤ)
@@ -91,8 +102,11 @@ whole a = record { number = pos (a .number); place = pos (a .place); values = ma
 
 -- ---- the theorem
 
--- s is an image; a and b are the lengths of a start table and a member table; v is a handset, l a list of handsets and p a point of as many coordinates as a
--- handset has
+abbrev pub entryLimit : ℕ
+entryLimit = 4611686018427387904
+
+-- s is an image; a and b are the lengths of a start table and a member table; v is a handset, l a list of handsets, t a time, w a window and p a point
+-- of as many coordinates as a handset has
 pub record Lossless : Type 0 where
   pub opened : (s : List ℕ) → takenBy openMacros (openCode (openOf s)) ≡ whole (siteAnswer (openOf s))
   pub planned : (s : List ℕ) (a b : ℕ) → takenBy planMacros (planCode (planOf s a b)) ≡ whole (planAnswer (planOf s a b))
@@ -100,6 +114,9 @@ pub record Lossless : Type 0 where
   pub scores : (s l : List ℕ) → takenBy scoresMacros (tallyCode (talliedOf s l)) ≡ whole (tallyAnswer (talliedOf s l))
   pub members : (starts table : List ℕ) (k : ℕ) → length table < 9223372036854775808
       → takenBy itself (lookedCode (lookedOf starts table k)) ≡ whole (lookAnswer (lookedOf starts table k))
+  pub scheduled : (t : Time) (w : Window) (k : ℕ) (starts table starts′ table′ : List ℕ) → length table < entryLimit → length table′ < entryLimit
+      → (let answer = scheduledOf (choiceOf t w) (lookedOf starts table k) (lookedOf starts′ table′ k) in
+      takenBy scheduledMacros (scheduledCode answer) ≡ whole (scheduledAnswer answer))
   pub nearest : (s : List ℕ) (p : List ℤ) → length p ≡ coordinateCount
       → takenBy nearestMacros (nearestCode (nearestOf s p)) ≡ whole (nearestAnswer (nearestOf s p))
   pub report : (s : List ℕ) (room : ℕ) → room < 9223372036854775808

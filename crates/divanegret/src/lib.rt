@@ -9,8 +9,11 @@ ghost use Rattle.planner.specs.Plan.{planOf, startsAfter, membersAfter, knownOf
 ghost use Rattle.scores.specs.Scored.{talliedOf};
 ghost use Rattle.reporting.specs.Report.{reportOf, textAfter};
 ghost use Rattle.lookup.specs.Lookup.{lookedOf};
+ghost use Rattle.schedule.specs.Schedule.{choiceOf, scheduledOf};
 ghost use Rattle.nearest.specs.Nearest.{nearestOf};
-ghost use Rattle.codes.specs.Codes.{openCode, planCode, roleCode, tallyCode, lookedCode, nearestCode, reportCode};
+ghost use Rattle.codes.specs.Codes.{openCode, planCode, roleCode, tallyCode, lookedCode, scheduledCode, nearestCode, reportCode};
+use schedule::Time;
+use schedule::Window;
 
 // The report of an image, in the text buffer.
 #[no_mangle]
@@ -58,6 +61,44 @@ pub extern "C" fn dvg_members(starts: &[u32], members: &[u16], k: usize) -> i64
     ensures { λ z. ⌜ z ≡ lookedCode (lookedOf (now (starts .entry)) (now (members .entry)) k) ⌝ }
 {
     codes::looked_code(lookup::find_group(starts, members, k))
+}
+
+// The count of members of group k in the plan for a time.
+#[no_mangle]
+pub extern "C" fn dvg_members_at(
+    year: u32,
+    month: u32,
+    day: u32,
+    minute: u32,
+    opening: u32,
+    closing: u32,
+    k: usize,
+    workday_starts: &[u32],
+    workday_members: &[u16],
+    restday_starts: &[u32],
+    restday_members: &[u16],
+) -> i64
+    ensures { λ z. ⌜ z ≡ scheduledCode (scheduledOf (choiceOf (record { year = year; month = month; day = day; minute = minute }) (record { opening = opening; closing = closing })) (lookedOf (now («workday_starts» .entry)) (now («workday_members» .entry)) k) (lookedOf (now («restday_starts» .entry)) (now («restday_members» .entry)) k)) ⌝ }
+{
+    let time = Time {
+        year: year,
+        month: month,
+        day: day,
+        minute: minute,
+    };
+    let window = Window {
+        opening: opening,
+        closing: closing,
+    };
+    codes::scheduled_code(schedule::find_group_at(
+        time,
+        window,
+        k,
+        workday_starts,
+        workday_members,
+        restday_starts,
+        restday_members,
+    ))
 }
 
 // The group nearest to a point.

@@ -1,0 +1,3 @@
+pub mod Agreement
+pub mod Answers
+pub mod Examples
