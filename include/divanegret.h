@@ -1,7 +1,8 @@
 /* divanegret: the talk-group planner of a site controller, for firmware written in C.
  *
  * docs/SITE-IMAGE.md has the site image byte by byte, the meaning of near, core, group, role,
- * score and nearest group, and every refusal; this file says how C calls the planner.
+ * score, nearest group and the plan for a time, and every refusal; this file says how C calls the
+ * planner.
  *
  * Every function here is a thin, proved wrapper around the planner's library; its outcome is
  * fixed for every input, byte by byte. The functions
@@ -10,18 +11,20 @@
  *     stood past its end stays, and after a refusal every lent byte is as it was;
  *   - never allocate, keep no state between calls and are reentrant: two calls may run at the same
  *     time if neither writes what the other reads;
- *   - always return. No image, however damaged, makes one trap or loop.
+ *   - always return. No image, however damaged, and no number makes one trap or loop.
  *
  * Stack that a call needs on x86-64, as this archive is compiled: the frames along its deepest path
  * added up, and confirmed by measuring (tests/rust, program stack). It is no part of what is proved,
  * and another compiler or target may need another amount.
  *
  *     dvg_report 91 KiB    dvg_nearest 70 KiB    dvg_plan, dvg_role 36 KiB
- *     dvg_open, dvg_scores 35 KiB    dvg_members 1 KiB
+ *     dvg_open, dvg_scores 35 KiB    dvg_members, dvg_members_at 1 KiB
  *
  * The caller owns everything that it lends, before, during and after the call. A pointer must be
  * valid for the length given with it, also where that length is 0 (any non-null pointer then
- * serves), and aligned for its type. Lent tables must not overlap the image or each other.
+ * serves), and aligned for its type. A table or buffer that is written must not overlap anything
+ * else that is lent; tables given as const may be the same memory, as for the two plans of
+ * dvg_members_at.
  *
  * A result is never both: 0 or more is success, less than 0 is a refusal. dvg_report returns the
  * refusal's number made negative. The other functions return the refusal's place as well:
@@ -60,10 +63,15 @@ extern "C" {
 #define DVG_ENTRY 13         /* dvg_role: is the handset below n? dvg_scores: is each entry below n,
                                 and none at index 512 or later? Place: the entry's index. */
 #define DVG_NO_GROUP 14      /* dvg_members: is k + 1 a place in the start table, and is starts[k] <=
-                                starts[k + 1] <= the member table's length? */
+                                starts[k + 1] <= the member table's length? dvg_members_at: the same,
+                                of the chosen plan's tables alone. */
 #define DVG_LONG_INPUT 15    /* The report program alone: does its input end within 65,536 bytes? */
 #define DVG_TEXT_SHORT 16    /* dvg_report: does the buffer hold the whole text? */
 #define DVG_SPOT 17          /* dvg_nearest: are x and y from -1,000,000 to 1,000,000? */
+#define DVG_DATE 18          /* dvg_members_at: is the year from 1600 to 9999, and is there such a date
+                                in the Gregorian calendar? */
+#define DVG_TIME 19          /* dvg_members_at: is the minute at most 1,439, closing at most 1,440, and
+                                opening not after closing? */
 
 /* A start table of DVG_STARTS entries and a member table of DVG_MEMBERS entries suffice for every
  * image; for a given one, n + 1 and n + 2 m do. */
@@ -114,6 +122,26 @@ int64_t dvg_nearest(const uint8_t *image, size_t image_len, int32_t x, int32_t y
 #define DVG_FOUND(r) ((int32_t)((r) % 2))
 #define DVG_NEAREST_GROUP(r) ((int32_t)((r) / 2 % 32768))
 #define DVG_SQUARED_DISTANCE(r) ((int64_t)((r) / 65536))
+
+/* The count of members of group k at a time, for a site with two plans, the first for working hours
+ * and the second for the rest: table + 2 * count. The first plan's tables come first. It is the first
+ * plan, DVG_WORKDAY, from Monday to Friday when opening <= minute < closing, else the second,
+ * DVG_RESTDAY; the members stand at that plan's members + starts[k]. Minutes are counted from the
+ * beginning of the day, date and minute are those of the site's own clock, and holidays are days like
+ * others; with opening = closing no minute is in working hours. Any numbers may come in, and nothing is
+ * written. Refusals 18, 19, 14, asked in this order, place 0 each. The tables of the other plan are not
+ * looked at, but all four pointers must be valid; a site with one plan lends it twice. DVG_TABLE and
+ * DVG_COUNT are of a success only. */
+int64_t dvg_members_at(uint32_t year, uint32_t month, uint32_t day, uint32_t minute,
+                       uint32_t opening, uint32_t closing, uint64_t k,
+                       const uint32_t *workday_starts, size_t workday_starts_len,
+                       const uint16_t *workday_members, size_t workday_members_len,
+                       const uint32_t *restday_starts, size_t restday_starts_len,
+                       const uint16_t *restday_members, size_t restday_members_len);
+#define DVG_WORKDAY 0
+#define DVG_RESTDAY 1
+#define DVG_TABLE(r) ((int32_t)((r) % 2))
+#define DVG_COUNT(r) ((int64_t)((r) / 2))
 
 #ifdef __cplusplus
 }

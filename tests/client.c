@@ -273,6 +273,88 @@ static void check_nearest(const uint8_t *image)
           dvg_nearest(other, 32, 3, -1000001) == -DVG_SPOT);
 }
 
+/* The two plans of a site as the firmware keeps them: those of site S with mu 4 and with mu 3. */
+static const uint32_t work_starts[3] = {0, 4, 8};
+static const uint16_t work_members[8] = {0, 1, 2, 3, 3, 4, 5, 6};
+static const uint32_t rest_starts[2] = {0, 7};
+static const uint16_t rest_members[7] = {0, 1, 2, 3, 4, 5, 6};
+
+/* Open from 8:00 to 17:00. */
+static int64_t members_at(uint32_t year, uint32_t month, uint32_t day, uint32_t minute, uint64_t k)
+{
+    return dvg_members_at(year, month, day, minute, 8 * 60, 17 * 60, k, work_starts, 3, work_members,
+                          8, rest_starts, 2, rest_members, 7);
+}
+
+/* Group 0 on Thursday 29 February 2024, in other working hours. */
+static int64_t members_with(uint32_t minute, uint32_t opening, uint32_t closing)
+{
+    return dvg_members_at(2024, 2, 29, minute, opening, closing, 0, work_starts, 3, work_members, 8,
+                          rest_starts, 2, rest_members, 7);
+}
+
+static int is_in(int64_t answer, int32_t table, int64_t count)
+{
+    return answer >= 0 && DVG_TABLE(answer) == table && DVG_COUNT(answer) == count;
+}
+
+/* Where the members of group k stand, by an answer that is no refusal. */
+static const uint16_t *members_of(int64_t answer, uint64_t k)
+{
+    return DVG_TABLE(answer) == DVG_WORKDAY ? work_members + work_starts[k]
+                                            : rest_members + rest_starts[k];
+}
+
+static void check_members_at(void)
+{
+    static const uint16_t group_1[4] = {3, 4, 5, 6};
+    static const uint16_t all[7] = {0, 1, 2, 3, 4, 5, 6};
+    int64_t answer = members_at(2024, 2, 29, 8 * 60, 1);
+    check("on a Thursday at opening the workday plan", is_in(answer, DVG_WORKDAY, 4));
+    check("as the header encodes it", answer == 8);
+    check("whose members stand from its start on",
+          is_in(answer, DVG_WORKDAY, 4)
+              && memcmp(members_of(answer, 1), group_1, sizeof group_1) == 0);
+    answer = members_at(2024, 2, 29, 17 * 60, 0);
+    check("at closing the rest-day plan", is_in(answer, DVG_RESTDAY, 7) && answer == 15);
+    check("whose members are its own",
+          is_in(answer, DVG_RESTDAY, 7) && memcmp(members_of(answer, 0), all, sizeof all) == 0);
+    check("a minute before closing the workday plan",
+          is_in(members_at(2024, 2, 29, 17 * 60 - 1, 0), DVG_WORKDAY, 4));
+    check("a minute before opening the rest-day plan",
+          is_in(members_at(2024, 2, 29, 8 * 60 - 1, 0), DVG_RESTDAY, 7));
+    check("on a Friday the workday plan", is_in(members_at(2024, 3, 1, 600, 0), DVG_WORKDAY, 4));
+    check("on a Saturday the rest-day plan", is_in(members_at(2000, 1, 1, 600, 0), DVG_RESTDAY, 7));
+    check("on a Sunday, too", is_in(members_at(2000, 1, 2, 600, 0), DVG_RESTDAY, 7));
+    check("on a Monday the workday plan", is_in(members_at(2000, 1, 3, 600, 0), DVG_WORKDAY, 4));
+    check("group 1 is not in the rest-day plan", members_at(2000, 1, 1, 600, 1) == -DVG_NO_GROUP);
+    check("group 2 is not in the workday plan", members_at(2000, 1, 3, 600, 2) == -DVG_NO_GROUP);
+    check("nor is the last number", members_at(2000, 1, 3, 600, UINT64_MAX) == -DVG_NO_GROUP);
+    check("the first day", members_at(1600, 1, 1, 600, 0) == 15);
+    check("the last day", members_at(9999, 12, 31, 600, 0) == 8);
+    check("no day before", members_at(1599, 12, 31, 600, 0) == -DVG_DATE);
+    check("no day after", members_at(10000, 1, 1, 600, 0) == -DVG_DATE);
+    check("no 29 February 1900", members_at(1900, 2, 29, 600, 0) == -DVG_DATE);
+    check("no month 0", members_at(2024, 0, 1, 600, 0) == -DVG_DATE);
+    check("no numbers far beyond",
+          members_at(UINT32_MAX, UINT32_MAX, UINT32_MAX, 600, 0) == -DVG_DATE);
+    check("no minute 1440", members_at(2024, 2, 29, 1440, 0) == -DVG_TIME);
+    check("the date is asked first", members_at(2023, 2, 29, 1440, 2) == -DVG_DATE);
+    answer = members_at(2024, 2, 29, UINT32_MAX, 2);
+    check("the minute before the group", DVG_NUMBER(answer) == DVG_TIME && DVG_PLACE(answer) == 0);
+    check("open all day", is_in(members_with(1439, 0, 1440), DVG_WORKDAY, 4));
+    check("never open", is_in(members_with(480, 480, 480), DVG_RESTDAY, 7));
+    check("never open at the end", is_in(members_with(1439, 1440, 1440), DVG_RESTDAY, 7));
+    check("no opening after closing", members_with(480, 481, 480) == -DVG_TIME);
+    check("no closing after the day", members_with(480, 480, 1441) == -DVG_TIME);
+    answer = dvg_members_at(2000, 1, 1, 600, 480, 1020, 1, work_starts, 3, work_members, 8,
+                            work_starts, 3, work_members, 8);
+    check("one plan for both", is_in(answer, DVG_RESTDAY, 4));
+    answer = dvg_members_at(2000, 1, 1, 600, 480, 1020, 0, work_starts, 0, work_members, 0,
+                            rest_starts, 2, rest_members, 7);
+    check("only the chosen plan is asked", is_in(answer, DVG_RESTDAY, 7));
+}
+
 int main(void)
 {
     uint8_t image[LENGTH];
@@ -287,6 +369,7 @@ int main(void)
     check_blank_mu(image);
     check_scores(image);
     check_nearest(image);
+    check_members_at();
     check("the image is as it was", memcmp(image, before, LENGTH) == 0);
     return failures != 0;
 }

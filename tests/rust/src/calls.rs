@@ -55,6 +55,58 @@ pub struct Nearest {
     pub squared_distance: u64,
 }
 
+/// A date of the Gregorian calendar, or three numbers that are none.
+#[derive(Clone, Copy, Debug, PartialEq, Eq)]
+pub struct Date {
+    pub year: u32,
+    pub month: u32,
+    pub day: u32,
+}
+
+/// A date and a minute of that day, within the limits or not.
+#[derive(Clone, Copy, Debug, PartialEq, Eq)]
+pub struct Time {
+    pub date: Date,
+    pub minute: u32,
+}
+
+/// Working hours, from the opening minute up to, not including, the closing one, within the limits or not.
+#[derive(Clone, Copy, Debug, PartialEq, Eq)]
+pub struct Window {
+    pub opening: u32,
+    pub closing: u32,
+}
+
+/// The two tables of a plan, or of no plan.
+#[derive(Clone, Copy, Debug, PartialEq, Eq)]
+pub struct Plan<'a> {
+    pub starts: &'a [u32],
+    pub members: &'a [u16],
+}
+
+/// The two plans of a site: one for working hours, one for the rest.
+#[derive(Clone, Copy, Debug, PartialEq, Eq)]
+pub struct Plans<'a> {
+    pub workday: Plan<'a>,
+    pub restday: Plan<'a>,
+}
+
+/// What the call for the members at a time gets.
+#[derive(Clone, Copy, Debug, PartialEq, Eq)]
+pub struct Query<'a> {
+    pub time: Time,
+    pub window: Window,
+    pub community: u64,
+    pub plans: Plans<'a>,
+}
+
+/// The plan for a time, with the count of members that a community has in it.
+#[derive(Clone, Copy, Debug, PartialEq, Eq)]
+pub enum Scheduled {
+    Workday(u64),
+    Restday(u64),
+}
+
 /// A planner under test.
 pub trait Planner {
     fn name(&self) -> &'static str;
@@ -77,6 +129,9 @@ pub trait Planner {
 
     /// None where there are no communities.
     fn nearest(&self, image: &[u8], point: Point) -> Result<Option<Nearest>, Refusal>;
+
+    /// The members stand in the chosen plan's member table, from the community's start on.
+    fn members_at(&self, query: Query) -> Result<Scheduled, Refusal>;
 
     /// The text's length, or the number of the refusal alone, as the C call answers.
     fn report(&self, image: &[u8], text: &mut [u8]) -> Result<u64, u64>;

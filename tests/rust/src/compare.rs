@@ -1,15 +1,20 @@
 //! One image through every call of a planner, compared with the reference: answers, every entry of
 //! what was lent, and the image itself. Lent tables hold a pattern before a call and have guards on
-//! both sides; images stand at any address, with noise around them.
+//! both sides; images stand at any address, with noise around them. The call for the members at a time
+//! gets no image, and is compared on many times besides.
 
 use std::fmt::{Debug, Display};
 use std::io::Write;
 use std::path::Path;
 use std::process::{Command, Stdio};
 
-use crate::calls::{Counts, Nearest, Opened, Planner, Point, Refusal, Role};
+use crate::calendar::{self, SATURDAY};
+use crate::calls::{
+    Counts, Nearest, Opened, Plan, Planner, Plans, Point, Query, Refusal, Role, Scheduled,
+};
 use crate::reference::{self, Community, Findings};
 use crate::sites::{self, Rng, Tables, MOST_COORDINATE, MOST_HANDSETS};
+use crate::times;
 
 /// Agreement, or what differs.
 pub type Outcome = Result<(), String>;
@@ -152,6 +157,9 @@ fn accepted(
     let (starts, members) = (found.start_table(), found.member_table());
     (0..starts.len() as u64 + 2).try_for_each(|k| lookup(planner, &starts, &members, k))?;
     hostile_lookups(planner, &members, rng)?;
+    scheduled_lookups(planner, &starts, &members, rng)?;
+    let tables = (found.start_table(), found.member_table());
+    holds("a lookup changed a table", (starts, members) == tables)?;
     nearest(planner, image, found, rng)?;
     reports(planner, image, &reference::text(found), rng)
 }
@@ -253,9 +261,7 @@ fn lookup(planner: &dyn Planner, starts: &[u32], members: &[u16], k: u64) -> Out
 
 /// The member lookup on start tables that no plan wrote, and for numbers beyond them.
 fn hostile_lookups(planner: &dyn Planner, members: &[u16], rng: &mut Rng) -> Outcome {
-    let m = members.len() as u32;
-    let values = [0, 1, m / 2, m.wrapping_sub(1), m, m + 1, 1 << 31, u32::MAX - 1, u32::MAX];
-    let starts: Vec<u32> = (0..rng.below(9)).map(|_| rng.pick(&values)).collect();
+    let starts: Vec<u32> = (0..rng.below(9)).map(|_| hostile_start(members, rng)).collect();
     let s = starts.len() as u64;
     let beyond = [(1 << 32) - 1, 1 << 32, (1 << 32) + s / 2, 1 << 61, 1 << 62, 1 << 63];
     let last = [u64::MAX - 1, u64::MAX];
@@ -264,6 +270,76 @@ fn hostile_lookups(planner: &dyn Planner, members: &[u16], rng: &mut Rng) -> Out
         lookup(planner, &starts, members, k)?;
     }
     Ok(())
+}
+
+/// A number around the ends and the middle of a member table, or far beyond.
+fn hostile_start(members: &[u16], rng: &mut Rng) -> u32 {
+    let m = members.len() as u32;
+    rng.pick(&[0, 1, m / 2, m.wrapping_sub(1), m, m + 1, 1 << 31, u32::MAX - 1, u32::MAX])
+}
+
+// ---------------------------------------------------------------- the members at a time
+
+/// Every date, and every triple of numbers around those, in working hours: refused, or the plan that the
+/// counted days say.
+pub fn every_date(planner: &dyn Planner) -> Outcome {
+    for (date, weekday) in calendar::every_triple() {
+        let expected = match weekday {
+            None => Err(Refusal { number: 18, place: 0 }),
+            Some(weekday) if weekday < SATURDAY => Ok(Scheduled::Workday(2)),
+            Some(_) => Ok(Scheduled::Restday(1)),
+        };
+        let got = planner.members_at(times::in_working_hours(date));
+        same(format_args!("members on {date:?}"), got, expected)?;
+    }
+    Ok(())
+}
+
+/// Times, windows, numbers and plans of every kind.
+pub fn hostile_times(planner: &dyn Planner, rng: &mut Rng) -> Outcome {
+    times::hostile(rng).into_iter().try_for_each(|query| members_at(planner, query))
+}
+
+/// The plan of a site together with another one, either way round: with none, a part of it, a damaged one,
+/// and itself. Each community is looked up at a time.
+fn scheduled_lookups(
+    planner: &dyn Planner,
+    starts: &[u32],
+    members: &[u16],
+    rng: &mut Rng,
+) -> Outcome {
+    let plan = Plan { starts, members };
+    let part = rng.below(starts.len());
+    let mut damaged = starts.to_vec();
+    damaged[part] = hostile_start(members, rng);
+    let others = [
+        Plan { starts: &[], members: &[] },
+        Plan { starts: &starts[..=part], members: &members[..starts[part] as usize] },
+        Plan { starts: &damaged, members },
+        plan,
+    ];
+    for community in 0..starts.len() as u64 + 2 {
+        let other = rng.pick(&others);
+        let (time, window) = times::any(rng);
+        for (workday, restday) in [(plan, other), (other, plan)] {
+            let plans = Plans { workday, restday };
+            members_at(planner, Query { time, window, community, plans })?;
+        }
+    }
+    Ok(())
+}
+
+/// The lookup at a time, for one community.
+fn members_at(planner: &dyn Planner, query: Query) -> Outcome {
+    let Query { time, window, community, plans: Plans { workday, restday } } = query;
+    let what = format_args!(
+        "members of {community} at {time:?} with {window:?} in {:?} with {} members or {:?} with {}",
+        workday.starts,
+        workday.members.len(),
+        restday.starts,
+        restday.members.len()
+    );
+    same(what, planner.members_at(query), reference::members_at(query))
 }
 
 // ---------------------------------------------------------------- the nearest community
@@ -496,7 +572,7 @@ pub fn program(path: &Path, input: &[u8]) -> Outcome {
 #[cfg(test)]
 mod tests {
     use super::*;
-    use crate::calls::{Record, Scores};
+    use crate::calls::{Date, Record, Scores, Time};
     use crate::fast::Fast;
     use crate::sites::{site_s, Layout};
 
@@ -515,6 +591,11 @@ mod tests {
         TakesLastOfEquals,
         RefusesTheLimit,
         TestsPointBeforeImage,
+        SwapsPlans,
+        AsksBothPlans,
+        LosesALeapDay,
+        CutsYears,
+        CapsTheFirstGroup,
     }
 
     impl Planner for Mistake {
@@ -590,6 +671,35 @@ mod tests {
             }))
         }
 
+        fn members_at(&self, query: Query) -> Result<Scheduled, Refusal> {
+            let Query { time, community, plans, .. } = query;
+            let swapped = Plans { workday: plans.restday, restday: plans.workday };
+            match self {
+                Mistake::SwapsPlans => Fast.members_at(Query { plans: swapped, ..query }),
+                Mistake::LosesALeapDay if time.date == Date { year: 2800, month: 2, day: 29 } => {
+                    Err(Refusal { number: 18, place: 0 })
+                }
+                Mistake::CutsYears => {
+                    let date = Date { year: time.date.year % 65_536, ..time.date };
+                    Fast.members_at(Query { time: Time { date, ..time }, ..query })
+                }
+                Mistake::CapsTheFirstGroup if community == 0 => {
+                    Fast.members_at(query).map(|answer| match answer {
+                        Scheduled::Workday(count) => Scheduled::Workday(count.min(3)),
+                        Scheduled::Restday(count) => Scheduled::Restday(count.min(3)),
+                    })
+                }
+                Mistake::AsksBothPlans => {
+                    let answer = Fast.members_at(query)?;
+                    for Plan { starts, members } in [plans.workday, plans.restday] {
+                        Fast.members(starts, members, community)?;
+                    }
+                    Ok(answer)
+                }
+                _ => Fast.members_at(query),
+            }
+        }
+
         fn report(&self, image: &[u8], text: &mut [u8]) -> Result<u64, u64> {
             let length = Fast.report(image, text)?;
             if *self == Mistake::CountsNoMultiple {
@@ -599,7 +709,7 @@ mod tests {
         }
     }
 
-    /// Site S, and the same with its last tie repeated.
+    /// Site S, the same with its last tie repeated, and times.
     fn outcome(planner: Mistake) -> Outcome {
         let mut rng = Rng::new(8);
         let good = site_s(4).image(Layout::any(&mut rng), &mut rng);
@@ -607,7 +717,9 @@ mod tests {
         repeated.ties.push((6, 5));
         image(&planner, &good, &mut rng)?;
         renumbering(&planner, &good, &mut rng)?;
-        image(&planner, &repeated.plain_image(), &mut rng)
+        image(&planner, &repeated.plain_image(), &mut rng)?;
+        hostile_times(&planner, &mut rng)?;
+        every_date(&planner)
     }
 
     #[test]
@@ -626,9 +738,30 @@ mod tests {
             TakesLastOfEquals,
             RefusesTheLimit,
             TestsPointBeforeImage,
+            SwapsPlans,
+            AsksBothPlans,
+            LosesALeapDay,
+            CutsYears,
+            CapsTheFirstGroup,
         ];
         for mistake in mistakes {
             assert!(outcome(mistake).is_err(), "{mistake:?} was not noticed");
+        }
+    }
+
+    /// Each has a mistake that no other comparison of times would notice.
+    #[test]
+    fn each_comparison_of_times_notices_a_mistake() {
+        let mut rng = Rng::new(8);
+        let good = site_s(4).image(Layout::any(&mut rng), &mut rng);
+        assert!(every_date(&Mistake::LosesALeapDay).is_err());
+        assert!(hostile_times(&Mistake::CutsYears, &mut rng).is_err());
+        assert!(image(&Mistake::CapsTheFirstGroup, &good, &mut rng).is_err());
+        for mistake in [Mistake::CutsYears, Mistake::CapsTheFirstGroup] {
+            assert_eq!(every_date(&mistake), Ok(()));
+        }
+        for mistake in [Mistake::LosesALeapDay, Mistake::CapsTheFirstGroup] {
+            assert_eq!(hostile_times(&mistake, &mut rng), Ok(()));
         }
     }
 

@@ -12,7 +12,10 @@
 //!
 //! Every pass is linear in the handsets and ties, times the words of a row.
 
-use crate::calls::{Counts, Nearest, Opened, Planner, Point, Record, Refusal, Role, Scores};
+use crate::calls::{
+    Counts, Date, Nearest, Opened, Planner, Point, Query, Record, Refusal, Role, Scheduled, Scores,
+    Time, Window,
+};
 
 const HEADER: usize = 32;
 const MOST_HANDSETS: usize = 512;
@@ -556,6 +559,34 @@ fn report<const W: usize, const R: usize>(
     Ok(length.0)
 }
 
+// ---------------------------------------------------------------- dates
+
+/// The shift of each month's weekdays, from January on, in years that begin with March.
+const SHIFTS: [u32; 12] = [0, 3, 2, 5, 0, 3, 5, 1, 4, 6, 2, 4];
+
+/// Whether there is such a date, in a year from 1600 to 9999.
+fn exists(Date { year, month, day }: Date) -> bool {
+    if !(1600..=9999).contains(&year) || !(1..=12).contains(&month) {
+        return false;
+    }
+    // A year that 25 divides and 4 too is a century, and then 16 divides it where 400 does.
+    let leap = year & if year.is_multiple_of(25) { 15 } else { 3 } == 0;
+    let length = match month {
+        2 => 28 + u32::from(leap),
+        // The odd months before August have 31 days, and the even ones from then on.
+        _ => 30 | (month ^ (month >> 3)),
+    };
+    (1..=length).contains(&day)
+}
+
+/// Whether a date that exists is from Monday to Friday, by Sakamoto's formula, in which Sunday is 0.
+fn is_workday(Date { year, month, day }: Date) -> bool {
+    let year = year - u32::from(month < 3);
+    let shift = SHIFTS[(month - 1) as usize];
+    let weekday = (year + year / 4 - year / 100 + year / 400 + shift + day) % 7;
+    (1..=5).contains(&weekday)
+}
+
 // ---------------------------------------------------------------- the text
 
 /// All that the report says.
@@ -812,6 +843,24 @@ impl Planner for Fast {
     fn nearest(&self, image: &[u8], point: Point) -> Result<Option<Nearest>, Refusal> {
         let image = Image::read(image)?;
         by_width!(image, nearest(&image, point))
+    }
+
+    fn members_at(&self, query: Query) -> Result<Scheduled, Refusal> {
+        let Query { time: Time { date, minute }, window, community, plans } = query;
+        let Window { opening, closing } = window;
+        if !exists(date) {
+            return refuse(18, 0);
+        }
+        if minute >= 1440 || closing > 1440 || opening > closing {
+            return refuse(19, 0);
+        }
+        if opening <= minute && minute < closing && is_workday(date) {
+            let plan = plans.workday;
+            self.members(plan.starts, plan.members, community).map(Scheduled::Workday)
+        } else {
+            let plan = plans.restday;
+            self.members(plan.starts, plan.members, community).map(Scheduled::Restday)
+        }
     }
 
     fn report(&self, image: &[u8], text: &mut [u8]) -> Result<u64, u64> {

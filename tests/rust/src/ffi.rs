@@ -2,7 +2,9 @@
 //! functions that decode the answers. Nothing checks these declarations against the library, so they
 //! are kept beside the header, in its order.
 
-use crate::calls::{Counts, Nearest, Opened, Planner, Point, Record, Refusal, Role, Scores};
+use crate::calls::{
+    Counts, Nearest, Opened, Planner, Plans, Point, Query, Record, Refusal, Role, Scheduled, Scores,
+};
 
 /// The header's functions.
 mod c {
@@ -37,6 +39,23 @@ mod c {
             k: u64,
         ) -> i64;
         pub fn dvg_nearest(image: *const u8, image_len: usize, x: i32, y: i32) -> i64;
+        pub fn dvg_members_at(
+            year: u32,
+            month: u32,
+            day: u32,
+            minute: u32,
+            opening: u32,
+            closing: u32,
+            k: u64,
+            workday_starts: *const u32,
+            workday_starts_len: usize,
+            workday_members: *const u16,
+            workday_members_len: usize,
+            restday_starts: *const u32,
+            restday_starts_len: usize,
+            restday_members: *const u16,
+            restday_members_len: usize,
+        ) -> i64;
     }
 }
 
@@ -79,6 +98,16 @@ fn decode_nearest(answer: u64) -> Option<Nearest> {
         (1, community, squared_distance) => Some(Nearest { community, squared_distance }),
         (_, 0, 0) => None,
         _ => panic!("no community, yet the answer {answer}"),
+    }
+}
+
+/// The plan, and the count of members. A count that no start table can hold is an error.
+fn decode_scheduled(answer: u64) -> Scheduled {
+    let (table, count) = (answer % 2, answer / 2);
+    assert!(u32::try_from(count).is_ok(), "{count} members in table {table}");
+    match table {
+        0 => Scheduled::Workday(count),
+        _ => Scheduled::Restday(count),
     }
 }
 
@@ -146,6 +175,10 @@ impl Planner for Proved {
         decode(answer).map(decode_nearest)
     }
 
+    fn members_at(&self, query: Query) -> Result<Scheduled, Refusal> {
+        decode(members_at(query)).map(decode_scheduled)
+    }
+
     fn report(&self, image: &[u8], text: &mut [u8]) -> Result<u64, u64> {
         let answer =
             unsafe { c::dvg_report(image.as_ptr(), image.len(), text.as_mut_ptr(), text.len()) };
@@ -153,9 +186,34 @@ impl Planner for Proved {
     }
 }
 
+/// The answer of dvg_members_at as it stands.
+fn members_at(Query { time, window, community, plans: Plans { workday, restday } }: Query) -> i64 {
+    // SAFETY: as above.
+    unsafe {
+        c::dvg_members_at(
+            time.date.year,
+            time.date.month,
+            time.date.day,
+            time.minute,
+            window.opening,
+            window.closing,
+            community,
+            workday.starts.as_ptr(),
+            workday.starts.len(),
+            workday.members.as_ptr(),
+            workday.members.len(),
+            restday.starts.as_ptr(),
+            restday.starts.len(),
+            restday.members.as_ptr(),
+            restday.members.len(),
+        )
+    }
+}
+
 #[cfg(test)]
 mod tests {
     use super::*;
+    use crate::calls::{Date, Plan, Time, Window};
     use crate::compare;
     use crate::sites::{self, Rng};
 
@@ -188,8 +246,40 @@ mod tests {
         assert_eq!((nearest(&empty, 1_000_001, 0), nearest(&[], 1_000_001, 0)), (-17, -1));
     }
 
+    /// The numbers that docs/SITE-IMAGE.md has: the plans of site S with mu 4 and with mu 3.
+    #[test]
+    fn members_at_a_time_as_documented() {
+        let plans = Plans {
+            workday: Plan { starts: &[0, 4, 8], members: &[0, 1, 2, 3, 3, 4, 5, 6] },
+            restday: Plan { starts: &[0, 7], members: &[0, 1, 2, 3, 4, 5, 6] },
+        };
+        let at = |(year, month, day), minute, (opening, closing), community| {
+            let time = Time { date: Date { year, month, day }, minute };
+            members_at(Query { time, window: Window { opening, closing }, community, plans })
+        };
+        let (thursday, hours) = ((2024, 2, 29), (480, 1020));
+        assert_eq!((at(thursday, 480, hours, 0), at(thursday, 1019, hours, 1)), (8, 8));
+        assert_eq!((at(thursday, 479, hours, 0), at(thursday, 1020, hours, 0)), (15, 15));
+        assert_eq!((at(thursday, 1020, hours, 1), at(thursday, 480, hours, 2)), (-14, -14));
+        assert_eq!(at((2000, 1, 1), 600, hours, 0), 15);
+        assert_eq!((at(thursday, 480, (480, 480), 0), at(thursday, 0, (0, 1440), 0)), (15, 8));
+        assert_eq!(
+            (at((1900, 2, 29), 1440, hours, 0), at((10_000, 1, 3), 0, hours, 0)),
+            (-18, -18)
+        );
+        assert_eq!((at(thursday, 1440, hours, 9), at(thursday, 0, (1020, 480), 0)), (-19, -19));
+        assert_eq!(at(thursday, 0, (0, 1441), 0), -19);
+    }
+
+    #[test]
+    #[should_panic = "4294967296 members in table 1"]
+    fn a_count_that_no_table_holds_is_an_error() {
+        decode_scheduled(1 + 2 * (1 << 32));
+    }
+
     #[test]
     fn answers_are_decoded_as_the_header_encodes_them() {
+        use Scheduled::{Restday, Workday};
         assert_eq!(decode(7 + 65_536 * 8).map(split), Ok((7, 8)));
         assert_eq!(decode(-(10 + 256 * 4095)), Err(Refusal { number: 10, place: 4095 }));
         let near = 4 << 32;
@@ -202,5 +292,10 @@ mod tests {
         assert_eq!(decode_nearest(1 + 2 * 511 + 65_536 * 8_000_000_000_000), Some(nearest));
         let here = Nearest { community: 0, squared_distance: 0 };
         assert_eq!((decode_nearest(1), decode_nearest(0)), (Some(here), None));
+        let scheduled = |answer: i64| decode(answer).map(decode_scheduled);
+        assert_eq!((scheduled(0), scheduled(1)), (Ok(Workday(0)), Ok(Restday(0))));
+        assert_eq!((scheduled(8), scheduled(15)), (Ok(Workday(4)), Ok(Restday(7))));
+        assert_eq!(scheduled(2 * 4_294_967_295), Ok(Workday(4_294_967_295)));
+        assert_eq!(scheduled(-19), Err(Refusal { number: 19, place: 0 }));
     }
 }

@@ -4,13 +4,16 @@
 //! |-------------|-----------------------------------------------------------------------------|
 //! | `calls`     | the planner's calls and answers, one trait for every implementation         |
 //! | `reference` | an independent planner, written for the reader, by the definitions          |
+//! | `calendar`  | dates and their weekdays: one by itself, and every one counted              |
 //! | `fast`      | an optimised unverified planner, the benchmark's opponent                   |
 //! | `ffi`       | the proved planner, through its C interface (feature `proved`)              |
 //! | `sites`     | sites to try, their images, and renumberings of images                      |
 //! | `damage`    | damaged images                                                              |
+//! | `times`     | times, working hours and two plans to try                                   |
 //! | `examples`  | the inputs stored with the report program                                   |
-//! | `compare`   | one image through every call of a planner, compared with the reference      |
+//! | `compare`   | one image, or many times, through a planner's calls, against the reference  |
 
+pub mod calendar;
 pub mod calls;
 pub mod compare;
 pub mod damage;
@@ -20,3 +23,4 @@ pub mod fast;
 pub mod ffi;
 pub mod reference;
 pub mod sites;
+pub mod times;

@@ -5,7 +5,10 @@
 
 use std::collections::{BTreeSet, HashMap, HashSet, VecDeque};
 
-use crate::calls::{Counts, Nearest, Opened, Planner, Point, Record, Refusal, Role, Scores};
+use crate::calendar::{self, SATURDAY};
+use crate::calls::{
+    Counts, Nearest, Opened, Planner, Point, Query, Record, Refusal, Role, Scheduled, Scores,
+};
 
 const HEADER: usize = 32;
 const MOST_HANDSETS: usize = 512;
@@ -15,6 +18,7 @@ const MOST_COORDINATE: i64 = 1_000_000;
 const MOST_DENOMINATOR: u64 = 1000;
 const MOST_MU: usize = 512;
 const MU_FOR_ZERO: usize = 4;
+const DAY_MINUTES: u32 = 1440;
 const PROGRAM_INPUT: usize = 65_536;
 const PROGRAM_TEXT: usize = 65_536;
 
@@ -354,6 +358,19 @@ pub fn members<'a>(
     part.ok_or(Refusal { number: 14, place: 0 })
 }
 
+/// The count of members of a community in the plan for a time, or refusal 18, 19 or 14.
+pub fn members_at(query: Query) -> Result<Scheduled, Refusal> {
+    let Query { time, window, community, plans } = query;
+    ask(18, calendar::exists(time.date))?;
+    let window_fits = window.closing <= DAY_MINUTES && window.opening <= window.closing;
+    ask(19, time.minute < DAY_MINUTES && window_fits)?;
+    let in_window = (window.opening..window.closing).contains(&time.minute);
+    let working = in_window && calendar::weekday(time.date) < SATURDAY;
+    let plan = if working { plans.workday } else { plans.restday };
+    let count = members(plan.starts, plan.members, community)?.len() as u64;
+    Ok(if working { Scheduled::Workday(count) } else { Scheduled::Restday(count) })
+}
+
 /// The report on an accepted image.
 pub fn text(findings: &Findings) -> Vec<u8> {
     let site = findings.site();
@@ -473,6 +490,10 @@ impl Planner for Reference {
         Findings::of(open(image)?).nearest(point)
     }
 
+    fn members_at(&self, query: Query) -> Result<Scheduled, Refusal> {
+        members_at(query)
+    }
+
     fn report(&self, image: &[u8], text: &mut [u8]) -> Result<u64, u64> {
         let whole = report(image, text.len()).map_err(|refusal| refusal.number)?;
         text[..whole.len()].copy_from_slice(&whole);
@@ -483,6 +504,7 @@ impl Planner for Reference {
 #[cfg(test)]
 mod tests {
     use super::*;
+    use crate::calls::{Date, Plan, Plans, Time, Window};
     use crate::damage;
     use crate::sites::{self, Rng};
 
@@ -742,6 +764,41 @@ cores 2 borders 5 outliers 0 multiple 1
         assert_eq!(members(&starts, &table, u64::MAX), none);
         assert_eq!(members(&[], &table, 0), none);
         assert_eq!(members(&[0], &table, 0), none);
+    }
+
+    /// Group 0 has two members in the plan for working hours and three in the other; group 1 is in the
+    /// other alone.
+    #[test]
+    fn members_at_a_time() {
+        use Scheduled::{Restday, Workday};
+        let plans = Plans {
+            workday: Plan { starts: &[0, 2], members: &[10, 11] },
+            restday: Plan { starts: &[0, 3, 3], members: &[20, 21, 22] },
+        };
+        let at = |(year, month, day), minute, (opening, closing), community| {
+            let time = Time { date: Date { year, month, day }, minute };
+            members_at(Query { time, window: Window { opening, closing }, community, plans })
+        };
+        let (thursday, saturday) = ((2024, 2, 29), (2000, 1, 1));
+        let hours = (480, 1020);
+        assert_eq!(at(thursday, 480, hours, 0), Ok(Workday(2)));
+        assert_eq!(at(thursday, 1019, hours, 0), Ok(Workday(2)));
+        assert_eq!(at(thursday, 479, hours, 0), Ok(Restday(3)));
+        assert_eq!(at(thursday, 1020, hours, 0), Ok(Restday(3)));
+        assert_eq!(at(saturday, 480, hours, 0), Ok(Restday(3)));
+        assert_eq!(at(thursday, 480, (480, 480), 0), Ok(Restday(3)));
+        assert_eq!(at(thursday, 1439, (0, 1440), 0), Ok(Workday(2)));
+        assert_eq!(at(thursday, 1439, (1440, 1440), 0), Ok(Restday(3)));
+        // 14 of the chosen plan alone.
+        assert_eq!(at(thursday, 480, hours, 1), Err(refusal(14, 0)));
+        assert_eq!(at(saturday, 480, hours, 1), Ok(Restday(0)));
+        // 18 before 19 before 14.
+        assert_eq!(at((1900, 2, 29), 1440, hours, 9), Err(refusal(18, 0)));
+        assert_eq!(at((1599, 12, 31), 480, hours, 0), Err(refusal(18, 0)));
+        assert_eq!(at((10_000, 1, 1), 480, hours, 0), Err(refusal(18, 0)));
+        assert_eq!(at(thursday, 1440, hours, 9), Err(refusal(19, 0)));
+        assert_eq!(at(saturday, 0, (481, 480), 0), Err(refusal(19, 0)));
+        assert_eq!(at(saturday, 0, (480, 1441), 0), Err(refusal(19, 0)));
     }
 
     #[test]

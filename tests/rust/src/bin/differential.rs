@@ -4,9 +4,10 @@
 //!
 //!     differential [--seed N] [--count N | --seconds N] [--program PATH] [--save DIRECTORY]
 //!
-//! Named sites and site S with every choice of faults come first, whatever the count. Then case i has
-//! the seed N + i, so a failing case is run again alone with its own seed and `--count 1`. Its image is
-//! written into the directory. With `--program` the report program is run as well.
+//! Every date, hostile times, named sites and site S with every choice of faults come first, whatever the
+//! count. Then case i has the seed N + i, so a failing case is run again alone with its own seed and
+//! `--count 1`. A failing image is written into the directory. With `--program` the report program is
+//! run as well.
 
 use std::any::Any;
 use std::panic::{catch_unwind, AssertUnwindSafe};
@@ -40,11 +41,14 @@ fn main() -> ExitCode {
         }
     };
     let mut run = Run::new(&options);
-    match run.fixed().and_then(|()| run.random()) {
+    match run.times().and_then(|()| run.fixed()).and_then(|()| run.random()) {
         Ok(cases) => {
             let names: Vec<&str> = run.planners.iter().map(|planner| planner.name()).collect();
             let names = names.join(" and ");
-            println!("differential: {cases} sites, {} images: {names} agreed", run.images);
+            println!(
+                "differential: every date, {cases} sites, {} images: {names} agreed",
+                run.images
+            );
             ExitCode::SUCCESS
         }
         Err(failure) => {
@@ -94,15 +98,18 @@ struct Failure {
     case: String,
     planner: &'static str,
     problem: String,
-    image: Vec<u8>,
+    image: Option<Vec<u8>>,
 }
 
 impl Failure {
     fn tell(&self, directory: &Path) {
         println!("FAILED: {}: {}: {}", self.case, self.planner, self.problem);
+        let Some(image) = &self.image else {
+            return;
+        };
         let name = format!("failing-{}.image", self.case.replace(' ', "-"));
         let path = directory.join(name);
-        match std::fs::write(&path, &self.image) {
+        match std::fs::write(&path, image) {
             Ok(()) => println!("the image is in {}", path.display()),
             Err(error) => println!("the image could not be written: {error}"),
         }
@@ -134,6 +141,13 @@ impl<'a> Run<'a> {
             &Fast,
         ];
         Run { options, planners, images: 0 }
+    }
+
+    /// The call for the members at a time, on every date and with hostile arguments.
+    fn times(&self) -> Result<(), Failure> {
+        self.each_planner("every date", None, compare::every_date)?;
+        let hostile = |planner: &dyn Planner| compare::hostile_times(planner, &mut Rng::new(0));
+        self.each_planner("hostile times", None, hostile)
     }
 
     /// The named examples, and site S with every choice of one fault for each question.
@@ -196,7 +210,7 @@ impl<'a> Run<'a> {
         self.check(case, compare::renumbering, &image, rng)
     }
 
-    /// One comparison with every planner, each with the same random numbers. A panic is a failure.
+    /// One comparison of an image, each planner with the same random numbers.
     fn check(
         &mut self,
         case: &str,
@@ -206,15 +220,24 @@ impl<'a> Run<'a> {
     ) -> Result<(), Failure> {
         self.images += 1;
         let seed = rng.word();
+        self.each_planner(case, Some(image), |planner| check(planner, image, &mut Rng::new(seed)))
+    }
+
+    /// One comparison with every planner. A panic is a failure.
+    fn each_planner(
+        &self,
+        case: &str,
+        image: Option<&[u8]>,
+        check: impl Fn(&dyn Planner) -> Outcome,
+    ) -> Result<(), Failure> {
         for planner in &self.planners {
-            let compared = || check(*planner, image, &mut Rng::new(seed));
-            let outcome = catch_unwind(AssertUnwindSafe(compared));
+            let outcome = catch_unwind(AssertUnwindSafe(|| check(*planner)));
             if let Err(problem) = outcome.unwrap_or_else(|cause| Err(panicked(cause))) {
                 return Err(Failure {
                     case: case.to_string(),
                     planner: planner.name(),
                     problem,
-                    image: image.to_vec(),
+                    image: image.map(<[u8]>::to_vec),
                 });
             }
         }
@@ -230,7 +253,7 @@ impl<'a> Run<'a> {
             case: case.to_string(),
             planner: "program",
             problem,
-            image: input.to_vec(),
+            image: Some(input.to_vec()),
         })
     }
 }

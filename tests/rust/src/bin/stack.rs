@@ -6,9 +6,10 @@ use std::ffi::{c_int, c_void};
 use std::fmt::Display;
 use std::hint::black_box;
 
-use divanegret_tests::calls::Planner;
+use divanegret_tests::calls::{Date, Planner};
 use divanegret_tests::ffi::Proved;
 use divanegret_tests::sites::{self, Rng, Site};
+use divanegret_tests::times;
 
 /// The painted stack, in words of eight bytes.
 const WORDS: usize = 1 << 18;
@@ -71,8 +72,10 @@ impl Lent {
 }
 
 /// The calls; the first shows what the measurement itself takes.
-const NAMES: [&str; 8] =
-    ["nothing", "open", "plan", "role", "scores", "members", "nearest", "report"];
+const NAMES: [&str; 9] =
+    ["nothing", "open", "plan", "role", "scores", "members", "nearest", "at a time", "report"];
+
+const THURSDAY: Date = Date { year: 2024, month: 2, day: 29 };
 
 /// One call by its place in `NAMES`.
 fn run(call: usize, image: &[u8], lent: &mut Lent) {
@@ -84,6 +87,7 @@ fn run(call: usize, image: &[u8], lent: &mut Lent) {
         4 => Proved.scores(image, &lent.list).is_ok(),
         5 => Proved.members(&lent.starts, &lent.members, 0).is_ok(),
         6 => Proved.nearest(image, (0, 0)).is_ok(),
+        7 => Proved.members_at(times::in_working_hours(THURSDAY)).is_ok(),
         _ => Proved.report(image, &mut lent.text).is_ok(),
     };
     black_box(accepted);
