@@ -70,7 +70,7 @@ extern "C" {
 #define DVG_SPOT 17          /* dvg_nearest: are x and y from -1,000,000 to 1,000,000? */
 #define DVG_DATE 18          /* dvg_members_at: is the year from 1600 to 9999, and is there such a date
                                 in the Gregorian calendar? */
-#define DVG_TIME 19          /* dvg_members_at: is the minute at most 1,439, closing at most 1,440, and
+#define DVG_MINUTES 19          /* dvg_members_at: is the minute at most 1,439, closing at most 1,440, and
                                 opening not after closing? */
 
 /* A start table of DVG_STARTS entries and a member table of DVG_MEMBERS entries suffice for every

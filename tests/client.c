@@ -338,15 +338,15 @@ static void check_members_at(void)
     check("no month 0", members_at(2024, 0, 1, 600, 0) == -DVG_DATE);
     check("no numbers far beyond",
           members_at(UINT32_MAX, UINT32_MAX, UINT32_MAX, 600, 0) == -DVG_DATE);
-    check("no minute 1440", members_at(2024, 2, 29, 1440, 0) == -DVG_TIME);
+    check("no minute 1440", members_at(2024, 2, 29, 1440, 0) == -DVG_MINUTES);
     check("the date is asked first", members_at(2023, 2, 29, 1440, 2) == -DVG_DATE);
     answer = members_at(2024, 2, 29, UINT32_MAX, 2);
-    check("the minute before the group", DVG_NUMBER(answer) == DVG_TIME && DVG_PLACE(answer) == 0);
+    check("the minute before the group", DVG_NUMBER(answer) == DVG_MINUTES && DVG_PLACE(answer) == 0);
     check("open all day", is_in(members_with(1439, 0, 1440), DVG_WORKDAY, 4));
     check("never open", is_in(members_with(480, 480, 480), DVG_RESTDAY, 7));
     check("never open at the end", is_in(members_with(1439, 1440, 1440), DVG_RESTDAY, 7));
-    check("no opening after closing", members_with(480, 481, 480) == -DVG_TIME);
-    check("no closing after the day", members_with(480, 480, 1441) == -DVG_TIME);
+    check("no opening after closing", members_with(480, 481, 480) == -DVG_MINUTES);
+    check("no closing after the day", members_with(480, 480, 1441) == -DVG_MINUTES);
     answer = dvg_members_at(2000, 1, 1, 600, 480, 1020, 1, work_starts, 3, work_members, 8,
                             work_starts, 3, work_members, 8);
     check("one plan for both", is_in(answer, DVG_RESTDAY, 4));

@@ -4,15 +4,14 @@
 use Prim.Native.Nat.{ℕ, _+_, _%_, _≤_, _<_}
 use native.Mathlib.Omega.{arith}
 use mathlib.Core.Path.{_≡_, refl}
-use mathlib.Core.List.{[], _∷_, map}
 use mathlib.Core.Bool.{Bool, true, false}
 use lib.Dec.{T, eqb, not-T}
 use borrow.Author.Tests.{eqb-true, eqb-false}
 use Rattle.sets.proofs.Tests.{T-true, T-false}
 use Rattle.dates.specs.Dates.{isLeap, monthLength, lastYear, dateExists, daysBefore, dayNumber, weekdayNumber, dayNumberOf, weekdayOf}
 use Rattle.dates.specs.Calendar.{endsMonth, nextYear, nextMonth, nextDay, Calendar}
-use Rattle.dates.proofs.Limits.{Exists, exists, exists-of, length-1}
-use Rattle.dates.proofs.Months.{turn, later, one-date}
+use Rattle.dates.proofs.Limits.{Exists, exists-parts, parts-exist, length-1}
+use Rattle.dates.proofs.Months.{month-turns, later, one-date}
 
 -- The next day
 
@@ -25,14 +24,14 @@ module _ (y m d : ℕ) (s : Exists y m d) where
   unfolding nextYear nextMonth nextDay endsMonth
   at-the-end e =
       let l : d ≡ monthLength y m = eqb-true _ _ e in
-      simp e (rw l (turn y m (omega (arith, s)) (s .month-from) (s .month-to)))
+      simp e (rw l (month-turns y m (omega (arith, s)) (s .month-from) (s .month-to)))
 
   by-cases : (b : Bool) → endsMonth y m d ≡ b → dayNumber (nextYear y m d) (nextMonth y m d) (nextDay y m d) ≡ dayNumber y m d + 1
   by-cases true e = at-the-end e
   by-cases false e = within e
 
 pub next-number : (y m d : ℕ) → T (dateExists y m d) → dayNumber (nextYear y m d) (nextMonth y m d) (nextDay y m d) ≡ dayNumber y m d + 1
-next-number y m d t = by-cases y m d (exists y m d t) (endsMonth y m d) refl
+next-number y m d t = by-cases y m d (exists-parts y m d t) (endsMonth y m d) refl
 
 module _ (y m d : ℕ) (s : Exists y m d) (last : nextYear y m d ≤ lastYear) where
   within-exists : endsMonth y m d ≡ false → Exists (nextYear y m d) (nextMonth y m d) (nextDay y m d)
@@ -76,7 +75,7 @@ module _ (y m d : ℕ) (s : Exists y m d) (last : nextYear y m d ≤ lastYear) w
   next-date false e = within-exists e
 
 pub next-exists : (y m d : ℕ) → T (dateExists y m d) → nextYear y m d ≤ lastYear → T (dateExists (nextYear y m d) (nextMonth y m d) (nextDay y m d))
-next-exists y m d t last = exists-of _ _ _ (next-date y m d (exists y m d t) last (endsMonth y m d) refl)
+next-exists y m d t last = parts-exist _ _ _ (next-date y m d (exists-parts y m d t) last (endsMonth y m d) refl)
 
 weekday-is : (y m d : ℕ) → T (dateExists y m d) → weekdayOf y m d ≡ weekdayNumber (dayNumber y m d)
 unfolding weekdayOf
@@ -98,42 +97,23 @@ no-weekday : (y m d : ℕ) → (T (dateExists y m d) → ⊥) → weekdayOf y m 
 unfolding weekdayOf
 no-weekday y m d t = simp (T-false (dateExists y m d) (not-T (dateExists y m d) t))
 
--- The dates that are named, computed
-
-first-number : dayNumber 0 3 1 ≡ 1
-unfolding daysBefore dayNumber
-first-number = refl
-
-firsts : map (λ m. weekdayOf 2023 m 1) (1 ∷ 2 ∷ 3 ∷ 4 ∷ 5 ∷ 6 ∷ 7 ∷ 8 ∷ 9 ∷ 10 ∷ 11 ∷ 12 ∷ []) ≡ 6 ∷ 2 ∷ 2 ∷ 5 ∷ 0 ∷ 3 ∷ 5 ∷ 1 ∷ 4 ∷ 6 ∷ 2 ∷ 4 ∷ []
-unfolding isLeap monthLength dateExists daysBefore dayNumber weekdayOf
-firsts = refl
-
-thursday : weekdayOf 2024 2 29 ≡ 3
-unfolding isLeap monthLength dateExists daysBefore dayNumber weekdayOf
-thursday = refl
-
-saturday : weekdayOf 2000 1 1 ≡ 5
-unfolding isLeap monthLength dateExists daysBefore dayNumber weekdayOf
-saturday = refl
-
-no-such-day : T (dateExists 1900 2 29) → ⊥
-unfolding isLeap monthLength dateExists
-no-such-day t = t
-
+-- the dates that are named are computed
 pub calendar : Calendar
+unfolding isLeap monthLength dateExists daysBefore dayNumber dayNumberOf weekdayOf
 calendar = record {
   number = number-is;
   weekday = weekday-is;
   no-number = no-number;
   no-weekday = no-weekday;
-  first-number = first-number;
+  first-number = refl;
+  numbers = (refl, refl, refl, refl);
   next-number = next-number;
   next-exists = next-exists;
   next-weekday = next-weekday;
-  later = λ y m d y′ m′ d′ t t′ e. later y m d y′ m′ d′ (exists y m d t) (exists y′ m′ d′ t′) e;
-  one-date = λ y m d y′ m′ d′ t t′ e. one-date y m d y′ m′ d′ (exists y m d t) (exists y′ m′ d′ t′) e;
-  thursday = thursday;
-  saturday = saturday;
-  no-such-day = no-such-day;
-  firsts = firsts;
+  later = λ y m d y′ m′ d′ t t′ e. later y m d y′ m′ d′ (exists-parts y m d t) (exists-parts y′ m′ d′ t′) e;
+  one-date = λ y m d y′ m′ d′ t t′ e. one-date y m d y′ m′ d′ (exists-parts y m d t) (exists-parts y′ m′ d′ t′) e;
+  thursday = refl;
+  saturday = refl;
+  no-such-day = λ t. t;
+  firsts = refl;
 }

@@ -1,10 +1,12 @@
 -- What the test of a date shows, and the bounds of the tables.
 --
---     Exists, exists, exists-of    the six parts of `dateExists`, that they hold where it does, and the other way
---     months                       a fact of each of the twelve months is a fact of every month
---     length-1, length-31          each month has from 1 to 31 days
---     count-337                    no day count is above 337
---     number-small                 the day number of a date that exists fits 32 bits, and so does one more
+--     Exists, exists-parts, parts-exist    the six parts of `dateExists`, that they hold where it does, and the other way
+--     exists-true                          they hold where the code's test says so
+--     Each, months                         a fact of each of the twelve months is a fact of every month
+--     length-1, length-31, day-31          each month has from 1 to 31 days, so no day is above 31
+--     count-337                            no day count is above 337
+--     march-year-le                        the year that begins with March is no later one
+--     number-small                         the day number of a date that exists fits 32 bits, and so does one more
 use Prim.Native.Nat.{ℕ, zero, suc, _-_, _≤_, _<_}
 use native.Mathlib.Omega.{arith}
 use mathlib.Core.Path.{_≡_, sym, subst}
@@ -24,9 +26,9 @@ pub record Exists (y m d : ℕ) : Type 0 where
   pub day-from : 1 ≤ d
   pub day-to : d ≤ monthLength y m
 
-pub exists : (y m d : ℕ) → T (dateExists y m d) → Exists y m d
+pub exists-parts : (y m d : ℕ) → T (dateExists y m d) → Exists y m d
 unfolding dateExists
-exists y m d t1 =
+exists-parts y m d t1 =
     let t2 = and-right (leb 1 m) _ t1 in
     let t3 = and-right (leb m 12) _ t2 in
     let t4 = and-right (leb firstYear y) _ t3 in
@@ -40,9 +42,9 @@ exists y m d t1 =
       day-to = leb→le d (monthLength y m) (and-right (leb 1 d) _ t5);
     }
 
-pub exists-of : (y m d : ℕ) → Exists y m d → T (dateExists y m d)
+pub parts-exist : (y m d : ℕ) → Exists y m d → T (dateExists y m d)
 unfolding dateExists
-exists-of y m d e =
+parts-exist y m d e =
     and-make (leb 1 m) _ (le→leb 1 m (e .month-from))
     (and-make (leb m 12) _ (le→leb m 12 (e .month-to))
     (and-make (leb firstYear y) _ (le→leb firstYear y (e .year-from))
@@ -88,7 +90,7 @@ unfolding any
 count-337 k h = ltb-false _ _ (T-false _ (any-none 12 (λ k. ltb 337 (countBefore k)) tt k h))
 
 pub exists-true : (y m d : ℕ) → dateExists y m d ≡ true → Exists y m d
-exists-true y m d e = exists y m d (subst T (sym e) tt)
+exists-true y m d e = exists-parts y m d (subst T (sym e) tt)
 
 pub day-31 : (y m d : ℕ) → Exists y m d → d ≤ 31
 day-31 y m d e = omega (arith, e, length-31 y m (e .month-from) (e .month-to))

@@ -1,7 +1,7 @@
 -- Day numbers, month by month.
 --
 --     year-step         from 1 March of a year to the next there are 337 days and the February between
---     turn              the first of a month has the day number after the last day of the month before
+--     month-turns       the first of a month has the day number after the last day of the month before
 --     start, days       the day number of a month's first, and the month's length, the months counted on from January of the year 0
 --     start-later       a later month starts after the last day of an earlier one
 --     later, one-date   of two dates that exist the later has the higher number, and no number is that of two dates
@@ -87,9 +87,9 @@ turn-december : (y : ℕ) → Turn y 12
 unfolding dayNumber monthLength
 turn-december y = let e : y + 1 - 1 ≡ y = omega arith in rw e (omega arith)
 
-pub turn : (y m : ℕ) → 1 ≤ y → 1 ≤ m → m ≤ 12 → Turn y m
+pub month-turns : (y m : ℕ) → 1 ≤ y → 1 ≤ m → m ≤ 12 → Turn y m
 unfolding dayNumber monthLength
-turn y m h a b =
+month-turns y m h a b =
     months (λ m. Turn y m)
     (turn-december y ⨾ omega arith ⨾ omega arith ⨾ omega arith ⨾ omega arith ⨾ omega arith ⨾ omega arith ⨾ omega arith ⨾ omega arith ⨾ omega arith
     ⨾ turn-february y h ⨾ omega arith ⨾ end)
@@ -113,7 +113,7 @@ unfolding start days
 start-suc i h = go (eqb (i % 12 + 1) 12) refl
   where
     t : Turn (i / 12) (i % 12 + 1)
-    t = turn (i / 12) (i % 12 + 1) (omega arith) (omega arith) (omega arith)
+    t = month-turns (i / 12) (i % 12 + 1) (omega arith) (omega arith) (omega arith)
 
     go : (b : Bool) → eqb (i % 12 + 1) 12 ≡ b → start (suc i) ≡ start i + days i
     go true e =

@@ -38,8 +38,9 @@ pub record Calendar : Type 0 where
   pub weekday : (y m d : ℕ) → T (dateExists y m d) → weekdayOf y m d ≡ weekdayNumber (dayNumber y m d)
   pub no-number : (y m d : ℕ) → (T (dateExists y m d) → ⊥) → dayNumberOf y m d ≡ 0
   pub no-weekday : (y m d : ℕ) → (T (dateExists y m d) → ⊥) → weekdayOf y m d ≡ 7
-  -- 1 March of the year 0 has number 1
+  -- 1 March of the year 0 has number 1; the first date, the last one, and 29 February 2024 with the day after it
   pub first-number : dayNumber 0 3 1 ≡ 1
+  pub numbers : (dayNumberOf 1600 1 1 ≡ 584329) × (dayNumberOf 9999 12 31 ≡ 3652365) × (dayNumberOf 2024 2 29 ≡ 739251) × (dayNumberOf 2024 3 1 ≡ 739252)
   -- the calendar's next date has the next day number
   pub next-number : (y m d : ℕ) → T (dateExists y m d)
       → dayNumber (nextYear y m d) (nextMonth y m d) (nextDay y m d) ≡ dayNumber y m d + 1

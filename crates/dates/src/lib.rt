@@ -75,7 +75,7 @@ fn before_month(month: u32) -> u32
 }
 
 // The day number of a date that exists.
-fn number_of(year: u32, month: u32, day: u32) -> u32
+fn count_days(year: u32, month: u32, day: u32) -> u32
     requires { ⌜ dateExists year month day ≡ true ⌝ }
     ensures { λ r. ⌜ r ≡ dayNumber year month day ⌝ }
 {
@@ -87,7 +87,7 @@ pub fn day_number(year: u32, month: u32, day: u32) -> u32
     ensures { λ r. ⌜ r ≡ dayNumberOf year month day ⌝ }
 {
     if exists(year, month, day) {
-        return number_of(year, month, day);
+        return count_days(year, month, day);
     }
     0
 }
@@ -97,7 +97,7 @@ pub fn weekday(year: u32, month: u32, day: u32) -> u32
     ensures { λ r. ⌜ r ≡ weekdayOf year month day ⌝ }
 {
     if exists(year, month, day) {
-        return (number_of(year, month, day) + 1) % 7;
+        return (count_days(year, month, day) + 1) % 7;
     }
     7
 }

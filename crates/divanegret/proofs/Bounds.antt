@@ -47,7 +47,7 @@ use Rattle.scores.specs.declared.Tallied.the-variants as T
 use Rattle.lookup.specs.Lookup.{startOf, placed, between, membersOf, lookedOf}
 use Rattle.lookup.specs.declared.Looked.{Looked}
 use Rattle.lookup.specs.declared.Looked.the-variants as L
-use Rattle.schedule.specs.Schedule.{dateFits, timeFits, isWorking, planAt, choiceOf, inPlan, scheduledOf}
+use Rattle.schedule.specs.Schedule.{dateFits, minutesFit, isWorking, planAt, choiceOf, inPlan, scheduledOf}
 use Rattle.schedule.specs.declared.Time.{Time}
 use Rattle.schedule.specs.declared.Window.{Window}
 use Rattle.schedule.specs.declared.Choice.the-variants as C
@@ -272,24 +272,22 @@ ScheduledSmall (S.Workday k) = k < entryLimit
 ScheduledSmall (S.Restday k) = k < entryLimit
 ScheduledSmall (S.Refused r) = Small r
 
-in-workday : (l : Looked) (room : ℕ) → room < entryLimit → LookedSmall room l → ScheduledSmall (inPlan S.Workday l)
-in-workday (L.Found k) room few small = omega arith
-in-workday (L.Refused r) room few small = small
-
-in-restday : (l : Looked) (room : ℕ) → room < entryLimit → LookedSmall room l → ScheduledSmall (inPlan S.Restday l)
-in-restday (L.Found k) room few small = omega arith
-in-restday (L.Refused r) room few small = small
+-- in either plan, since both have the lookup's answer with the plan's name
+in-plan : (plan : ℕ → Scheduled) → ((k : ℕ) → k < entryLimit → ScheduledSmall (plan k)) → (l : Looked) (room : ℕ) → room < entryLimit → LookedSmall room l
+    → ScheduledSmall (inPlan plan l)
+in-plan plan named (L.Found k) room few small = named k (omega arith)
+in-plan plan named (L.Refused r) room few small = small
 
 pub scheduled-small : (t : Time) (w : Window) (k : ℕ) (starts table starts′ table′ : List ℕ) → length table < entryLimit → length table′ < entryLimit
     → ScheduledSmall (scheduledOf (choiceOf t w) (lookedOf starts table k) (lookedOf starts′ table′ k))
 unfolding choiceOf planAt scheduledOf
-scheduled-small t w k starts table starts′ table′ few few′ = go (dateFits t) (timeFits t w) (isWorking t w)
+scheduled-small t w k starts table starts′ table′ few few′ = go (dateFits t) (minutesFit t w) (isWorking t w)
   where
     go : (a b c : Bool)
         → ScheduledSmall
         (scheduledOf (cond a (cond b (cond c C.Workday C.Restday) (C.Neither (refusal 19))) (C.Neither (refusal 18))) (lookedOf starts table k) (lookedOf starts′ table′ k))
-    go true true true = in-workday (lookedOf starts table k) (length table) few (looked-small starts table k)
-    go true true false = in-restday (lookedOf starts′ table′ k) (length table′) few′ (looked-small starts′ table′ k)
+    go true true true = in-plan S.Workday (λ k h. h) (lookedOf starts table k) (length table) few (looked-small starts table k)
+    go true true false = in-plan S.Restday (λ k h. h) (lookedOf starts′ table′ k) (length table′) few′ (looked-small starts′ table′ k)
     go true false c = own-small 19 (omega arith) (omega arith)
     go false b c = own-small 18 (omega arith) (omega arith)
 

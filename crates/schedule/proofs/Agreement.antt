@@ -1,6 +1,6 @@
 -- The cases of the choice, and that the call and its companion agree: in a plan both are the lookup's, which agree.
 --
---     no-date, no-time, chosen     the choice, by the answers to questions 18 and 19
+--     no-date, no-minutes, chosen  the choice, by the answers to questions 18 and 19
 --     workday, restday             the plan for a time
 --     in-workday, in-restday       the companion's answer in each plan, from the lookup's
 --     agreement                    the call and its companion agree
@@ -25,18 +25,18 @@ use Rattle.schedule.specs.declared.Choice.{Choice}
 use Rattle.schedule.specs.declared.Choice.the-variants as C
 use Rattle.schedule.specs.declared.Scheduled.{Scheduled}
 use Rattle.schedule.specs.declared.Scheduled.the-variants as S
-use Rattle.schedule.specs.Schedule.{dateFits, timeFits, isWorking, planAt, choiceOf, partOf, inPlan, scheduledOf, Agreement}
+use Rattle.schedule.specs.Schedule.{dateFits, minutesFit, isWorking, planAt, choiceOf, partOf, inPlan, scheduledOf, Agreement}
 
 module _ (t : Time) (w : Window) where
   pub no-date : dateFits t ≡ false → choiceOf t w ≡ C.Neither (refusal 18)
   unfolding choiceOf
   no-date a = simp a
 
-  pub no-time : dateFits t ≡ true → timeFits t w ≡ false → choiceOf t w ≡ C.Neither (refusal 19)
+  pub no-minutes : dateFits t ≡ true → minutesFit t w ≡ false → choiceOf t w ≡ C.Neither (refusal 19)
   unfolding choiceOf
-  no-time a b = simp (a, b)
+  no-minutes a b = simp (a, b)
 
-  pub chosen : dateFits t ≡ true → timeFits t w ≡ true → choiceOf t w ≡ planAt t w
+  pub chosen : dateFits t ≡ true → minutesFit t w ≡ true → choiceOf t w ≡ planAt t w
   unfolding choiceOf
   chosen a b = simp (a, b)
 
@@ -120,11 +120,11 @@ module _ (k : ℕ) (starts members starts′ members′ : List ℕ) where
 
 -- a choice that is neither is 18 or 19
 neither : (t : Time) (w : Window) (r : Refusal) → choiceOf t w ≡ C.Neither r → (r ≡ refusal 18) ⊎ (r ≡ refusal 19)
-neither t w r e = go (dateFits t) (timeFits t w) (isWorking t w) refl refl refl
+neither t w r e = go (dateFits t) (minutesFit t w) (isWorking t w) refl refl refl
   where
-    go : (a b c : Bool) → dateFits t ≡ a → timeFits t w ≡ b → isWorking t w ≡ c → (r ≡ refusal 18) ⊎ (r ≡ refusal 19)
+    go : (a b c : Bool) → dateFits t ≡ a → minutesFit t w ≡ b → isWorking t w ≡ c → (r ≡ refusal 18) ⊎ (r ≡ refusal 19)
     go false b c p q s = let f = no-date t w p in inl cc
-    go true false c p q s = let f = no-time t w p q in inr cc
+    go true false c p q s = let f = no-minutes t w p q in inr cc
     go true true true p q s = let f = chosen t w p q ∙ workday t w s in let z : _≡_ {A = ℕ} 0 1 = cc in absurd (omega arith)
     go true true false p q s = let f = chosen t w p q ∙ restday t w s in let z : _≡_ {A = ℕ} 0 1 = cc in absurd (omega arith)
 
@@ -132,7 +132,7 @@ pub agreement : Agreement
 unfolding partOf scheduledOf
 agreement t w k starts members starts′ members′ = record {
   no-date = λ a. rw (no-date t w (T-false (dateFits t) (not-T (dateFits t) a)));
-  no-time = λ a b. rw (no-time t w (T-true (dateFits t) a) (T-false (timeFits t w) (not-T (timeFits t w) b)));
+  no-minutes = λ a b. rw (no-minutes t w (T-true (dateFits t) a) (T-false (minutesFit t w) (not-T (minutesFit t w) b)));
   workday = λ a b e. rw (chosen t w (T-true _ a) (T-true _ b) ∙ e) (refl, refl);
   restday = λ a b e. rw (chosen t w (T-true _ a) (T-true _ b) ∙ e) (refl, refl);
   in-workday = λ n e. workday-counted k starts members starts′ members′ (choiceOf t w) n e;

@@ -1,11 +1,11 @@
 -- The worked examples, computed.
 use mathlib.Core.Path.{refl}
 use Rattle.dates.specs.Dates.{isLeap, monthLength, dateExists, daysBefore, dayNumber, weekdayOf}
-use Rattle.schedule.specs.Schedule.{dateFits, timeFits, isWorkday, inWindow, isWorking, planAt, choiceOf}
+use Rattle.schedule.specs.Schedule.{dateFits, minutesFit, isWorkday, inWindow, isWorking, planAt, choiceOf}
 use Rattle.schedule.specs.Examples.{Examples}
 
 pub examples : Examples
-unfolding isLeap monthLength dateExists daysBefore dayNumber weekdayOf dateFits timeFits isWorkday inWindow isWorking planAt choiceOf
+unfolding isLeap monthLength dateExists daysBefore dayNumber weekdayOf dateFits minutesFit isWorkday inWindow isWorking planAt choiceOf
 examples = record {
   before-opening = refl;
   opening = refl;

@@ -2,7 +2,7 @@
 --
 --     dayMinutes            1,440
 --     dateFits t            question 18: the date exists, in a year from 1600 to 9999
---     timeFits t w          question 19: the minute is one of the day's, and opening ≤ closing ≤ 1,440
+--     minutesFit t w        question 19: the minute is one of the day's, and opening ≤ closing ≤ 1,440
 --     isWorkday t           Monday to Friday
 --     inWindow t w          opening ≤ minute < closing
 --     isWorking t w         both: a working minute
@@ -42,8 +42,8 @@ unfoldable pub dateFits : Time → Bool
 unfolding dateExists
 dateFits t = dateExists (t .year) (t .month) (t .day)
 
-unfoldable pub timeFits : Time → Window → Bool
-timeFits t w = ltb (t .minute) dayMinutes && (leb (w .closing) dayMinutes && leb (w .opening) (w .closing))
+unfoldable pub minutesFit : Time → Window → Bool
+minutesFit t w = ltb (t .minute) dayMinutes && (leb (w .closing) dayMinutes && leb (w .opening) (w .closing))
 
 -- weekdays 0 to 4
 unfoldable pub isWorkday : Time → Bool
@@ -61,7 +61,7 @@ unfoldable pub planAt : Time → Window → Choice
 planAt t w = cond (isWorking t w) C.Workday C.Restday
 
 unfoldable pub choiceOf : Time → Window → Choice
-choiceOf t w = cond (dateFits t) (cond (timeFits t w) (planAt t w) (C.Neither (refusal 19))) (C.Neither (refusal 18))
+choiceOf t w = cond (dateFits t) (cond (minutesFit t w) (planAt t w) (C.Neither (refusal 19))) (C.Neither (refusal 18))
 
 -- a is the part in the first plan, b that in the second
 unfoldable pub partOf : Choice → List ℕ → List ℕ → List ℕ
@@ -83,10 +83,10 @@ scheduledOf (C.Neither r) a b = S.Refused r
 -- other plan are. The first plan's tables are starts and members, the second's starts′ and members′
 pub record Agree (t : Time) (w : Window) (k : ℕ) (starts members starts′ members′ : List ℕ) (part : List ℕ) (answer : Scheduled) : Type 0 where
   pub no-date : (T (dateFits t) → ⊥) → answer ≡ S.Refused (refusal 18)
-  pub no-time : T (dateFits t) → (T (timeFits t w) → ⊥) → answer ≡ S.Refused (refusal 19)
-  pub workday : T (dateFits t) → T (timeFits t w) → planAt t w ≡ C.Workday
+  pub no-minutes : T (dateFits t) → (T (minutesFit t w) → ⊥) → answer ≡ S.Refused (refusal 19)
+  pub workday : T (dateFits t) → T (minutesFit t w) → planAt t w ≡ C.Workday
       → (part ≡ membersOf starts members k) × (answer ≡ inPlan S.Workday (lookedOf starts members k))
-  pub restday : T (dateFits t) → T (timeFits t w) → planAt t w ≡ C.Restday
+  pub restday : T (dateFits t) → T (minutesFit t w) → planAt t w ≡ C.Restday
       → (part ≡ membersOf starts′ members′ k) × (answer ≡ inPlan S.Restday (lookedOf starts′ members′ k))
   -- and back: a plan is named only where it is the one for the time, with the count of the part's members; a refusal is one of three and leaves the part empty
   pub in-workday : (n : ℕ) → answer ≡ S.Workday n → (choiceOf t w ≡ C.Workday) × (n ≡ length part)

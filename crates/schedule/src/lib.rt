@@ -4,7 +4,7 @@
 // chosen plan alone; `scheduled-same` of proofs/Answers makes an equation of the companion's answer.
 ghost use mathlib.Core.Path.{_≡_};
 ghost use Rattle.lookup.specs.Lookup.{membersOf, lookedOf};
-ghost use Rattle.schedule.specs.Schedule.{timeFits, isWorking, choiceOf, partOf, scheduledOf};
+ghost use Rattle.schedule.specs.Schedule.{minutesFit, isWorking, choiceOf, partOf, scheduledOf};
 ghost use Rattle.schedule.specs.Answers.{scheduledAnswer};
 use image::Refusal;
 use lookup::Looked;
@@ -41,8 +41,8 @@ pub enum Scheduled {
 }
 
 // Question 19.
-fn time_fits(t: Time, w: Window) -> bool
-    ensures { λ r. ⌜ r ≡ timeFits t w ⌝ }
+fn minutes_fit(t: Time, w: Window) -> bool
+    ensures { λ r. ⌜ r ≡ minutesFit t w ⌝ }
 {
     (t.minute < DAY_MINUTES) & ((w.closing <= DAY_MINUTES) & (w.opening <= w.closing))
 }
@@ -60,7 +60,7 @@ fn choose(t: Time, w: Window) -> Choice
     ensures { λ r. ⌜ r ≡ choiceOf t w ⌝ }
 {
     let dated = dates::exists(t.year, t.month, t.day);
-    let timed = time_fits(t, w);
+    let timed = minutes_fit(t, w);
     if !dated {
         return Choice::Neither(Refusal {
             number: 18,

@@ -749,7 +749,7 @@ mod tests {
         }
     }
 
-    /// Each has a mistake that no other comparison of times would notice.
+    /// Each has a mistake that it notices and the other two do not.
     #[test]
     fn each_comparison_of_times_notices_a_mistake() {
         let mut rng = Rng::new(8);
@@ -762,6 +762,9 @@ mod tests {
         }
         for mistake in [Mistake::LosesALeapDay, Mistake::CapsTheFirstGroup] {
             assert_eq!(hostile_times(&mistake, &mut rng), Ok(()));
+        }
+        for mistake in [Mistake::LosesALeapDay, Mistake::CutsYears] {
+            assert_eq!(image(&mistake, &good, &mut rng), Ok(()));
         }
     }
 

@@ -10,11 +10,11 @@ use Rattle.schedule.proofs.choose.Tie as tie
 exists-requires : tie.Need-exists-requires
 exists-requires c κs = search needs
 
-time-fits-requires : tie.Need-time-fits-requires
-time-fits-requires c κs = search needs
+minutes-fit-requires : tie.Need-minutes-fit-requires
+minutes-fit-requires c κs = search needs
 
 -- the answer to question 18 is the test's
-date : (c : tie.After-time-fits) → dateFits (c .before .before .args .t) ≡ c .before .exists .result
+date : (c : tie.After-minutes-fit) → dateFits (c .before .before .args .t) ≡ c .before .exists .result
 unfolding dateFits
 date c = sym (c .before .exists .ensures)
 
@@ -27,7 +27,7 @@ returns-2 : tie.Need-returns-2
 returns-2 c =
     let q = c .before .before in
     let a = q .before .before .args in
-    sym (cases.no-time (a .t) (a .w) (date q ∙ not-false _ (c .before .if1 .left)) (sym (q .time-fits .ensures) ∙ not-true _ (c .if2 .taken)))
+    sym (cases.no-minutes (a .t) (a .w) (date q ∙ not-false _ (c .before .if1 .left)) (sym (q .minutes-fit .ensures) ∙ not-true _ (c .if2 .taken)))
 
 is-working-requires : tie.Need-is-working-requires
 is-working-requires c κs = search needs
@@ -37,7 +37,7 @@ asked : (c : tie.After-is-working) → (let a = c .before .before .before .befor
 asked c =
     let q = c .before .before .before in
     let a = q .before .before .args in
-    cases.chosen (a .t) (a .w) (date q ∙ not-false _ (c .before .before .if1 .left)) (sym (q .time-fits .ensures) ∙ not-false _ (c .before .if2 .left))
+    cases.chosen (a .t) (a .w) (date q ∙ not-false _ (c .before .before .if1 .left)) (sym (q .minutes-fit .ensures) ∙ not-false _ (c .before .if2 .left))
 
 returns-3 : tie.Need-returns-3
 returns-3 c = sym (asked (c .before) ∙ cases.workday _ _ (sym (c .before .is-working .ensures) ∙ c .if3 .taken))
@@ -50,7 +50,7 @@ choose-spec =
     tie.close
     (tie.spec
     exists-requires
-    time-fits-requires
+    minutes-fit-requires
     returns
     returns-2
     is-working-requires

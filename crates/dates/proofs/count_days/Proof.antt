@@ -1,9 +1,9 @@
--- `dates::number_of` meets its contract: a date that exists keeps every sum small.
+-- `dates::count_days` meets its contract: a date that exists keeps every sum small.
 use native.Mathlib.Omega.{arith}
 use Rattle.dates.specs.Dates.{marchMonth, dayNumber}
 use Rattle.dates.proofs.Limits.{exists-true, march-year-le, day-31, count-337, number-small}
-use Rattle.dates.proofs.number_of.Statement.{statement}
-use Rattle.dates.proofs.number_of.Tie as tie
+use Rattle.dates.proofs.count_days.Statement.{statement}
+use Rattle.dates.proofs.count_days.Tie as tie
 
 march-year-requires : tie.Need-march-year-requires
 march-year-requires c κs = omega (arith, exists-true _ _ _ (c .pre))
@@ -29,8 +29,8 @@ add-result-2 c = let a = c .before .before .before .args in omega (arith, number
 returns : tie.Need-returns
 returns c = whole c
 
-pub number-of-spec : {M : Type 1} → statement M
-number-of-spec =
+pub count-days-spec : {M : Type 1} → statement M
+count-days-spec =
     tie.close
     (tie.spec
     march-year-requires
