@@ -27,11 +27,13 @@ pub record Examples : Type 0 where
   pub opening : choiceOf (at 2024 2 29 480) hours ≡ Workday
   pub last-minute : choiceOf (at 2024 2 29 1019) hours ≡ Workday
   pub closing : choiceOf (at 2024 2 29 1020) hours ≡ Restday
-  -- the day after, a Friday, and then Saturday, Sunday and Monday, at noon
+  -- the day after, a Friday, and then Saturday to Wednesday, at noon
   pub friday : choiceOf (at 2024 3 1 720) hours ≡ Workday
   pub saturday : choiceOf (at 2024 3 2 720) hours ≡ Restday
   pub sunday : choiceOf (at 2024 3 3 720) hours ≡ Restday
   pub monday : choiceOf (at 2024 3 4 720) hours ≡ Workday
+  pub tuesday : choiceOf (at 2024 3 5 720) hours ≡ Workday
+  pub wednesday : choiceOf (at 2024 3 6 720) hours ≡ Workday
   -- a window of a whole workday, and windows that are never open
   pub whole-day : choiceOf (at 2024 3 4 1439) (from 0 1440) ≡ Workday
   pub never : choiceOf (at 2024 3 4 720) (from 720 720) ≡ Restday
