@@ -4,7 +4,7 @@
 --     nextYear, nextMonth, nextDay y m d   the date after it, as a calendar has it: month ends, 28 and 29 February, the year's end
 --     Earlier y m d y′ m′ d′               the first date comes before the second
 --     Calendar                             the theorems: the next date has the next number and the next weekday, the weekday follows from the number, dates
---                                          and numbers go in the same order, the dates that paper 02 names, and those of one year
+--                                          and numbers go in the same order, the dates that paper 02 names, some day numbers, the months of one year
 use Prim.Native.Nat.{ℕ, _+_, _%_, _<_, _≤_}
 use mathlib.Core.Path.{_≡_}
 use mathlib.Core.Bool.{Bool, _&&_, cond}
@@ -38,9 +38,10 @@ pub record Calendar : Type 0 where
   pub weekday : (y m d : ℕ) → T (dateExists y m d) → weekdayOf y m d ≡ weekdayNumber (dayNumber y m d)
   pub no-number : (y m d : ℕ) → (T (dateExists y m d) → ⊥) → dayNumberOf y m d ≡ 0
   pub no-weekday : (y m d : ℕ) → (T (dateExists y m d) → ⊥) → weekdayOf y m d ≡ 7
-  -- 1 March of the year 0 has number 1; the first date, the last one, and 29 February 2024 with the day after it
+  -- 1 March of the year 0 has number 1; the first date, 1 January 2000, 29 February 2024 with the day after it, and the last date
   pub first-number : dayNumber 0 3 1 ≡ 1
-  pub numbers : (dayNumberOf 1600 1 1 ≡ 584329) × (dayNumberOf 9999 12 31 ≡ 3652365) × (dayNumberOf 2024 2 29 ≡ 739251) × (dayNumberOf 2024 3 1 ≡ 739252)
+  pub numbers : (dayNumberOf 1600 1 1 ≡ 584329) × (dayNumberOf 2000 1 1 ≡ 730426) × (dayNumberOf 2024 2 29 ≡ 739251) × (dayNumberOf 2024 3 1 ≡ 739252)
+      × (dayNumberOf 9999 12 31 ≡ 3652365)
   -- the calendar's next date has the next day number
   pub next-number : (y m d : ℕ) → T (dateExists y m d)
       → dayNumber (nextYear y m d) (nextMonth y m d) (nextDay y m d) ≡ dayNumber y m d + 1

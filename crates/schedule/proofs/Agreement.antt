@@ -1,9 +1,9 @@
 -- The cases of the choice, and that the call and its companion agree: in a plan both are the lookup's, which agree.
 --
---     no-date, no-minutes, chosen  the choice, by the answers to questions 18 and 19
---     workday, restday             the plan for a time
---     in-workday, in-restday       the companion's answer in each plan, from the lookup's
---     agreement                    the call and its companion agree
+--     no-date, no-minutes, chosen     the choice, by the answers to questions 18 and 19
+--     workday, restday                the plan for a time
+--     in-workday, in-restday          the companion's answer in each plan, from the lookup's
+--     agreement                       the call and its companion agree
 use Prim.Native.Nat.{ℕ}
 use native.Mathlib.Omega.{arith}
 use mathlib.Core.Path.{_≡_, refl, ap, _∙_}
