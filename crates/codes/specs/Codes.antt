@@ -10,6 +10,7 @@
 --     scheduledCode s   a group at a time: which member table, 0 for the first plan's and 1 for the second's, + 2 times the count of its members
 --     nearestCode n     the nearest group: 1 + 2 times its number + 65,536 times its squared distance, or 0 where there are no groups
 --     reportCode r      a report: the text's length, or the refusal's number made negative
+--     encodedCode e     an image that was written: its length
 --
 -- Where a number might be larger than its share of the code, it is cut off at the end of that share. No call's answer is that large: divanegret/specs/Lossless.
 use Prim.Native.Nat.{ℕ, _+_, _*_, min}
@@ -33,6 +34,8 @@ use Rattle.schedule.specs.declared.Scheduled.{Scheduled}
 use Rattle.schedule.specs.declared.Scheduled.the-variants as S
 use Rattle.nearest.specs.declared.Nearest.{Nearest}
 use Rattle.nearest.specs.declared.Nearest.the-variants as N
+use Rattle.writer.specs.declared.Encoded.{Encoded}
+use Rattle.writer.specs.declared.Encoded.the-variants as E
 
 abbrev pub refusalCode : Refusal → ℤ
 refusalCode r = negℤ (pos (min (r .number) 255 + 256 * min (r .place) 4294967295))
@@ -75,3 +78,7 @@ nearestCode (N.Refused r) = refusalCode r
 abbrev pub reportCode : Reported → ℤ
 reportCode (R.Written n) = pos (min n 9223372036854775807)
 reportCode (R.Refused r) = negℤ (pos (r .number))
+
+abbrev pub encodedCode : Encoded → ℤ
+encodedCode (E.Length n) = pos (min n 9223372036854775807)
+encodedCode (E.Refused r) = refusalCode r

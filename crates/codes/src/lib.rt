@@ -4,7 +4,7 @@
 // one that no call gives. Where a number may be larger than its share of the code it is cut off; divanegret/specs/Lossless says that no call's answer is.
 ghost use mathlib.Core.Path.{_≡_};
 ghost use Prim.Native.Nat.{_<_, min};
-ghost use Rattle.codes.specs.Codes.{refusalCode, openCode, planCode, kindCode, roleCode, tallyCode, lookedCode, scheduledCode, nearestCode, reportCode};
+ghost use Rattle.codes.specs.Codes.{refusalCode, openCode, planCode, kindCode, roleCode, tallyCode, lookedCode, scheduledCode, nearestCode, reportCode, encodedCode};
 use community::Role;
 use image::Opened;
 use image::Refusal;
@@ -15,6 +15,7 @@ use reporting::Reported;
 use schedule::Scheduled;
 use scores::Tallied;
 use tables::Planned;
+use writer::Encoded;
 
 // The smaller of two numbers.
 fn at_most(x: u64, limit: u64) -> u64
@@ -132,5 +133,15 @@ pub fn report_code(reported: Reported) -> i64
     match reported {
         Reported::Written(length) => at_most(length as u64, 9223372036854775807) as i64,
         Reported::Refused(r) => -(r.number as i64),
+    }
+}
+
+// The image's length, or the refusal.
+pub fn encoded_code(encoded: Encoded) -> i64
+    ensures { λ z. ⌜ z ≡ encodedCode encoded ⌝ }
+{
+    match encoded {
+        Encoded::Length(len) => at_most(len as u64, 9223372036854775807) as i64,
+        Encoded::Refused(r) => refusal_code(r),
     }
 }

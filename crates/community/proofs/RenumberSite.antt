@@ -19,9 +19,9 @@ use lib.Seq.{getD-take, getD-drop, ext-getD}
 use Rattle.sets.specs.Below.{any}
 use Rattle.sets.proofs.Tests.{and-make, any-make, any-take, eqb-of, T-ext, three}
 use Rattle.sets.proofs.Counting.{to-apart, inverse, count-le, sum-across}
-use Rattle.fields.specs.Bytes.{number}
+use Rattle.bytes.specs.Bytes.{number}
 use Rattle.fields.specs.Fields.{handsetBytes, coreSize}
-use Rattle.fields.proofs.Bytes.{number-cong}
+use Rattle.bytes.proofs.Bytes.{number-cong}
 use Rattle.image.specs.Image.{headerOf, handsetCount, edgeCount, limitSquared, epsilonNum, epsilonDen, mu, handsetRecords, edgeRecords, handsetRecord, distanceSquared, endA, endB, joins, adjacent, within, neighbour}
 use Rattle.image.specs.Questions.{outOfLimits, badEnd, isLoop, repeatsEarlier, HeaderAccepted, Accepted}
 use Rattle.image.specs.declared.Header.{Header}

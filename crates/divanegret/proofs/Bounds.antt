@@ -4,11 +4,12 @@
 --     highest                        the highest number of a refusal
 --     Small r                        a refusal with a number from 1 to the highest, and a place of at most 4,096
 --     OpenSmall, PlanSmall, ..       an answer whose numbers are small, by its cases
---     open-small, plan-small, role-small, tally-small, looked-small, scheduled-small, nearest-small, report-small    those of each call are
+--     open-small, plan-small, role-small, tally-small, looked-small, scheduled-small, nearest-small, report-small, encoded-small
+--                                    those of each call are
 use Prim.Native.Nat.{ℕ, zero, suc, _+_, _*_, _-_, _≤_, _<_}
 use native.Mathlib.Omega.{arith}
 use native.Mathlib.Decide.{decLe}
-use mathlib.Core.Path.{_≡_, refl, sym, subst}
+use mathlib.Core.Path.{_≡_, refl, sym, ap, subst}
 use mathlib.Core.Logic.{⊎-elim}
 use mathlib.Core.Bool.{Bool, true, false, _&&_, not, cond}
 use mathlib.Core.List.{List, [], _∷_}
@@ -19,14 +20,14 @@ use Rattle.sets.specs.Below.{any, find, count}
 use Rattle.sets.proofs.Tests.{and-left, and-right, or-right, decide, find-law, find-none, not-any}
 use Rattle.sets.proofs.Counting.{bit-le, count-le, sum-le, sum-const}
 use Rattle.fields.specs.Fields.{coordinateCount}
-use Rattle.image.specs.Image.{headerOf, handsetCount, edgeCount, handsetRecords, edgeRecords, handsetRecord, endA, endB}
-use Rattle.image.specs.Questions.{countsFit, thresholdsFit, tablesFit, outOfLimits, badEnd, isLoop, repeatsEarlier, ask, askEach, askEdges, askRecords, askHeader, openOf, Accepted}
+use Rattle.image.specs.Image.{headerBytes, headerOf, handsetCount, edgeCount, handsetRecords, edgeRecords, handsetRecord, endA, endB}
+use Rattle.image.specs.Questions.{reservedValue, countsFit, thresholdsFit, tablesFit, outOfLimits, badEnd, isLoop, repeatsEarlier, ask, askEach, askEdges, askRecords, askHeader, openOf, Accepted}
 use Rattle.image.specs.Answers.{refusal}
 use Rattle.image.specs.declared.Header.{Header}
 use Rattle.image.specs.declared.Refusal.{Refusal}
 use Rattle.image.specs.declared.Opened.{Opened}
 use Rattle.image.specs.declared.Opened.the-variants as O
-use Rattle.image.proofs.Acceptance.{accepted, accepted-fits}
+use Rattle.image.proofs.Acceptance.{accepted, counts-limits, accepted-fits}
 use Rattle.community.specs.Network.{Network, contains, communityNumber, membershipCount, borderOf, communities, neighbourhoodSize, isCore, role}
 use Rattle.community.specs.Scores.{countPairs, pairs, everyEdge, joinedBy, joinedPairs, justOne, leaving}
 use Rattle.community.specs.Site.{network}
@@ -62,11 +63,18 @@ use Rattle.nearest.proofs.Meaning.{nearest-means}
 use Rattle.reporting.specs.Report.{reportText, writtenOf, reportFor, reportOf}
 use Rattle.reporting.specs.declared.Reported.{Reported}
 use Rattle.reporting.specs.declared.Reported.the-variants as R
+use Rattle.packing.specs.Packing.{headerFor, handsetPart, edgePart, lengthsFit}
+use Rattle.packing.specs.Held.{imageMost}
+use Rattle.packing.specs.declared.Parameters.{Parameters}
+use Rattle.writer.specs.Writer.{tablesAnswer, encodedFor, encodedOf}
+use Rattle.writer.specs.declared.Encoded.{Encoded}
+use Rattle.writer.specs.declared.Encoded.the-variants as E
+use Rattle.writer.proofs.Drafting.{tables-site}
 use Rattle.divanegret.specs.Lossless.{entryLimit}
 
 -- the highest number of a refusal
 abbrev highest : ℕ
-highest = 19
+highest = 20
 
 pub record Small (r : Refusal) : Type 0 where
   pub some : 1 ≤ r .number
@@ -91,24 +99,28 @@ each-small : (n : ℕ) (bad : ℕ → Bool) (k : ℕ) (next : Opened) → 1 ≤ 
 unfolding askEach
 each-small n bad k next some few near rest = ask-small (not (any n bad)) k (find n bad) next some few (omega (arith, find-le n bad)) (λ t. rest)
 
+-- questions 7 to 10, of any tables of records
+records-small : (handsets edges : List ℕ) (h : Header) → h .n ≤ 512 → h .m ≤ 4096 → OpenSmall (askRecords handsets edges h)
+unfolding askRecords askEdges
+records-small handsets edges h n m =
+    each-small (h .n) (λ v. outOfLimits (handsetRecord handsets v)) 7 _ (omega arith) (omega arith) (omega arith)
+    (each-small (h .m) (badEnd edges (h .n)) 8 _ (omega arith) (omega arith) m
+    (each-small (h .m) (isLoop edges) 9 _ (omega arith) (omega arith) m
+    (each-small (h .m) (repeatsEarlier edges) 10 _ (omega arith) (omega arith) m (n, m))))
+
 pub open-small : (s : List ℕ) → OpenSmall (openOf s)
-unfolding openOf askHeader askRecords askEdges
+unfolding openOf askHeader
 open-small s =
     let h : Header = headerOf s in
-    ask-small (leb 32 (length s)) 1 0 _ (omega arith) (omega arith) (omega arith)
+    ask-small (leb headerBytes (length s)) 1 0 _ (omega arith) (omega arith) (omega arith)
     (λ q1. ask-small (eqb (h .len) (length s)) 2 0 _ (omega arith) (omega arith) (omega arith)
-    (λ q2. ask-small (countsFit h) 3 0 _ (omega arith) (omega arith) (omega arith)
+    (λ q2. ask-small (countsFit (h .n) (h .m)) 3 0 _ (omega arith) (omega arith) (omega arith)
     (λ q3.
-    let n : h .n ≤ 512 = leb→le (h .n) 512 (and-left (leb (h .n) 512) _ q3) in
-    let m : h .m ≤ 4096 = leb→le (h .m) 4096 (and-right (leb (h .n) 512) _ q3) in
-    ask-small (eqb (h .reserved) 0) 4 0 _ (omega arith) (omega arith) (omega arith)
-    (λ q4. ask-small (thresholdsFit h) 5 0 _ (omega arith) (omega arith) (omega arith)
+    let c = counts-limits (h .n) (h .m) q3 in
+    ask-small (eqb (h .reserved) reservedValue) 4 0 _ (omega arith) (omega arith) (omega arith)
+    (λ q4. ask-small (thresholdsFit (h .limit) (h .p) (h .q) (h .mu)) 5 0 _ (omega arith) (omega arith) (omega arith)
     (λ q5. ask-small (tablesFit h) 6 0 _ (omega arith) (omega arith) (omega arith)
-    (λ q6.
-    each-small (h .n) (λ v. outOfLimits (handsetRecord (handsetRecords s) v)) 7 _ (omega arith) (omega arith) (omega arith)
-    (each-small (h .m) (badEnd (edgeRecords s) (h .n)) 8 _ (omega arith) (omega arith) m
-    (each-small (h .m) (isLoop (edgeRecords s)) 9 _ (omega arith) (omega arith) m
-    (each-small (h .m) (repeatsEarlier (edgeRecords s)) 10 _ (omega arith) (omega arith) m (n, m))))))))))
+    (λ q6. records-small (handsetRecords s) (edgeRecords s) h (c .0) (c .1)))))))
 
 -- a refusal with a number of ours, and place 0
 own-small : (k : ℕ) → 1 ≤ k → k ≤ highest → Small (refusal k)
@@ -340,3 +352,31 @@ report-small s room = go (openOf s) (open-small s)
     go : (o : Opened) → OpenSmall o → ReportSmall room (reportFor s o room)
     go (O.Site h) small = fitting (leb (length (reportText s)) room) refl
     go (O.Refused r) small = small
+
+-- ---- an image that is written
+
+abbrev pub EncodedSmall : Encoded → Type 0
+EncodedSmall (E.Length k) = k ≤ imageMost
+EncodedSmall (E.Refused r) = Small r
+
+tables-small : (x : Parameters) (coords : List ℤ) (ends : List ℕ) → OpenSmall (tablesAnswer x coords ends)
+unfolding tablesAnswer
+tables-small x coords ends =
+    ask-small (countsFit (x .n) (x .m)) 3 0 _ (omega arith) (omega arith) (omega arith)
+    (λ q3.
+    let c = counts-limits (x .n) (x .m) q3 in
+    ask-small (thresholdsFit (x .limit) (x .p) (x .q) (x .mu)) 5 0 _ (omega arith) (omega arith) (omega arith)
+    (λ q5. ask-small (lengthsFit x (length coords) (length ends)) 6 0 _ (omega arith) (omega arith) (omega arith)
+    (λ q6. records-small (handsetPart coords) (edgePart ends) (headerFor x) (c .0) (c .1))))
+
+pub encoded-small : (x : Parameters) (coords : List ℤ) (ends : List ℕ) (room : ℕ) → EncodedSmall (encodedOf x coords ends room)
+unfolding encodedOf
+encoded-small x coords ends room = go (tablesAnswer x coords ends) refl (tables-small x coords ends)
+  where
+    fitting : (h : Header) → h ≡ headerFor x → (h .n ≤ 512) × (h .m ≤ 4096) → (b : Bool) → EncodedSmall (cond b (E.Length (h .len)) (E.Refused (refusal 20)))
+    fitting h e small true = omega (arith, small .0, small .1, ap (λ (g : Header). g .len) e, ap (λ (g : Header). g .n) e, ap (λ (g : Header). g .m) e)
+    fitting h e small false = own-small 20 (omega arith) (omega arith)
+
+    go : (o : Opened) → tablesAnswer x coords ends ≡ o → OpenSmall o → EncodedSmall (encodedFor o room)
+    go (O.Site h) e small = fitting h (tables-site x coords ends h e .1) small (leb (h .len) room)
+    go (O.Refused r) e small = small

@@ -43,9 +43,13 @@ use Rattle.nearest.specs.declared.Nearest.the-variants as N
 use Rattle.reporting.specs.Report.{reportOf, reportAnswer}
 use Rattle.reporting.specs.declared.Reported.{Reported}
 use Rattle.reporting.specs.declared.Reported.the-variants as R
-use Rattle.codes.specs.Codes.{refusalCode, openCode, planCode, kindCode, roleCode, tallyCode, lookedCode, scheduledCode, nearestCode, reportCode}
+use Rattle.packing.specs.Held.{imageMost}
+use Rattle.writer.specs.Writer.{encodedOf, encodedAnswer}
+use Rattle.writer.specs.declared.Encoded.{Encoded}
+use Rattle.writer.specs.declared.Encoded.the-variants as E
+use Rattle.codes.specs.Codes.{refusalCode, openCode, planCode, kindCode, roleCode, tallyCode, lookedCode, scheduledCode, nearestCode, reportCode, encodedCode}
 use Rattle.divanegret.specs.Lossless.{int32, openMacros, planMacros, roleMacros, scoresMacros, scheduledMacros, nearestMacros, itself, Taken, takenBy, siteAnswer, numberOnly, whole, Lossless}
-use Rattle.divanegret.proofs.Bounds.{Small, OpenSmall, PlanSmall, RoleSmall, KnownSmall, TallySmall, LookedSmall, ScheduledSmall, NearestSmall, ReportSmall, open-small, plan-small, role-small, tally-small, looked-small, scheduled-small, nearest-small, report-small}
+use Rattle.divanegret.proofs.Bounds.{Small, OpenSmall, PlanSmall, RoleSmall, KnownSmall, TallySmall, LookedSmall, ScheduledSmall, NearestSmall, ReportSmall, EncodedSmall, open-small, plan-small, role-small, tally-small, looked-small, scheduled-small, nearest-small, report-small, encoded-small}
 
 -- a number below 2 ^ 31 is its int32_t
 low32 : (k x : ℕ) → k ≡ x → x < 2147483648 → int32 k ≡ pos x
@@ -178,6 +182,10 @@ report-taken (R.Refused r) room h small =
     let p : int32 (r .number / 256) ≡ pos 0 = low32 (r .number / 256) 0 (omega (arith, small .number)) (omega arith) in
     negative-taken itself (r .number) (small .some) ∙ (λ i. record { number = n i; place = p i; values = [] })
 
+encoded-taken : (x : Encoded) → EncodedSmall x → takenBy itself (encodedCode x) ≡ whole (encodedAnswer x)
+encoded-taken (E.Length k) small = count-taken k imageMost (omega arith) small
+encoded-taken (E.Refused r) small = refusal-taken itself r small
+
 pub lossless : Lossless
 lossless = record {
   opened = λ s. open-taken (openOf s) (open-small s);
@@ -189,4 +197,5 @@ lossless = record {
       scheduled-taken (scheduledOf (choiceOf t w) (lookedOf starts table k) (lookedOf starts′ table′ k)) (scheduled-small t w k starts table starts′ table′ few few′);
   nearest = λ s p long. nearest-taken (nearestOf s p) (nearest-small s p long);
   report = λ s room h. report-taken (reportOf s room) room h (report-small s room);
+  written = λ x coords ends room. encoded-taken (encodedOf x coords ends room) (encoded-small x coords ends room);
 }

@@ -1,14 +1,14 @@
 -- The numbers that C gets lose nothing: what the macros of include/divanegret.h take out of a call's number is all of the call's answer. No count, place or
--- score is cut off, for any image, tables, handset, list, group or time. A call's number is its answer's code (codes/specs/Codes), by the call's contract; its
+-- score is cut off, for any image, tables, handset, list, group, time or numbers. A call's number is its answer's code (codes/specs/Codes), by the call's contract; its
 -- answer as a number, a place and values is that of the library's own definitions (planAnswer, knownAnswer, tallyAnswer, lookAnswer, scheduledAnswer,
--- nearestAnswer, reportAnswer).
+-- nearestAnswer, reportAnswer, encodedAnswer).
 --
 --     int32 k                    the (int32_t) of a macro: the low 32 bits of k, as a signed number
 --     openMacros, planMacros     the macros of dvg_open and dvg_plan, in the order of the answer's values
 --     roleMacros, scoresMacros   those of dvg_role and dvg_scores
 --     scheduledMacros            those of dvg_members_at
 --     nearestMacros              those of dvg_nearest
---     itself                     of dvg_members and dvg_report: the number itself
+--     itself                     of dvg_members, dvg_report and dvg_write: the number itself
 --     Taken                      what a caller takes out of a call's number: a number, a place and values, each signed
 --     takenBy macros z           what a caller takes out of the number z: 0 or more is a success, with its values by their macros; less is a refusal, with
 --                                its number and place by DVG_NUMBER and DVG_PLACE
@@ -44,7 +44,9 @@ use Rattle.schedule.specs.declared.Time.{Time}
 use Rattle.schedule.specs.declared.Window.{Window}
 use Rattle.nearest.specs.Nearest.{nearestOf, nearestAnswer}
 use Rattle.reporting.specs.Report.{reportOf, reportAnswer}
-use Rattle.codes.specs.Codes.{openCode, planCode, roleCode, tallyCode, lookedCode, scheduledCode, nearestCode, reportCode}
+use Rattle.packing.specs.declared.Parameters.{Parameters}
+use Rattle.writer.specs.Writer.{encodedOf, encodedAnswer}
+use Rattle.codes.specs.Codes.{openCode, planCode, roleCode, tallyCode, lookedCode, scheduledCode, nearestCode, reportCode, encodedCode}
 
 -- ---- the macros of a success r
 
@@ -106,7 +108,7 @@ abbrev pub entryLimit : ℕ
 entryLimit = 4611686018427387904
 
 -- s is an image; a and b are the lengths of a start table and a member table; v is a handset, l a list of handsets, t a time, w a window and p a point
--- of as many coordinates as a handset has
+-- of as many coordinates as a handset has; x are a site's parameters, coords and ends its tables, and room is the length of a buffer
 pub record Lossless : Type 0 where
   pub opened : (s : List ℕ) → takenBy openMacros (openCode (openOf s)) ≡ whole (siteAnswer (openOf s))
   pub planned : (s : List ℕ) (a b : ℕ) → takenBy planMacros (planCode (planOf s a b)) ≡ whole (planAnswer (planOf s a b))
@@ -121,3 +123,5 @@ pub record Lossless : Type 0 where
       → takenBy nearestMacros (nearestCode (nearestOf s p)) ≡ whole (nearestAnswer (nearestOf s p))
   pub report : (s : List ℕ) (room : ℕ) → room < 9223372036854775808
       → takenBy itself (reportCode (reportOf s room)) ≡ whole (numberOnly (reportAnswer (reportOf s room)))
+  pub written : (x : Parameters) (coords : List ℤ) (ends : List ℕ) (room : ℕ)
+      → takenBy itself (encodedCode (encodedOf x coords ends room)) ≡ whole (encodedAnswer (encodedOf x coords ends room))

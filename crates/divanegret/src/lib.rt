@@ -11,7 +11,9 @@ ghost use Rattle.reporting.specs.Report.{reportOf, textAfter};
 ghost use Rattle.lookup.specs.Lookup.{lookedOf};
 ghost use Rattle.schedule.specs.Schedule.{choiceOf, scheduledOf};
 ghost use Rattle.nearest.specs.Nearest.{nearestOf};
-ghost use Rattle.codes.specs.Codes.{openCode, planCode, roleCode, tallyCode, lookedCode, scheduledCode, nearestCode, reportCode};
+ghost use Rattle.writer.specs.Writer.{encodedOf, bufferAfter};
+ghost use Rattle.codes.specs.Codes.{openCode, planCode, roleCode, tallyCode, lookedCode, scheduledCode, nearestCode, reportCode, encodedCode};
+use packing::Parameters;
 use schedule::Time;
 use schedule::Window;
 
@@ -107,4 +109,30 @@ pub extern "C" fn dvg_nearest(image: &[u8], x: i32, y: i32) -> i64
     ensures { λ z. ⌜ z ≡ nearestCode (nearestOf (now (image .entry)) (x ∷ y ∷ [])) ⌝ }
 {
     codes::nearest_code(nearest::nearest_group(image, x, y))
+}
+
+// The image of a site, written into the buffer.
+#[no_mangle]
+pub extern "C" fn dvg_write(
+    n: u64,
+    m: u64,
+    limit: u64,
+    p: u64,
+    q: u64,
+    mu: u64,
+    coordinates: &[i32],
+    ends: &[u16],
+    buffer: &mut [u8],
+) -> i64
+    ensures { λ z. ⌜ (z ≡ encodedCode (encodedOf (record { n = n; m = m; limit = limit; p = p; q = q; mu = mu }) (now (coordinates .entry)) (now (ends .entry)) (length (now (buffer .entry))))) × (now (buffer .exit) ≡ bufferAfter (record { n = n; m = m; limit = limit; p = p; q = q; mu = mu }) (now (coordinates .entry)) (now (ends .entry)) (now (buffer .entry))) ⌝ }
+{
+    let x = Parameters {
+        n: n,
+        m: m,
+        limit: limit,
+        p: p,
+        q: q,
+        mu: mu,
+    };
+    codes::encoded_code(writer::write(x, coordinates, ends, buffer))
 }

@@ -3,6 +3,8 @@
 --     coordinateBytes    how many bytes a coordinate has
 --     coordinateCount    how many coordinates a handset has
 --     handsetBytes       how many bytes a handset's record has
+--     endBytes           how many bytes an end has
+--     endCount           how many ends an edge has
 --     edgeBytes          how many bytes an edge's record has
 --     blankMu            what a blank mu, 0, means: 3 in paper 01, 4 since paper 02, order 3
 --     coreSize mu        how many handsets make a core: mu, or blankMu where it is blank
@@ -15,7 +17,7 @@ use Prim.Native.Nat.{ℕ, zero, suc, _+_, _*_, _-_, _%_}
 use mathlib.Core.Bool.{Bool, _&&_}
 use mathlib.Core.List.{List}
 use lib.Dec.{leb}
-use Rattle.fields.specs.Bytes.{number}
+use Rattle.bytes.specs.Bytes.{number}
 use Rattle.fields.specs.declared.Ends.{Ends}
 
 abbrev pub coordinateBytes : ℕ
@@ -27,8 +29,14 @@ coordinateCount = 2
 abbrev pub handsetBytes : ℕ
 handsetBytes = coordinateBytes * coordinateCount
 
+abbrev pub endBytes : ℕ
+endBytes = 2
+
+abbrev pub endCount : ℕ
+endCount = 2
+
 abbrev pub edgeBytes : ℕ
-edgeBytes = 4
+edgeBytes = endBytes * endCount
 
 abbrev pub blankMu : ℕ
 blankMu = 4

@@ -4,8 +4,9 @@
 --     accepted            openOf s ≡ Site h gives Accepted s, and h is headerOf s
 --     opened              Accepted s gives openOf s ≡ Site (headerOf s)
 --     acceptance          the theorem of specs/Acceptance
---     go-on-each          a question that gets a yes for each record goes on
---     Fits, fits          what a header's numbers keep to, for the proofs of the calls
+--     pass, go-on, refuse a question by its answer; go-on-each: one that gets a yes for each record goes on
+--     records-header      questions 7 to 10 answer no other header; go-on-header: where 1 to 6 get a yes, the rest is the answer
+--     counts-limits       what counts that fit keep to; Fits, fits: what a header's numbers keep to, for the proofs of the calls
 --     header-fits, header-length, handsets-length, edges-length     what an image whose header is accepted keeps to: both tables of records are whole
 --     accepted-fits, length-is, ends-below, coordinate-limits     what an accepted image keeps to: its header, its length, its edges' ends, its coordinates
 --     header-short, header-other, header-on     how questions 1 and 2 go, with the header in hand
@@ -30,12 +31,12 @@ use Rattle.image.specs.declared.Refusal.{Refusal}
 use Rattle.image.specs.declared.Opened.{Opened}
 use Rattle.image.specs.declared.Opened.the-variants.{Site, Refused}
 
-pass : {h : Header} (b : Bool) (k p : ℕ) (next : Opened) → ask b k p next ≡ Site h → T b × (next ≡ Site h)
+pub pass : {h : Header} (b : Bool) (k p : ℕ) (next : Opened) → ask b k p next ≡ Site h → T b × (next ≡ Site h)
 unfolding ask
 pass true k p next e = (tt, e)
 pass false k p next e = let z : _≡_ {A = ℕ} 0 1 = cc in absurd (omega arith)
 
-go-on : (b : Bool) (k p : ℕ) (next : Opened) → T b → ask b k p next ≡ next
+pub go-on : (b : Bool) (k p : ℕ) (next : Opened) → T b → ask b k p next ≡ next
 unfolding ask
 go-on true k p next t = refl
 go-on false k p next t = absurd t
@@ -52,6 +53,16 @@ module _ (n : ℕ) (bad : ℕ → Bool) (k : ℕ) (next : Opened) where
 same : {h g : Header} → Site g ≡ Site h → g ≡ h
 same e = cc
 
+-- questions 7 to 10 answer no other header than that of which they were asked
+pub records-header : (handsets edges : List ℕ) (g : Header) {h : Header} → askRecords handsets edges g ≡ Site h → g ≡ h
+unfolding askRecords askEdges
+records-header handsets edges g e =
+    let a7 = pass-each (g .n) (λ v. outOfLimits (handsetRecord handsets v)) _ _ e in
+    let a8 = pass-each (g .m) (badEnd edges (g .n)) _ _ (a7 .1) in
+    let a9 = pass-each (g .m) (isLoop edges) _ _ (a8 .1) in
+    let a10 = pass-each (g .m) (repeatsEarlier edges) _ _ (a9 .1) in
+    same (a10 .1)
+
 module _ (s : List ℕ) (next : Opened) where
   -- questions 1 to 6 got a yes, and the rest answered the header
   pass-header : {h : Header} → askImage s next ≡ Site h → HeaderAccepted s × (next ≡ Site h)
@@ -59,21 +70,21 @@ module _ (s : List ℕ) (next : Opened) where
   pass-header e =
       let a1 = pass (leb 32 (length s)) _ _ _ e in
       let a2 = pass (eqb (headerOf s .len) (length s)) _ _ _ (a1 .1) in
-      let a3 = pass (countsFit (headerOf s)) _ _ _ (a2 .1) in
+      let a3 = pass (countsFit (headerOf s .n) (headerOf s .m)) _ _ _ (a2 .1) in
       let a4 = pass (eqb (headerOf s .reserved) reservedValue) _ _ _ (a3 .1) in
-      let a5 = pass (thresholdsFit (headerOf s)) _ _ _ (a4 .1) in
+      let a5 = pass (thresholdsFit (headerOf s .limit) (headerOf s .p) (headerOf s .q) (headerOf s .mu)) _ _ _ (a4 .1) in
       let a6 = pass (tablesFit (headerOf s)) _ _ _ (a5 .1) in
       (record { q1 = a1 .0; q2 = a2 .0; q3 = a3 .0; q4 = a4 .0; q5 = a5 .0; q6 = a6 .0 }, a6 .1)
 
   -- where they get a yes, the rest is the answer
-  go-on-header : HeaderAccepted s → askImage s next ≡ next
+  pub go-on-header : HeaderAccepted s → askImage s next ≡ next
   unfolding askImage askHeader
   go-on-header a =
       go-on (leb 32 (length s)) _ _ _ (a .q1)
       ∙ go-on (eqb (headerOf s .len) (length s)) _ _ _ (a .q2)
-      ∙ go-on (countsFit (headerOf s)) _ _ _ (a .q3)
+      ∙ go-on (countsFit (headerOf s .n) (headerOf s .m)) _ _ _ (a .q3)
       ∙ go-on (eqb (headerOf s .reserved) reservedValue) _ _ _ (a .q4)
-      ∙ go-on (thresholdsFit (headerOf s)) _ _ _ (a .q5)
+      ∙ go-on (thresholdsFit (headerOf s .limit) (headerOf s .p) (headerOf s .q) (headerOf s .mu)) _ _ _ (a .q5)
       ∙ go-on (tablesFit (headerOf s)) _ _ _ (a .q6)
 
 pub accepted : (s : List ℕ) (h : Header) → openOf s ≡ Site h → Accepted s × (h ≡ headerOf s)
@@ -98,6 +109,10 @@ opened s a =
 pub acceptance : Acceptance
 acceptance = record { only-accepted = λ s h e. accepted s h e .0; the-header = λ s h e. accepted s h e .1; every-accepted = opened }
 
+-- counts that fit
+pub counts-limits : (n m : ℕ) → T (countsFit n m) → (n ≤ 512) × (m ≤ 4096)
+counts-limits n m c = (leb→le n 512 (and-left (leb n 512) (leb m 4096) c), leb→le m 4096 (and-right (leb n 512) (leb m 4096) c))
+
 -- a header whose counts, thresholds and tables fit
 pub record Fits (h : Header) : Type 0 where
   pub n-limit : h .n ≤ 512
@@ -112,7 +127,7 @@ pub record Fits (h : Header) : Type 0 where
   pub handsets-to : h .handsets + handsetBytes * h .n ≤ h .len
   pub edges-to : h .edges + edgeBytes * h .m ≤ h .len
 
-pub fits : (h : Header) → T (countsFit h) → T (thresholdsFit h) → T (tablesFit h) → Fits h
+pub fits : (h : Header) → T (countsFit (h .n) (h .m)) → T (thresholdsFit (h .limit) (h .p) (h .q) (h .mu)) → T (tablesFit h) → Fits h
 fits h c t f =
     let t1 = and-right (leb (h .limit) limitSquaredMost) _ t in
     let t2 = and-right (leb 1 (h .p)) _ t1 in
@@ -121,8 +136,8 @@ fits h c t f =
     let f2 = and-right (leb 32 (h .edges)) _ f1 in
     let f3 = and-right (leb (h .handsets + handsetBytes * h .n) (h .len)) _ f2 in
     record {
-      n-limit = leb→le (h .n) 512 (and-left (leb (h .n) 512) _ c);
-      m-limit = leb→le (h .m) 4096 (and-right (leb (h .n) 512) _ c);
+      n-limit = counts-limits (h .n) (h .m) c .0;
+      m-limit = counts-limits (h .n) (h .m) c .1;
       square-limit = leb→le (h .limit) limitSquaredMost (and-left (leb (h .limit) limitSquaredMost) _ t);
       p-some = leb→le 1 (h .p) (and-left (leb 1 (h .p)) _ t1);
       p-q = leb→le (h .p) (h .q) (and-left (leb (h .p) (h .q)) _ t2);
@@ -147,7 +162,7 @@ good-ends part n k bad =
     let t : T (x && y) = yes-of (x && y) bad in
     (ltb→lt (endA part k) n (and-left x y t), ltb→lt (endB part k) n (and-right x y t))
 
-refuse : (b : Bool) (k p : ℕ) (next : Opened) → b ≡ false → ask b k p next ≡ Refused (record { number = k; place = p })
+pub refuse : (b : Bool) (k p : ℕ) (next : Opened) → b ≡ false → ask b k p next ≡ Refused (record { number = k; place = p })
 unfolding ask
 refuse true k p next e = let z : _≡_ {A = ℕ} 0 1 = cc in absurd (omega arith)
 refuse false k p next e = refl
@@ -181,9 +196,9 @@ unfolding openOf askImage askHeader
 header-no s r e =
     stop (leb 32 (length s)) _ _ _ _
     (stop (eqb (headerOf s .len) (length s)) _ _ _ _
-    (stop (countsFit (headerOf s)) _ _ _ _
+    (stop (countsFit (headerOf s .n) (headerOf s .m)) _ _ _ _
     (stop (eqb (headerOf s .reserved) reservedValue) _ _ _ _
-    (stop (thresholdsFit (headerOf s)) _ _ _ _
+    (stop (thresholdsFit (headerOf s .limit) (headerOf s .p) (headerOf s .q) (headerOf s .mu)) _ _ _ _
     (stop (tablesFit (headerOf s)) _ _ (Site (headerOf s)) _ (λ z. let w : _≡_ {A = ℕ} 0 1 = cc in absurd (omega arith))))))) e
 
 pub header-yes : (s : List ℕ) (h : Header) → askImage s (Site (headerOf s)) ≡ Site h → HeaderAccepted s × (h ≡ headerOf s)

@@ -11,9 +11,9 @@ use mathlib.Core.Path.{_≡_, refl, ap, _∙_}
 use mathlib.Core.List.{List}
 use lib.Dec.{leb}
 use lib.ListN.{length, take, drop}
-use Rattle.fields.specs.Bytes.{number}
+use Rattle.bytes.specs.Bytes.{number}
 use Rattle.fields.specs.Fields.{handsetBytes, edgeBytes, endsOf}
-use Rattle.fields.proofs.Bytes.{number-part}
+use Rattle.bytes.proofs.Bytes.{number-part}
 use Rattle.image.specs.Image.{limitSquared, handsetRecords, handsetRecord, distanceBetween, distanceSquared, endA, endB, within}
 
 pub part-is : (s : List ℕ) (a k : ℕ) → take (a + k - a) (drop a s) ≡ take k (drop a s)

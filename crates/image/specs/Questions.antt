@@ -2,8 +2,8 @@
 --
 --     limitSquaredMost         the most that G may be
 --     reservedValue            what the reserved bytes, 30 and 31, hold
---     countsFit h              question 3, of a header: n and m are within their limits
---     thresholdsFit h          question 5: so are G, p, q and mu
+--     countsFit n m            question 3: n and m are within their limits
+--     thresholdsFit G p q mu   question 5: so are the thresholds
 --     tablesFit h              question 6: the two tables lie past the header and within the image, and do not overlap
 --     outOfLimits r            question 7 gets a no for a handset's record: some coordinate is out of its limits
 --     badEnd part n k          question 8 gets a no for edge k: an end is no handset
@@ -24,7 +24,7 @@ use lib.Dec.{T, leb, ltb, eqb}
 use lib.ListN.{length}
 use Rattle.sets.specs.Below.{any, find}
 use Rattle.fields.specs.Fields.{coordinateCount, handsetBytes, edgeBytes, inLimits}
-use Rattle.image.specs.Image.{headerOf, handsetCount, edgeCount, handsetRecords, edgeRecords, handsetRecord, coordinateOf, endA, endB, joins}
+use Rattle.image.specs.Image.{headerBytes, headerOf, handsetCount, edgeCount, handsetRecords, edgeRecords, handsetRecord, coordinateOf, endA, endB, joins}
 use Rattle.image.specs.declared.Header.{Header}
 use Rattle.image.specs.declared.Refusal.{Refusal}
 use Rattle.image.specs.declared.Opened.{Opened}
@@ -36,15 +36,15 @@ limitSquaredMost = 8000000000000
 abbrev pub reservedValue : ℕ
 reservedValue = 0
 
-abbrev pub countsFit : Header → Bool
-countsFit h = leb (h .n) 512 && leb (h .m) 4096
+abbrev pub countsFit : ℕ → ℕ → Bool
+countsFit n m = leb n 512 && leb m 4096
 
-abbrev pub thresholdsFit : Header → Bool
-thresholdsFit h = leb (h .limit) limitSquaredMost && (leb 1 (h .p) && (leb (h .p) (h .q) && (leb (h .q) 1000 && leb (h .mu) 512)))
+abbrev pub thresholdsFit : ℕ → ℕ → ℕ → ℕ → Bool
+thresholdsFit limit p q mu = leb limit limitSquaredMost && (leb 1 p && (leb p q && (leb q 1000 && leb mu 512)))
 
 abbrev pub tablesFit : Header → Bool
 tablesFit h =
-    leb 32 (h .handsets) && (leb 32 (h .edges) && (leb (h .handsets + handsetBytes * h .n) (h .len) && (leb (h .edges + edgeBytes * h .m) (h .len)
+    leb headerBytes (h .handsets) && (leb headerBytes (h .edges) && (leb (h .handsets + handsetBytes * h .n) (h .len) && (leb (h .edges + edgeBytes * h .m) (h .len)
     && (leb (h .handsets + handsetBytes * h .n) (h .edges) || leb (h .edges + edgeBytes * h .m) (h .handsets)))))
 
 unfoldable pub outOfLimits : List ℕ → Bool
@@ -91,9 +91,9 @@ askRecords handsets edges h = askEach (h .n) (λ v. outOfLimits (handsetRecord h
 unfoldable pub askHeader : Header → Opened → Opened
 unfolding ask
 askHeader h next =
-    ask (countsFit h) 3 0
+    ask (countsFit (h .n) (h .m)) 3 0
     (ask (eqb (h .reserved) reservedValue) 4 0
-    (ask (thresholdsFit h) 5 0
+    (ask (thresholdsFit (h .limit) (h .p) (h .q) (h .mu)) 5 0
     (ask (tablesFit h) 6 0
     next)))
 
@@ -101,7 +101,7 @@ askHeader h next =
 unfoldable pub askImage : List ℕ → Opened → Opened
 unfolding ask headerOf askHeader
 askImage s next =
-    ask (leb 32 (length s)) 1 0
+    ask (leb headerBytes (length s)) 1 0
     (ask (eqb (headerOf s .len) (length s)) 2 0
     (askHeader (headerOf s)
     next))
@@ -115,11 +115,11 @@ refusalOf (Site h) = record { number = 0; place = 0 }
 refusalOf (Refused r) = r
 
 pub record HeaderAccepted (s : List ℕ) : Type 0 where
-  pub q1 : T (leb 32 (length s))
+  pub q1 : T (leb headerBytes (length s))
   pub q2 : T (eqb (headerOf s .len) (length s))
-  pub q3 : T (countsFit (headerOf s))
+  pub q3 : T (countsFit (headerOf s .n) (headerOf s .m))
   pub q4 : T (eqb (headerOf s .reserved) reservedValue)
-  pub q5 : T (thresholdsFit (headerOf s))
+  pub q5 : T (thresholdsFit (headerOf s .limit) (headerOf s .p) (headerOf s .q) (headerOf s .mu))
   pub q6 : T (tablesFit (headerOf s))
 
 pub record Accepted (s : List ℕ) : Type 0 where

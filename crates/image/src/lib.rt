@@ -19,11 +19,19 @@ ghost use Rattle.image.specs.Answers.{openAnswer};
 ghost use Rattle.image.specs.Rows.{Room, Cleared, related, Held, Reading};
 ghost use Rattle.image.specs.Scan.{badRecord, Stand, linked, Added};
 
+// How many bytes the header has.
+pub const HEADER_BYTES: usize = 32;
+
+// The most handsets and edges that a site may have.
+pub const HANDSETS_MOST: usize = 512;
+
+pub const EDGES_MOST: usize = 4096;
+
 // The most that G, the square of the near distance, may be.
 const LIMIT_SQUARED_MOST: u64 = 8000000000000;
 
 // What the reserved bytes, 30 and 31, hold.
-const RESERVED: u16 = 0;
+pub const RESERVED: u16 = 0;
 
 // The header's numbers as they stand: `limit` is G, and a blank `mu` is still 0 (`fields::core_size`).
 pub struct Header {
@@ -56,48 +64,49 @@ fn read_header(s: &[u8]) -> Header
     ensures { λ r. ⌜ r ≡ headerOf (now (s .entry)) ⌝ }
 {
     Header {
-        n: fields::read2(s, 0),
-        m: fields::read2(s, 2),
-        handsets: fields::read4(s, 4),
-        edges: fields::read4(s, 8),
-        len: fields::read4(s, 12),
-        limit: fields::read8(s, 16),
-        p: fields::read2(s, 24),
-        q: fields::read2(s, 26),
-        mu: fields::read2(s, 28),
-        reserved: fields::read2(s, 30),
+        n: bytes::read2(s, 0),
+        m: bytes::read2(s, 2),
+        handsets: bytes::read4(s, 4),
+        edges: bytes::read4(s, 8),
+        len: bytes::read4(s, 12),
+        limit: bytes::read8(s, 16),
+        p: bytes::read2(s, 24),
+        q: bytes::read2(s, 26),
+        mu: bytes::read2(s, 28),
+        reserved: bytes::read2(s, 30),
     }
 }
 
-// Question 3.
-fn counts_fit(h: Header) -> bool
-    ensures { λ r. ⌜ r ≡ countsFit h ⌝ }
+// Question 3, of any counts.
+pub fn counts_fit(n: u64, m: u64) -> bool
+    ensures { λ r. ⌜ r ≡ countsFit n m ⌝ }
 {
-    (h.n <= 512) & (h.m <= 4096)
+    (n <= HANDSETS_MOST as u64) & (m <= EDGES_MOST as u64)
 }
 
-// Question 5.
-fn thresholds_fit(h: Header) -> bool
-    ensures { λ r. ⌜ r ≡ thresholdsFit h ⌝ }
+// Question 5, of any thresholds.
+pub fn thresholds_fit(limit: u64, p: u64, q: u64, mu: u64) -> bool
+    ensures { λ r. ⌜ r ≡ thresholdsFit limit p q mu ⌝ }
 {
-    (h.limit <= LIMIT_SQUARED_MOST)
-        & ((1 <= h.p) & ((h.p <= h.q) & ((h.q <= 1000) & (h.mu <= 512))))
+    (limit <= LIMIT_SQUARED_MOST) & ((1 <= p) & ((p <= q) & ((q <= 1000) & (mu <= 512))))
 }
 
 // Question 6. The ends are computed in 64 bits, where no offset wraps.
 fn tables_fit(h: Header) -> bool
     ensures { λ r. ⌜ r ≡ tablesFit h ⌝ }
 {
+    let front = HEADER_BYTES as u64;
     let a = h.handsets as u64;
     let b = h.edges as u64;
     let len = h.len as u64;
     let a_end = a + (fields::HANDSET_BYTES as u64) * (h.n as u64);
     let b_end = b + (fields::EDGE_BYTES as u64) * (h.m as u64);
-    (32 <= a) & ((32 <= b) & ((a_end <= len) & ((b_end <= len) & ((a_end <= b) | (b_end <= a)))))
+    (front <= a)
+        & ((front <= b) & ((a_end <= len) & ((b_end <= len) & ((a_end <= b) | (b_end <= a)))))
 }
 
 // The answer of a no.
-fn refused(number: u32, place: usize) -> Opened
+pub fn refused(number: u32, place: usize) -> Opened
     ensures { λ r. ⌜ r ≡ Opened.Refused (record { number = number; place = place }) ⌝ }
 {
     Opened::Refused(Refusal { number, place })
@@ -115,9 +124,10 @@ fn ask_header(h: Header) -> Opened
     ensures { λ r. ⌜ r ≡ askHeader h (Opened.Site h) ⌝ }
 {
     let q6 = put_question(tables_fit(h), 6, 0, Opened::Site(h));
-    let q5 = put_question(thresholds_fit(h), 5, 0, q6);
+    let thresholds = thresholds_fit(h.limit, h.p as u64, h.q as u64, h.mu as u64);
+    let q5 = put_question(thresholds, 5, 0, q6);
     let q4 = put_question(h.reserved == RESERVED, 4, 0, q5);
-    put_question(counts_fit(h), 3, 0, q4)
+    put_question(counts_fit(h.n as u64, h.m as u64), 3, 0, q4)
 }
 
 // Question 7 of a handset's record: whether a coordinate is out of its limits.
@@ -308,7 +318,7 @@ fn ask_tables(image: &[u8], h: Header, rows: &mut [u64], sizes: &mut [u32]) -> O
 fn open_header(image: &[u8]) -> Opened
     ensures { λ r. ⌜ r ≡ askImage (now (image .entry)) (Opened.Site (headerOf (now (image .entry)))) ⌝ }
 {
-    if image.len() < 32 {
+    if image.len() < HEADER_BYTES {
         return refused(1, 0);
     }
     let h = read_header(image);

@@ -8,9 +8,9 @@ use mathlib.Core.List.{List}
 use lib.ListN.{getD}
 use borrow.Author.Needs.{needs}
 use Rattle.sets.specs.Below.{sum}
-use Rattle.fields.specs.Bytes.{number}
+use Rattle.bytes.specs.Bytes.{number}
 use Rattle.fields.specs.Fields.{coordinateBytes, coordinateCount, handsetBytes, shifted, gap}
-use Rattle.fields.proofs.Bytes.{number-part}
+use Rattle.bytes.proofs.Bytes.{number-part}
 use Rattle.image.specs.Image.{handsetRecord, coordinateOf, gapSquared}
 use Rattle.points.specs.Points.{distanceFrom}
 use Rattle.points.proofs.distance_to.Statement.{statement}

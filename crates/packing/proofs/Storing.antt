@@ -1,0 +1,112 @@
+-- Laws for the code that writes an image: a write at a place that is there, counts within their limits, and the parts of an image one after the other.
+--
+--     next             one write more, into a list whose length is known
+--     getD-word        a number of a coordinate table as the word that is written
+--     parts            the two halves of the header and the two tables, written one after the other, are the image
+--     Fitting, fitting what all tests say
+--     packs-by         whether the image is written, where the counts fit; packs-yes, -no: what `put_image` does then
+use Prim.Native.Nat.{ℕ, zero, suc, _+_, _*_, _≤_}
+use native.Mathlib.Omega.{arith}
+use mathlib.Core.Path.{_≡_, refl, sym, ap, ap₂, _∙_, subst}
+use mathlib.Core.Bool.{Bool, true, false, _&&_, cond}
+use mathlib.Core.List.{List, [], _∷_, _++_, map}
+use lib.Dec.{T, leb, eqb, leb→le, eqb→eq}
+use lib.IntN.{ℤ, pos}
+use lib.ListN.{length, getD, length-map}
+use lib.Seq.{sets, length-sets}
+use Rattle.sets.proofs.Tests.{T-true, and-left, and-right}
+use Rattle.sets.proofs.Writing.{sets-append}
+use Rattle.bytes.specs.Bytes.{leBytes, stored}
+use Rattle.bytes.proofs.Packing.{stored-there, length-packed}
+use Rattle.fields.specs.Fields.{coordinateBytes, coordinateCount, endCount}
+use Rattle.image.specs.Image.{headerBytes}
+use Rattle.image.specs.Questions.{countsFit}
+use Rattle.image.proofs.Acceptance.{counts-limits}
+use Rattle.packing.specs.Packing.{headerFor, headerPart, word32, handsetPart, edgePart, imageOf, lengthsFit}
+use Rattle.packing.specs.Held.{countsPart, thresholdsPart, packs, Put}
+use Rattle.packing.specs.declared.Parameters.{Parameters}
+
+-- of a list s that is l, of k numbers, and what a write leaves of it
+pub next : {s′ : List ℕ} (s l : List ℕ) (k w at v : ℕ) → s′ ≡ stored w s at v → (s ≡ l) × (length l ≡ k) → at + w ≤ k
+    → (s′ ≡ sets l at (leBytes w v)) × (length (sets l at (leBytes w v)) ≡ k)
+next s l k w at v f e h = (
+  f ∙ stored-there w s at v (omega (arith, ap length (e .0), e .1)) ∙ ap (λ (t : List ℕ). sets t at (leBytes w v)) (e .0),
+  length-sets l at (leBytes w v) ∙ e .1,
+)
+
+pub getD-word : (coords : List ℤ) (i : ℕ) → word32 (getD coords i (pos 0)) ≡ getD (map word32 coords) i 0
+unfolding word32
+getD-word [] i = refl
+getD-word (z ∷ coords) zero = refl
+getD-word (z ∷ coords) (suc i) = getD-word coords i
+
+header-parts : (x : Parameters) → countsPart (x .n) (x .m) (headerFor x .edges) (headerFor x .len) ++ thresholdsPart (x .limit) (x .p) (x .q) (x .mu) ≡ headerPart (headerFor x)
+unfolding countsPart thresholdsPart headerPart leBytes
+header-parts x = refl
+
+header-long : (x : Parameters) → length (headerPart (headerFor x)) ≡ headerBytes
+unfolding headerPart leBytes
+header-long x = refl
+
+counts-long : (x : Parameters) → length (countsPart (x .n) (x .m) (headerFor x .edges) (headerFor x .len)) ≡ 16
+unfolding countsPart leBytes
+counts-long x = refl
+
+pub parts : (x : Parameters) (coords : List ℤ) (ends s s₁ s₂ s₃ s₄ : List ℕ)
+    → s₁ ≡ sets s 0 (countsPart (x .n) (x .m) (headerFor x .edges) (headerFor x .len)) → s₂ ≡ sets s₁ 16 (thresholdsPart (x .limit) (x .p) (x .q) (x .mu))
+    → s₃ ≡ sets s₂ headerBytes (handsetPart coords) → s₄ ≡ sets s₃ (headerBytes + coordinateBytes * length coords) (edgePart ends)
+    → s₄ ≡ sets s 0 (imageOf x coords ends)
+unfolding imageOf
+parts x coords ends s s₁ s₂ s₃ s₄ e₁ e₂ e₃ e₄ =
+    let a : List ℕ = countsPart (x .n) (x .m) (headerFor x .edges) (headerFor x .len) in
+    let b : List ℕ = thresholdsPart (x .limit) (x .p) (x .q) (x .mu) in
+    let h : List ℕ = headerPart (headerFor x) in
+    let at : 16 ≡ 0 + length a = omega (arith, counts-long x) in
+    let front : s₂ ≡ sets s 0 h = e₂ ∙ ap₂ (λ (t : List ℕ) (k : ℕ). sets t k b) e₁ at ∙ sym (sets-append s 0 a b) ∙ ap (sets s 0) (header-parts x) in
+    let from : headerBytes ≡ 0 + length h = omega (arith, header-long x) in
+    let handsets : s₃ ≡ sets (sets s 0 h) (0 + length h) (handsetPart coords) = e₃ ∙ ap₂ (λ (t : List ℕ) (k : ℕ). sets t k (handsetPart coords)) front from in
+    let past : headerBytes + coordinateBytes * length coords ≡ 0 + length h + length (handsetPart coords) =
+    omega (arith, header-long x, length-packed coordinateBytes (map word32 coords), length-map coords word32) in
+    e₄ ∙ ap₂ (λ (t : List ℕ) (k : ℕ). sets t k (edgePart ends)) handsets past
+    ∙ sym (sets-append (sets s 0 h) (0 + length h) (handsetPart coords) (edgePart ends))
+    ∙ sym (sets-append s 0 h (handsetPart coords ++ edgePart ends))
+
+-- ---- the tests
+
+-- what the tests say of tables of a coordinates and b ends, and of a buffer of room bytes
+pub record Fitting (x : Parameters) (a b room : ℕ) : Type 0 where
+  pub n-limit : x .n ≤ 512
+  pub m-limit : x .m ≤ 4096
+  pub coordinates : a ≡ coordinateCount * x .n
+  pub ends : b ≡ endCount * x .m
+  pub holds : headerFor x .len ≤ room
+
+pub fitting : (x : Parameters) (a b room : ℕ) → T (countsFit (x .n) (x .m)) → (lengthsFit x a b && leb (headerFor x .len) room) ≡ true → Fitting x a b room
+fitting x a b room c e =
+    let t : T (lengthsFit x a b && leb (headerFor x .len) room) = subst T (sym e) tt in
+    let l : T (lengthsFit x a b) = and-left (lengthsFit x a b) (leb (headerFor x .len) room) t in record {
+      n-limit = counts-limits (x .n) (x .m) c .0;
+      m-limit = counts-limits (x .n) (x .m) c .1;
+      coordinates = eqb→eq a (coordinateCount * x .n) (and-left (eqb a (coordinateCount * x .n)) (eqb b (endCount * x .m)) l);
+      ends = eqb→eq b (endCount * x .m) (and-right (eqb a (coordinateCount * x .n)) (eqb b (endCount * x .m)) l);
+      holds = leb→le (headerFor x .len) room (and-right (lengthsFit x a b) (leb (headerFor x .len) room) t);
+    }
+
+module _ (x : Parameters) (coords : List ℤ) (ends s : List ℕ) where
+  -- of counts that fit, what is left to test
+  pub packs-by : (b : Bool) → T (countsFit (x .n) (x .m)) → (lengthsFit x (length coords) (length ends) && leb (headerFor x .len) (length s)) ≡ b
+      → packs x (length coords) (length ends) (length s) ≡ b
+  packs-by b c e = ap (λ (a : Bool). a && (lengthsFit x (length coords) (length ends) && leb (headerFor x .len) (length s))) (T-true (countsFit (x .n) (x .m)) c) ∙ e
+
+  pub packs-yes : {s′ : List ℕ} {r : ℕ} → packs x (length coords) (length ends) (length s) ≡ true → s′ ≡ sets s 0 (imageOf x coords ends) → r ≡ headerFor x .len
+      → Put x coords ends s r s′
+  packs-yes t e d = record {
+    list = e ∙ ap (λ (b : Bool). cond b (sets s 0 (imageOf x coords ends)) s) (sym t);
+    written = d ∙ ap (λ (b : Bool). cond b (headerFor x .len) 0) (sym t);
+  }
+
+  pub packs-no : packs x (length coords) (length ends) (length s) ≡ false → Put x coords ends s 0 s
+  packs-no f = record {
+    list = ap (λ (b : Bool). cond b (sets s 0 (imageOf x coords ends)) s) (sym f);
+    written = ap (λ (b : Bool). cond b (headerFor x .len) 0) (sym f);
+  }

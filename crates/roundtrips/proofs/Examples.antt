@@ -1,0 +1,35 @@
+-- The examples: the definitions compute to these bytes and answers.
+use mathlib.Core.Path.{refl}
+use Rattle.image.specs.Image.{handsetRecords, edgeRecords}
+use Rattle.image.specs.Questions.{openOf}
+use Rattle.packing.specs.Packing.{imageOf}
+use Rattle.writer.specs.Writer.{encodedOf, bufferAfter}
+use Rattle.roundtrips.specs.Examples.{Examples}
+
+pub examples : Examples
+unfolding openOf handsetRecords edgeRecords imageOf encodedOf bufferAfter
+examples = record {
+  site-S = refl;
+  site-S-blank = refl;
+  negative = refl;
+  no-handset = refl;
+  with-a-gap = refl;
+  gap-handsets = refl;
+  gap-edges = refl;
+  just = refl;
+  longer = refl;
+  short = refl;
+  short-kept = refl;
+  many = refl;
+  many-edges = refl;
+  wide = refl;
+  over-one = refl;
+  wide-mu = refl;
+  one-more = refl;
+  one-fewer = refl;
+  far = refl;
+  at-the-limit = refl;
+  no-such-handset = refl;
+  loop = refl;
+  twice = refl;
+}

@@ -1,0 +1,5 @@
+pub mod Tables
+pub mod Openings
+pub mod Same
+pub mod RoundTrips
+pub mod Examples

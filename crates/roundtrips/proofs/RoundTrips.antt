@@ -1,0 +1,167 @@
+-- The theorem of specs/RoundTrips. The writer's questions 7 to 10 are the reader's, of the records that the tables make. So where 3, 5 and 6 get a yes, the
+-- writer's answer is the reader's answer to the image written, but for 20; and that image is alike to every image that holds the tables (proofs/Openings).
+--
+--     answer-is, buffer-is         the call's answer, and the buffer after it
+--     granted, front, reads-back   what is written is read back
+--     asked-of, alike-of           the tables that an image holds pass 3, 5 and 6, and their image is alike to it
+--     image-opening                so the two are both accepted, or refused alike
+--     writer-too, image-too        a refusal of such an image is the writer's, and one of the writer's is the image's, but for 20
+--     written-again                an accepted image's tables are written, and what is written has the image's outcome
+--     round-trips                  the theorem
+use Prim.Native.Nat.{ℕ, _*_, _≤_}
+use native.Mathlib.Omega.{arith}
+use mathlib.Core.Path.{_≡_, refl, sym, ap, _∙_, subst}
+use mathlib.Core.Logic.{_⊎_, inl, inr, ⊎-elim}
+use mathlib.Core.Bool.{Bool, true, false, cond}
+use mathlib.Core.List.{List}
+use lib.Dec.{T, leb, eqb}
+use lib.IntN.{ℤ}
+use lib.ListN.{length, take, drop}
+use lib.Seq.{take-at, drop-at}
+use borrow.Author.Tests.{le-leb}
+use Rattle.sets.proofs.Tests.{and-make, eqb-of}
+use Rattle.bytes.specs.Bytes.{Below}
+use Rattle.fields.specs.Fields.{coordinateCount, endCount}
+use Rattle.image.specs.Image.{headerOf}
+use Rattle.image.specs.Questions.{countsFit, thresholdsFit, openOf, HeaderAccepted, Accepted}
+use Rattle.image.specs.Answers.{refusal}
+use Rattle.image.specs.declared.Header.{Header}
+use Rattle.image.specs.declared.Refusal.{Refusal}
+use Rattle.image.specs.declared.Opened.{Opened}
+use Rattle.image.specs.declared.Opened.the-variants as O
+use Rattle.image.proofs.Acceptance.{accepted, opened}
+use Rattle.image.proofs.Answers.{open-same}
+use Rattle.packing.specs.Packing.{headerFor, imageOf, Signed32}
+use Rattle.packing.specs.declared.Parameters.{Parameters}
+use Rattle.packing.proofs.Reading.{Asked, asked-length, image-below, header-read, handsets-read, edges-read, header-accepted}
+use Rattle.writer.specs.Writer.{tablesAnswer, encodedFor, encodedOf, bufferFor, bufferAfter, WriteCall}
+use Rattle.writer.specs.declared.Encoded.{Encoded}
+use Rattle.writer.specs.declared.Encoded.the-variants as E
+use Rattle.writer.proofs.Answers.{encoded-same}
+use Rattle.writer.proofs.Drafting.{by-reader, Granted, encoded-length}
+use Rattle.roundtrips.specs.RoundTrips.{parametersOf, Holds, ReadsBack, SameOutcome, RoundTrips}
+use Rattle.roundtrips.proofs.Tables.{handsets-are, edges-are, image-holds, tables-of}
+use Rattle.roundtrips.proofs.Openings.{Alike, SameOpening, same-opening}
+use Rattle.roundtrips.proofs.Same.{same-outcome}
+
+-- ---- the cases of an answer
+
+no-site : {A : Type 0} {h : Header} {q : Refusal} → O.Site h ≡ O.Refused q → A
+no-site e = let z : _≡_ {A = ℕ} 0 1 = cc in absurd (omega arith)
+
+no-length : {A : Type 0} {k : ℕ} {q : Refusal} → E.Length k ≡ E.Refused q → A
+no-length e = let z : _≡_ {A = ℕ} 0 1 = cc in absurd (omega arith)
+
+same-refusal : {q p : Refusal} → O.Refused q ≡ O.Refused p → q ≡ p
+same-refusal e = cc
+
+same-no : {q p : Refusal} → E.Refused q ≡ E.Refused p → q ≡ p
+same-no e = cc
+
+only-20 : (q : Refusal) (b : Bool) (k : ℕ) → E.Refused q ≡ cond b (E.Length k) (E.Refused (refusal 20)) → q .number ≡ 20
+only-20 q true k e = no-length (sym e)
+only-20 q false k e = ap (λ (p : Refusal). p .number) (same-no e)
+
+-- ---- the writer's answer
+
+module _ (x : Parameters) (coords : List ℤ) (ends l : List ℕ) (r : Encoded) (l′ : List ℕ) (call : WriteCall x coords ends l r l′) where
+  answer-is : r ≡ encodedFor (tablesAnswer x coords ends) (length l)
+  unfolding encodedOf
+  answer-is = encoded-same r (encodedOf x coords ends (length l)) (call .answer)
+
+  buffer-is : l′ ≡ bufferFor r (imageOf x coords ends) l
+  unfolding bufferAfter encodedOf
+  buffer-is = call .buffer ∙ ap (λ (a : Encoded). bufferFor a (imageOf x coords ends) l) (sym answer-is)
+
+-- ---- what is written is read back
+
+module _ (x : Parameters) (coords : List ℤ) (ends l : List ℕ) (k : ℕ) (l′ : List ℕ) (call : WriteCall x coords ends l (E.Length k) l′) where
+  abbrev image : List ℕ
+  image = imageOf x coords ends
+
+  granted : Granted x coords ends (length l) k
+  unfolding encodedOf
+  granted = encoded-length x coords ends (length l) k (sym (answer-is x coords ends l (E.Length k) l′ call))
+
+  long : length image ≡ k
+  long = asked-length x coords ends (granted .asked) ∙ sym (granted .size)
+
+  front : take k l′ ≡ image
+  front = ap (take k) (buffer-is x coords ends l (E.Length k) l′ call) ∙ take-at image (drop k l) k long
+
+  reads-back : Signed32 coords → Below 65536 ends → ReadsBack x coords ends l k l′
+  reads-back signed low = record {
+    size = granted .size;
+    opens = λ o e. open-same o (openOf (take k l′)) e ∙ ap openOf front ∙ sym (by-reader x coords ends (granted .asked)) ∙ granted .site;
+    holds = subst (λ (t : List ℕ). Holds t x coords ends) (sym front) (image-holds x coords ends signed low (granted .asked));
+    rest = ap (drop k) (buffer-is x coords ends l (E.Length k) l′ call) ∙ drop-at image (drop k l) k long;
+  }
+
+-- ---- the tables that an image holds
+
+module _ (s : List ℕ) (x : Parameters) (coords : List ℤ) (ends : List ℕ) (ok : HeaderAccepted s) (small : Below 256 s)
+    (held : Holds s x coords ends) where
+  asked-of : Asked x coords ends
+  asked-of = record {
+    q3 = subst (λ (y : Parameters). T (countsFit (y .n) (y .m))) (held .parameters) (ok .q3);
+    q5 = subst (λ (y : Parameters). T (thresholdsFit (y .limit) (y .p) (y .q) (y .mu))) (held .parameters) (ok .q5);
+    q6 = and-make (eqb (length coords) (coordinateCount * x .n)) (eqb (length ends) (endCount * x .m))
+        (eqb-of (length coords) (coordinateCount * x .n) (held .coordinate-count)) (eqb-of (length ends) (endCount * x .m) (held .end-count));
+  }
+
+  alike-of : Alike s (imageOf x coords ends)
+  alike-of = record {
+    parameters = held .parameters ∙ sym (ap parametersOf (header-read x coords ends asked-of));
+    handsets = handsets-are s x coords ends ok small held ∙ sym (handsets-read x coords ends asked-of);
+    edges = edges-are s x coords ends ok small held ∙ sym (edges-read x coords ends asked-of);
+  }
+
+  image-opening : SameOpening s (imageOf x coords ends)
+  image-opening = same-opening s (imageOf x coords ends) alike-of ok (header-accepted x coords ends asked-of)
+
+  module _ (l : List ℕ) (r : Encoded) (l′ : List ℕ) (call : WriteCall x coords ends l r l′) where
+    answer-by : (o : Opened) → openOf (imageOf x coords ends) ≡ o → r ≡ encodedFor o (length l)
+    answer-by o e = answer-is x coords ends l r l′ call ∙ ap (λ (a : Opened). encodedFor a (length l)) (by-reader x coords ends asked-of ∙ e)
+
+    writer-too : (q : Refusal) → SameOpening s (imageOf x coords ends) → openOf s ≡ O.Refused q
+        → (r ≡ E.Refused q) × (7 ≤ q .number) × (q .number ≤ 10)
+    writer-too q (inl (site, _)) e = no-site (sym site ∙ e)
+    writer-too q (inr (p, from, to, here, again)) e =
+        let same : p ≡ q = same-refusal (sym here ∙ e) in
+        let number : p .number ≡ q .number = ap (λ (y : Refusal). y .number) same in
+        (answer-by _ again ∙ ap E.Refused same, omega arith, omega arith)
+
+    image-too : (q : Refusal) → SameOpening s (imageOf x coords ends) → r ≡ E.Refused q → (openOf s ≡ O.Refused q) ⊎ (q .number ≡ 20)
+    image-too q (inl (_, again)) e = inr (only-20 q (leb _ (length l)) _ (sym e ∙ answer-by _ again))
+    image-too q (inr (p, _, _, here, again)) e = inl (here ∙ ap O.Refused (same-no (sym (answer-by _ again) ∙ e)))
+
+    written-again : Accepted s → headerFor x .len ≤ length l → (r ≡ E.Length (headerFor x .len)) × SameOutcome s (take (headerFor x .len) l′)
+    written-again good room =
+        let k : ℕ = headerFor x .len in
+        let image : List ℕ = imageOf x coords ends in
+        let again : openOf image ≡ O.Site (headerOf image) = go image-opening in
+        let answer : r ≡ E.Length k =
+        answer-by (O.Site (headerFor x)) (again ∙ ap O.Site (header-read x coords ends asked-of))
+        ∙ ap (λ (b : Bool). cond b (E.Length k) (E.Refused (refusal 20))) (le-leb k (length l) room) in
+        let wrote : WriteCall x coords ends l (E.Length k) l′ = subst (λ (a : Encoded). WriteCall x coords ends l a l′) answer call in
+        let outcome : SameOutcome s image = same-outcome s image alike-of good (accepted image (headerOf image) again .0) in
+        (answer, subst (SameOutcome s) (sym (front x coords ends l k l′ wrote)) outcome)
+      where
+        go : SameOpening s (imageOf x coords ends) → openOf (imageOf x coords ends) ≡ O.Site (headerOf (imageOf x coords ends))
+        go (inl (_, again)) = again
+        go (inr (p, _, _, here, _)) = no-site (sym (opened s good) ∙ here)
+
+pub round-trips : RoundTrips
+round-trips = record {
+  reads-back = λ x coords ends l k l′ signed low call. reads-back x coords ends l k l′ call signed low;
+  written-again = λ s x coords ends l r l′ good small held room call. written-again s x coords ends (good .header) small held l r l′ call good room;
+  same-refusals = λ s x coords ends l r l′ ok small held call q.
+      let o : SameOpening s (imageOf x coords ends) = image-opening s x coords ends ok small held in (
+        λ e. let a = writer-too s x coords ends ok small held l r l′ call q o e in (a .0, omega (arith, a .1), omega (arith, a .2)),
+        λ (e, from, to). ⊎-elim (λ a. a) (λ n. absurd (omega arith)) (image-too s x coords ends ok small held l r l′ call q o e),
+      );
+  an-image = λ x coords ends signed low q3 q5 q6.
+      let ok : Asked x coords ends = record { q3 = q3; q5 = q5; q6 = q6 } in
+      (header-accepted x coords ends ok, image-below x coords ends, image-holds x coords ends signed low ok);
+  its-tables = tables-of;
+}

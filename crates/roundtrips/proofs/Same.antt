@@ -1,0 +1,167 @@
+-- Two accepted images with the same parameters and records have the same outcome, whatever is asked of them: their networks, tallies and texts are the
+-- same, and each call's answer is made of these.
+--
+--     network-is, tally-is, text-is     the network, the tally of a list, and the report's text
+--     same-outcome                      so every call has the same outcome (specs/RoundTrips)
+use Prim.Native.Nat.{ℕ, zero, suc}
+use mathlib.Core.Path.{_≡_, refl, sym, ap, ap₂, _∙_}
+use mathlib.Core.Bool.{_&&_, _||_, cond}
+use mathlib.Core.List.{List, [], _++_, map}
+use lib.Dec.{leb, ltb, eqb}
+use lib.IntN.{ℤ}
+use lib.ListN.{length, getD}
+use Rattle.sets.specs.Below.{any, count}
+use Rattle.fields.specs.Fields.{coreSize}
+use Rattle.image.specs.Image.{headerOf, handsetRecord, distanceBetween, endA, endB, joins, adjacent, within, neighbour, distanceSquared, mu}
+use Rattle.image.specs.Signed.{raised}
+use Rattle.image.specs.Answers.{Answer, refusal, Injective}
+use Rattle.image.specs.Questions.{openOf, Accepted}
+use Rattle.image.specs.declared.Opened.{Opened}
+use Rattle.image.specs.declared.Opened.the-variants.{Site}
+use Rattle.image.proofs.Acceptance.{opened}
+use Rattle.community.specs.Network.{Network, neighbourhoodSize, cores, communities, contains, role}
+use Rattle.community.specs.Scores.{countPairs, pairs, everyEdge, joinedBy, joinedPairs, justOne, leaving}
+use Rattle.community.specs.Site.{network}
+use Rattle.community.specs.Tables.{startTable, memberTable}
+use Rattle.tables.specs.Plan.{planned, tableAfter}
+use Rattle.tables.proofs.Answers.{plan-same}
+use Rattle.planner.specs.Plan.{communitiesOf, planFor, planOf, tableFor, startsAfter, membersAfter, standing, knownFor, knownOf}
+use Rattle.planner.specs.declared.Known.the-variants as K
+use Rattle.planner.proofs.Answers.{known-same}
+use Rattle.scores.specs.Scored.{tallyOf, scoresFor, askEntries, talliedFor, talliedOf, scoredFor, scoredOf}
+use Rattle.scores.specs.declared.Tally.{Tally}
+use Rattle.scores.proofs.Answers.{tally-same, scored-same}
+use Rattle.totals.specs.Totals.{totals}
+use Rattle.points.specs.Points.{pointInLimits, distanceFrom, distanceTo}
+use Rattle.nearest.specs.Nearest.{nearestIn, nearestFor, nearestOf}
+use Rattle.nearest.specs.declared.Nearest.the-variants as N
+use Rattle.nearest.proofs.Answers.{nearest-same}
+use Rattle.text.specs.Text.{bytes}
+use Rattle.reporting.specs.Report.{headLine, listLine, totalsLine, groupLine, groupLines, outliers, reportWith, reportText, writtenOf, writtenIn, reportFor, reportOf, afterFor, textAfter}
+use Rattle.reporting.proofs.Answers.{report-same}
+use Rattle.packing.specs.declared.Parameters.{Parameters}
+use Rattle.roundtrips.specs.RoundTrips.{parametersOf, SameOutcome}
+use Rattle.roundtrips.proofs.Openings.{Alike}
+
+-- ---- what the calls go by
+
+-- the text of a report by its image's parameters, its network and the lines of its groups
+abbrev textBy : Parameters → Network → List ℕ → List ℕ
+textBy x g lines =
+    headLine (record {
+      handsets = x .n;
+      ties = x .m;
+      counts = record { groups = length (communities g); memberships = length (memberTable (communities g)) };
+    })
+    ++ (lines ++ (listLine (bytes "cores:") (cores g) ++ (listLine (bytes "outliers:") (outliers g) ++ totalsLine (totals g))))
+
+module _ (s t : List ℕ) (alike : Alike s t) where
+  network-is : network s ≡ network t
+  unfolding neighbour adjacent within distanceSquared mu
+  network-is = λ i. record {
+    n = alike .parameters i .n;
+    neighbour = λ u v.
+        eqb u v || (any (alike .parameters i .m) (joins (alike .edges i) u v)
+        && leb (distanceBetween (handsetRecord (alike .handsets i) u) (handsetRecord (alike .handsets i) v)) (alike .parameters i .limit));
+    p = alike .parameters i .p;
+    q = alike .parameters i .q;
+    mu = coreSize (alike .parameters i .mu);
+  }
+
+  tally-is : (l : List ℕ) → tallyOf s l ≡ tallyOf t l
+  unfolding tallyOf joinedPairs joinedBy leaving
+  tally-is l = λ i. record {
+    pairs = pairs l;
+    joined = countPairs (length l) (λ a b. any (alike .parameters i .m) (λ k. everyEdge k && joins (alike .edges i) (getD l a 0) (getD l b 0) k));
+    leaving = count (alike .parameters i .m)
+        (λ k. everyEdge k && justOne (contains (endA (alike .edges i) k) l) (contains (endB (alike .edges i) k) l));
+  }
+
+  lines-are : (gs : List (List ℕ)) (k : ℕ) → groupLines s gs k ≡ groupLines t gs k
+  unfolding groupLines
+  lines-are gs zero = refl
+  lines-are gs (suc k) =
+      ap₂ (λ (lines : List ℕ) (c : Tally). lines ++ groupLine k (scoresFor c) (getD gs k [])) (lines-are gs k) (tally-is (getD gs k []))
+
+  text-is : reportText s ≡ reportText t
+  unfolding reportText reportWith
+  text-is =
+      ap (textBy (parametersOf (headerOf s)) (network s)) (lines-are (communities (network s)) (length (communities (network s))))
+      ∙ (λ i. textBy (alike .parameters i) (network-is i) (groupLines t (communities (network-is i)) (length (communities (network-is i)))))
+
+-- ---- the calls
+
+-- an answer that has the number, place and values of one definition, and one that has those of another
+one-answer : {A : Type 0} (f : A → Answer) → Injective f → (x y : A) → x ≡ y → (a b : A) → f a ≡ f x → f b ≡ f y → a ≡ b
+one-answer f same x y e a b p q = same a b (p ∙ ap f e ∙ sym q)
+
+module _ (s t : List ℕ) (alike : Alike s t) (ok : Accepted s) (fine : Accepted t) where
+  -- an outcome that goes by the reader's answer
+  by-header : {A : Type 0} (f : List ℕ → Opened → A) → f s (Site (headerOf s)) ≡ f t (Site (headerOf t)) → f s (openOf s) ≡ f t (openOf t)
+  by-header f e = ap (f s) (opened s ok) ∙ e ∙ sym (ap (f t) (opened t fine))
+
+  plan-is : (a b : ℕ) → planOf s a b ≡ planOf t a b
+  unfolding planOf communitiesOf
+  plan-is a b = by-header (λ y o. planFor y o a b) (ap (λ (g : Network). planned (communities g) a b) (network-is s t alike))
+
+  table-is : (a b : ℕ) (new : List (List ℕ) → List ℕ) (l : List ℕ)
+      → tableFor s (openOf s) a b (new (communitiesOf s)) l ≡ tableFor t (openOf t) a b (new (communitiesOf t)) l
+  unfolding communitiesOf
+  table-is a b new l =
+      by-header (λ y o. tableFor y o a b (new (communitiesOf y)) l)
+      (ap (λ (g : Network). tableAfter (communities g) a b (new (communities g)) l) (network-is s t alike))
+
+  starts-are : (l : List ℕ) (b : ℕ) → startsAfter s l b ≡ startsAfter t l b
+  unfolding startsAfter
+  starts-are l b = table-is (length l) b startTable l
+
+  members-are : (a : ℕ) (l : List ℕ) → membersAfter s a l ≡ membersAfter t a l
+  unfolding membersAfter
+  members-are a l = table-is a (length l) memberTable l
+
+  known-is : (v : ℕ) → knownOf s v ≡ knownOf t v
+  unfolding knownOf standing
+  known-is v =
+      by-header (λ y o. knownFor y o v)
+      (ap (λ (g : Network). cond (ltb v (g .n)) (K.Handset (record { neighbours = neighbourhoodSize g v; role = role g v })) (K.Refused (refusal 13)))
+      (network-is s t alike))
+
+  tallied-is : (l : List ℕ) → talliedOf s l ≡ talliedOf t l
+  unfolding talliedOf
+  tallied-is l = by-header (λ y o. talliedFor y o l) (λ i. askEntries (alike .parameters i .n) l (tally-is s t alike l i))
+
+  scored-is : (l : List ℕ) → scoredOf s l ≡ scoredOf t l
+  unfolding scoredOf
+  scored-is l = ap scoredFor (tallied-is l)
+
+  report-is : (room : ℕ) → reportOf s room ≡ reportOf t room
+  unfolding reportOf
+  report-is room = by-header (λ y o. reportFor y o room) (ap (λ (x : List ℕ). writtenOf x room) (text-is s t alike))
+
+  after-is : (l : List ℕ) → textAfter s l ≡ textAfter t l
+  unfolding textAfter
+  after-is l = by-header (λ y o. afterFor y o l) (ap (λ (x : List ℕ). writtenIn x l) (text-is s t alike))
+
+  nearest-is : (p : List ℤ) → nearestOf s p ≡ nearestOf t p
+  unfolding nearestOf distanceTo communitiesOf
+  nearest-is p =
+      let far : List ℕ → ℕ → ℕ = λ part v. distanceFrom (map raised p) (handsetRecord part v) in
+      by-header (λ y o. nearestFor y o p)
+      (λ i. cond (pointInLimits p) (nearestIn (far (alike .handsets i)) (communities (network-is s t alike i))) (N.Refused (refusal 17)))
+
+  pub same-outcome : SameOutcome s t
+  same-outcome = record {
+    plan = λ ss ms a b ss′ ms′ ss″ ms″ c d. (
+      one-answer _ plan-same _ _ (plan-is (length ss) (length ms)) a b (c .answer) (d .answer),
+      c .starts ∙ starts-are ss (length ms) ∙ sym (d .starts),
+      c .members ∙ members-are (length ss) ms ∙ sym (d .members),
+    );
+    role = λ v. one-answer _ known-same _ _ (known-is v);
+    tally = λ l. one-answer _ tally-same _ _ (tallied-is l);
+    scores = λ l. one-answer _ scored-same _ _ (scored-is l);
+    nearest = λ p. one-answer _ nearest-same _ _ (nearest-is p);
+    report = λ l a b l′ l″ c d. (
+      one-answer _ report-same _ _ (report-is (length l)) a b (c .answer) (d .answer),
+      c .text ∙ after-is l ∙ sym (d .text),
+    );
+  }

@@ -1,0 +1,162 @@
+-- The numbers of a site's two tables in the records of an image. Number j of the one table is coordinate j % coordinateCount of handset j / coordinateCount,
+-- and number j of the other an end of edge j / endCount (packing/proofs/Numbers).
+--
+--     handsets-are, edges-are                  the records of an image that holds two tables are the packed tables
+--     image-holds                              the image of two tables holds them
+--     tabulated k f                            the list of f 0 to f (k - 1)
+--     tables-of                                the tables that an image has
+use Prim.Native.Nat.{ℕ, zero, suc, _+_, _*_, _/_, _%_, _<_}
+use native.Mathlib.Omega.{arith}
+use mathlib.Core.Path.{_≡_, refl, sym, ap, ap₂, _∙_}
+use mathlib.Core.Logic.{_⊎_, inl, inr, ⊎-elim}
+use mathlib.Core.List.{List, [], _∷_, map}
+use lib.IntN.{ℤ, pos}
+use lib.Signed.{mag}
+use lib.ListN.{length, getD, drop, length-map}
+use Rattle.sets.proofs.Tests.{three}
+use Rattle.bytes.specs.Bytes.{number, Below}
+use Rattle.bytes.proofs.Packing.{take-below, drop-below, number-below, packed-is}
+use Rattle.fields.specs.Fields.{coordinateBytes, coordinateCount, endBytes, endCount, edgeBytes}
+use Rattle.image.specs.Image.{headerOf, handsetCount, edgeCount, handsetRecords, edgeRecords}
+use Rattle.image.specs.Signed.{signed32, signedCoordinate}
+use Rattle.image.specs.Questions.{HeaderAccepted}
+use Rattle.image.proofs.Acceptance.{handsets-length, edges-length}
+use Rattle.image.proofs.Signed.{handsets-below, coordinate-small}
+use Rattle.packing.specs.Packing.{word32, handsetPart, edgePart, imageOf, Signed32}
+use Rattle.packing.specs.declared.Parameters.{Parameters}
+use Rattle.packing.proofs.Numbers.{signed-word, word-signed, coordinate-place, first-place, second-place, coordinate-packed, end-packed}
+use Rattle.packing.proofs.Storing.{getD-word}
+use Rattle.packing.proofs.Reading.{Asked, coords-length, ends-length, header-read, handsets-read, edges-read}
+use Rattle.roundtrips.specs.RoundTrips.{parametersOf, Holds}
+
+-- ---- the records of an image
+
+edges-below : (s : List ℕ) → Below 256 s → Below 256 (edgeRecords s)
+unfolding edgeRecords
+edges-below s small = take-below 256 (edgeBytes * edgeCount s) (drop (headerOf s .edges) s) (drop-below 256 (headerOf s .edges) s small)
+
+which-end : (j : ℕ) → (j ≡ endCount * (j / endCount)) ⊎ (j ≡ endCount * (j / endCount) + 1)
+which-end j =
+    ⊎-elim (λ e. inr (omega arith)) (λ o. ⊎-elim (λ l. inl (omega arith)) (λ g. absurd (omega arith)) o) (three (j % endCount) 1)
+
+module _ (s : List ℕ) (x : Parameters) (coords : List ℤ) (ends : List ℕ) (ok : HeaderAccepted s) (small : Below 256 s)
+    (held : Holds s x coords ends) where
+  n-is : handsetCount s ≡ x .n
+  n-is = ap (λ (y : Parameters). y .n) (held .parameters)
+
+  m-is : edgeCount s ≡ x .m
+  m-is = ap (λ (y : Parameters). y .m) (held .parameters)
+
+  coordinate-is : (j : ℕ) → j < length coords → number coordinateBytes (handsetRecords s) (coordinateBytes * j) ≡ word32 (getD coords j (pos 0))
+  unfolding signedCoordinate
+  coordinate-is j h =
+      let v : ℕ = j / coordinateCount in
+      let i : ℕ = j % coordinateCount in
+      let at : ℕ → ℕ = λ y. number coordinateBytes (handsetRecords s) (coordinateBytes * y) in
+      let place : j ≡ coordinateCount * v + i = omega arith in
+      sym (word-signed (at j) (number-below coordinateBytes (handsetRecords s) (coordinateBytes * j) (handsets-below s small)))
+      ∙ ap (λ (y : ℕ). word32 (signed32 y)) (ap at place ∙ sym (coordinate-place (handsetRecords s) v i (omega arith)))
+      ∙ ap word32 (held .coordinates v i (omega (arith, held .coordinate-count)) (omega arith) ∙ ap (λ (y : ℕ). getD coords y (pos 0)) (sym place))
+
+  pub handsets-are : handsetRecords s ≡ handsetPart coords
+  handsets-are =
+      sym (packed-is coordinateBytes (map word32 coords) (handsetRecords s) (handsets-below s small)
+      (omega (arith, handsets-length s ok, n-is, held .coordinate-count, length-map coords word32))
+      (λ j h. coordinate-is j (omega (arith, length-map coords word32)) ∙ getD-word coords j))
+
+  end-is : (j : ℕ) → j < length ends → number endBytes (edgeRecords s) (endBytes * j) ≡ getD ends j 0
+  end-is j h =
+      let k : ℕ = j / endCount in
+      let edge : k < x .m = omega (arith, held .end-count) in
+      let at : ℕ → ℕ = λ y. number endBytes (edgeRecords s) (endBytes * y) in
+      ⊎-elim
+      (λ e. ap at e ∙ sym (first-place (edgeRecords s) k) ∙ held .first-ends k edge ∙ ap (λ (y : ℕ). getD ends y 0) (sym e))
+      (λ e. ap at e ∙ sym (second-place (edgeRecords s) k) ∙ held .second-ends k edge ∙ ap (λ (y : ℕ). getD ends y 0) (sym e))
+      (which-end j)
+
+  pub edges-are : edgeRecords s ≡ edgePart ends
+  edges-are =
+      sym (packed-is endBytes ends (edgeRecords s) (edges-below s small) (omega (arith, edges-length s ok, m-is, held .end-count)) end-is)
+
+-- ---- the image of two tables
+
+module _ (x : Parameters) (coords : List ℤ) (ends : List ℕ) (signed : Signed32 coords) (low : Below 65536 ends) (ok : Asked x coords ends) where
+  abbrev image : List ℕ
+  image = imageOf x coords ends
+
+  coordinate-read : (j : ℕ) → j < length coords
+      → signed32 (number coordinateBytes (handsetRecords image) (coordinateBytes * j)) ≡ getD coords j (pos 0)
+  coordinate-read j h =
+      ap signed32
+      (ap (λ (part : List ℕ). number coordinateBytes part (coordinateBytes * j)) (handsets-read x coords ends ok) ∙ coordinate-packed coords signed j h)
+      ∙ signed-word (getD coords j (pos 0)) (signed j)
+
+  end-read : (j : ℕ) → j < length ends → number endBytes (edgeRecords image) (endBytes * j) ≡ getD ends j 0
+  end-read j h = ap (λ (part : List ℕ). number endBytes part (endBytes * j)) (edges-read x coords ends ok) ∙ end-packed ends low j h
+
+  pub image-holds : Holds image x coords ends
+  unfolding signedCoordinate
+  image-holds = record {
+    parameters = ap parametersOf (header-read x coords ends ok);
+    coordinate-count = coords-length x coords ends ok;
+    end-count = ends-length x coords ends ok;
+    coordinates = λ v i h l.
+        ap signed32 (coordinate-place (handsetRecords image) v i l)
+        ∙ coordinate-read (coordinateCount * v + i) (omega (arith, coords-length x coords ends ok));
+    first-ends = λ k h. first-place (edgeRecords image) k ∙ end-read (endCount * k) (omega (arith, ends-length x coords ends ok));
+    second-ends = λ k h. second-place (edgeRecords image) k ∙ end-read (endCount * k + 1) (omega (arith, ends-length x coords ends ok));
+  }
+
+-- ---- the tables of an image
+
+abbrev tabulated : {A : Type 0} → ℕ → (ℕ → A) → List A
+tabulated zero f = []
+tabulated (suc k) f = f 0 ∷ tabulated k (λ i. f (suc i))
+
+length-tabulated : {A : Type 0} (k : ℕ) (f : ℕ → A) → length (tabulated k f) ≡ k
+length-tabulated zero f = refl
+length-tabulated (suc k) f = ap suc (length-tabulated k (λ i. f (suc i)))
+
+getD-tabulated : {A : Type 0} (k : ℕ) (f : ℕ → A) (i : ℕ) (d : A) → i < k → getD (tabulated k f) i d ≡ f i
+getD-tabulated zero f i d h = absurd (omega arith)
+getD-tabulated (suc k) f zero d h = refl
+getD-tabulated (suc k) f (suc i) d h = getD-tabulated k (λ j. f (suc j)) i d (omega arith)
+
+every-tabulated : {A : Type 0} (P : A → Type 0) (k : ℕ) (f : ℕ → A) (d : A) → P d → ((j : ℕ) → P (f j)) → (i : ℕ) → P (getD (tabulated k f) i d)
+every-tabulated P zero f d p g i = p
+every-tabulated P (suc k) f d p g zero = g 0
+every-tabulated P (suc k) f d p g (suc i) = every-tabulated P k (λ j. f (suc j)) d p (λ j. g (suc j)) i
+
+module _ (s : List ℕ) (small : Below 256 s) where
+  abbrev x : Parameters
+  x = parametersOf (headerOf s)
+
+  abbrev coords : List ℤ
+  coords = tabulated (coordinateCount * x .n) (λ j. signedCoordinate s (j / coordinateCount) (j % coordinateCount))
+
+  abbrev ends : List ℕ
+  ends = tabulated (endCount * x .m) (λ j. number endBytes (edgeRecords s) (endBytes * j))
+
+  end-of : (j : ℕ) → j < endCount * x .m → number endBytes (edgeRecords s) (endBytes * j) ≡ getD ends j 0
+  end-of j h = sym (getD-tabulated (endCount * x .m) (λ j. number endBytes (edgeRecords s) (endBytes * j)) j 0 h)
+
+  pub tables-of : (coords : List ℤ) × (ends : List ℕ) × Signed32 coords × Below 65536 ends × Holds s x coords ends
+  tables-of = (
+    coords,
+    ends,
+    every-tabulated (λ z. mag z < 2147483648) (coordinateCount * x .n) _ (pos 0) (omega arith) (λ j. coordinate-small s small _ _),
+    every-tabulated (λ y. y < 65536) (endCount * x .m) _ 0 (omega arith)
+        (λ j. number-below endBytes (edgeRecords s) (endBytes * j) (edges-below s small)),
+    record {
+      parameters = refl;
+      coordinate-count = length-tabulated (coordinateCount * x .n) _;
+      end-count = length-tabulated (endCount * x .m) _;
+      coordinates = λ v i h l.
+          let j : ℕ = coordinateCount * v + i in
+          let handset : v ≡ j / coordinateCount = omega arith in
+          let coordinate : i ≡ j % coordinateCount = omega arith in
+          ap₂ (signedCoordinate s) handset coordinate ∙ sym (getD-tabulated (coordinateCount * x .n) _ j (pos 0) (omega arith));
+      first-ends = λ k h. first-place (edgeRecords s) k ∙ end-of (endCount * k) (omega arith);
+      second-ends = λ k h. second-place (edgeRecords s) k ∙ end-of (endCount * k + 1) (omega arith);
+    },
+  )

@@ -1,0 +1,66 @@
+-- What the definitions make of a few sites, byte by byte, and the refusal of each question, worked out by hand (proved in proofs/Examples, as `examples`, by
+-- computing). The bytes of the sites are those of crates/community/specs/Examples, which paper 01 describes.
+--
+--     given n m G p q mu          parameters
+--     zeros14, endsS              the two tables of site S
+--     two x y                     a coordinate table of two handsets: one at (0, 0), one at (x, y)
+--     gapped                      the pair at (-1, -1) and (0, 1) with the edge first and four bytes of no meaning before the handsets
+--     Examples                    the list
+use Prim.Native.Nat.{ℕ}
+use mathlib.Core.Path.{_≡_}
+use mathlib.Core.List.{List, [], _∷_}
+use lib.IntN.{ℤ, pos, negsuc}
+use Rattle.image.specs.Answers.{refusal}
+use Rattle.image.specs.Image.{headerOf, handsetRecords, edgeRecords}
+use Rattle.image.specs.Questions.{openOf}
+use Rattle.image.specs.declared.Opened.the-variants.{Site}
+use Rattle.community.specs.Examples.{siteS, pairNeg, nobody}
+use Rattle.packing.specs.Packing.{imageOf}
+use Rattle.packing.specs.declared.Parameters.{Parameters}
+use Rattle.writer.specs.Writer.{encodedOf, bufferAfter}
+use Rattle.writer.specs.declared.Encoded.the-variants.{Length, Refused}
+
+abbrev pub given : ℕ → ℕ → ℕ → ℕ → ℕ → ℕ → Parameters
+given n m G p q mu = record { n = n; m = m; limit = G; p = p; q = q; mu = mu }
+
+abbrev pub zeros14 : List ℤ
+zeros14 = pos 0 ∷ pos 0 ∷ pos 0 ∷ pos 0 ∷ pos 0 ∷ pos 0 ∷ pos 0 ∷ pos 0 ∷ pos 0 ∷ pos 0 ∷ pos 0 ∷ pos 0 ∷ pos 0 ∷ pos 0 ∷ []
+
+abbrev pub endsS : List ℕ
+endsS = 0 ∷ 1 ∷ 0 ∷ 2 ∷ 1 ∷ 2 ∷ 2 ∷ 3 ∷ 3 ∷ 4 ∷ 4 ∷ 5 ∷ 4 ∷ 6 ∷ 5 ∷ 6 ∷ []
+
+abbrev pub two : ℤ → ℤ → List ℤ
+two x y = pos 0 ∷ pos 0 ∷ x ∷ y ∷ []
+
+abbrev pub gapped : List ℕ
+gapped = 2 ∷ 0 ∷ 1 ∷ 0 ∷ 40 ∷ 0 ∷ 0 ∷ 0 ∷ 32 ∷ 0 ∷ 0 ∷ 0 ∷ 56 ∷ 0 ∷ 0 ∷ 0 ∷ 5 ∷ 0 ∷ 0 ∷ 0 ∷ 0 ∷ 0 ∷ 0 ∷ 0 ∷ 1 ∷ 0 ∷ 2 ∷ 0 ∷ 3 ∷ 0 ∷ 0 ∷ 0 ∷ 1 ∷ 0 ∷ 0 ∷ 0 ∷ 9 ∷ 9 ∷ 9 ∷ 9 ∷ 255 ∷ 255 ∷ 255 ∷ 255 ∷ 255 ∷ 255 ∷ 255 ∷ 255 ∷ 0 ∷ 0 ∷ 0 ∷ 0 ∷ 1 ∷ 0 ∷ 0 ∷ 0 ∷ []
+
+pub record Examples : Type 0 where
+  -- the bytes: site S with mu 4 and with a blank mu, a pair with negative coordinates, no handset
+  pub site-S : imageOf (given 7 8 0 1 2 4) zeros14 endsS ≡ siteS 1 2 4
+  pub site-S-blank : imageOf (given 7 8 0 1 2 0) zeros14 endsS ≡ siteS 1 2 0
+  pub negative : imageOf (given 2 1 5 1 2 3) (negsuc 0 ∷ negsuc 0 ∷ pos 0 ∷ pos 1 ∷ []) (1 ∷ 0 ∷ []) ≡ pairNeg 5
+  pub no-handset : imageOf (given 0 0 0 1 2 3) [] [] ≡ nobody
+  -- the image with a gap is accepted, and its records are those of the image of the same pair without
+  pub with-a-gap : openOf gapped ≡ Site (headerOf gapped)
+  pub gap-handsets : handsetRecords gapped ≡ handsetRecords (pairNeg 5)
+  pub gap-edges : edgeRecords gapped ≡ edgeRecords (pairNeg 5)
+  -- a buffer of just the length, a byte longer, whose last byte stays, and a byte shorter
+  pub just : encodedOf (given 7 8 0 1 2 4) zeros14 endsS 120 ≡ Length 120
+  pub longer : bufferAfter (given 0 0 0 1 2 3) [] [] (9 ∷ 9 ∷ 9 ∷ 9 ∷ 9 ∷ 9 ∷ 9 ∷ 9 ∷ 9 ∷ 9 ∷ 9 ∷ 9 ∷ 9 ∷ 9 ∷ 9 ∷ 9 ∷ 9 ∷ 9 ∷ 9 ∷ 9 ∷ 9 ∷ 9 ∷ 9 ∷ 9 ∷ 9 ∷ 9 ∷ 9 ∷ 9 ∷ 9 ∷ 9 ∷ 9 ∷ 9 ∷ 7 ∷ [])
+      ≡ 0 ∷ 0 ∷ 0 ∷ 0 ∷ 32 ∷ 0 ∷ 0 ∷ 0 ∷ 32 ∷ 0 ∷ 0 ∷ 0 ∷ 32 ∷ 0 ∷ 0 ∷ 0 ∷ 0 ∷ 0 ∷ 0 ∷ 0 ∷ 0 ∷ 0 ∷ 0 ∷ 0 ∷ 1 ∷ 0 ∷ 2 ∷ 0 ∷ 3 ∷ 0 ∷ 0 ∷ 0 ∷ 7 ∷ []
+  pub short : encodedOf (given 7 8 0 1 2 4) zeros14 endsS 119 ≡ Refused (refusal 20)
+  pub short-kept : bufferAfter (given 0 0 0 1 2 3) [] [] (9 ∷ 8 ∷ []) ≡ 9 ∷ 8 ∷ []
+  -- each question with a buffer of no bytes, so that 20 comes last; a fault for each later question besides
+  pub many : encodedOf (given 513 0 0 0 2 3) [] [] 0 ≡ Refused (refusal 3)
+  pub many-edges : encodedOf (given 0 4097 0 1 2 3) [] [] 0 ≡ Refused (refusal 3)
+  pub wide : encodedOf (given 65536 0 0 1 2 3) [] [] 0 ≡ Refused (refusal 3)
+  pub over-one : encodedOf (given 1 0 0 3 2 3) [] [] 0 ≡ Refused (refusal 5)
+  pub wide-mu : encodedOf (given 0 0 0 1 2 65536) [] [] 0 ≡ Refused (refusal 5)
+  pub one-more : encodedOf (given 1 0 0 1 2 3) (pos 1000001 ∷ pos 0 ∷ pos 0 ∷ []) [] 0 ≡ Refused (refusal 6)
+  pub one-fewer : encodedOf (given 2 1 0 1 2 3) (two (pos 0) (pos 0)) (0 ∷ []) 0 ≡ Refused (refusal 6)
+  pub far : encodedOf (given 2 1 0 1 2 3) (two (pos 0) (negsuc 1000000)) (0 ∷ 2 ∷ []) 0 ≡ Refused (record { number = 7; place = 1 })
+  pub at-the-limit : encodedOf (given 2 1 0 1 2 3) (two (pos 1000000) (negsuc 999999)) (0 ∷ 1 ∷ []) 52 ≡ Length 52
+  pub no-such-handset : encodedOf (given 2 2 0 1 2 3) (two (pos 0) (pos 0)) (0 ∷ 0 ∷ 0 ∷ 2 ∷ []) 0 ≡ Refused (record { number = 8; place = 1 })
+  pub loop : encodedOf (given 2 3 0 1 2 3) (two (pos 0) (pos 0)) (0 ∷ 1 ∷ 1 ∷ 0 ∷ 1 ∷ 1 ∷ []) 0 ≡ Refused (record { number = 9; place = 2 })
+  pub twice : encodedOf (given 2 2 0 1 2 3) (two (pos 0) (pos 0)) (0 ∷ 1 ∷ 1 ∷ 0 ∷ []) 0 ≡ Refused (record { number = 10; place = 1 })

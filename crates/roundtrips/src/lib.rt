@@ -1,0 +1,1 @@
+// What is written is read back, and what was read can be written again: specs/RoundTrips says it, proofs/RoundTrips proves it. There is no code here.

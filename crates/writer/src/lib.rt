@@ -1,0 +1,65 @@
+// The writer of site images, for the tool that commissions a site: from the numbers of a site to the bytes that the reader accepts.
+//
+// The definitions are in specs/Writer. The questions of the image are put by the reader itself, to a draft: the caller's buffer gets no byte before all of them,
+// and 20, have a yes. specs of the crate `roundtrips` say what the reader and the other calls make of what is written.
+ghost use mathlib.Core.Path.{_≡_};
+ghost use lib.ListN.{length};
+ghost use Rattle.writer.specs.Writer.{tablesAnswer, encodedFor, WriteCall};
+use image::Opened;
+use image::Refusal;
+use packing::Parameters;
+
+// The length of the image written, or the refusal.
+pub enum Encoded {
+    Length(usize),
+    Refused(Refusal),
+}
+
+// Questions 3, 5 and 6, then 7 to 10 by the reader, each to the whole tables before the next: the header of the image that they make, or the first no.
+fn ask_tables(x: Parameters, coordinates: &[i32], ends: &[u16]) -> Opened
+    ensures { λ r. ⌜ r ≡ tablesAnswer x (now (coordinates .entry)) (now (ends .entry)) ⌝ }
+{
+    if !image::counts_fit(x.n, x.m) {
+        return image::refused(3, 0);
+    }
+    if !image::thresholds_fit(x.limit, x.p, x.q, x.mu) {
+        return image::refused(5, 0);
+    }
+    if !packing::lengths_fit(x, coordinates.len(), ends.len()) {
+        return image::refused(6, 0);
+    }
+    let mut draft = [0u8; packing::IMAGE_MOST];
+    let len = packing::put_image(&mut draft, x, coordinates, ends);
+    image::open(&draft[0..len])
+}
+
+// Question 20, of a buffer of room bytes, after the others.
+fn ask_room(asked: Opened, room: usize) -> Encoded
+    ensures { λ r. ⌜ r ≡ encodedFor asked room ⌝ }
+{
+    match asked {
+        Opened::Site(h) => {
+            if room < h.len as usize {
+                Encoded::Refused(Refusal {
+                    number: 20,
+                    place: 0,
+                })
+            } else {
+                Encoded::Length(h.len as usize)
+            }
+        }
+        Opened::Refused(r) => Encoded::Refused(r),
+    }
+}
+
+// Writes the image of a site at the front of the buffer: x and y of each handset in turn, and two handsets for each edge.
+pub fn write(x: Parameters, coordinates: &[i32], ends: &[u16], buffer: &mut [u8]) -> Encoded
+    ensures { λ r. ⌜ WriteCall x (now (coordinates .entry)) (now (ends .entry)) (now (buffer .entry)) r (now (buffer .exit)) ⌝ }
+{
+    let answer = ask_room(ask_tables(x, coordinates, ends), buffer.len());
+    let Encoded::Length(_) = answer else {
+        return answer;
+    };
+    packing::put_image(buffer, x, coordinates, ends);
+    answer
+}
