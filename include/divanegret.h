@@ -7,17 +7,17 @@
  * Every function here is a thin, proved wrapper around the planner's library; its outcome is
  * fixed for every input, byte by byte. The functions
  *   - only read the image, the list, and the tables given as const;
- *   - write to a lent table or buffer only on success, and there only the plan or the text: what
- *     stood past its end stays, and after a refusal every lent byte is as it was;
+ *   - write to a lent table or buffer only on success, and there only the plan, the text or the
+ *     image: what stood past its end stays, and after a refusal every lent byte is as it was;
  *   - never allocate, keep no state between calls and are reentrant: two calls may run at the same
  *     time if neither writes what the other reads;
- *   - always return. No image, however damaged, and no number makes one trap or loop.
+ *   - always return. No image, however damaged, no table and no number makes one trap or loop.
  *
  * Stack that a call needs on x86-64, as this archive is compiled: the frames along its deepest path
  * added up, and confirmed by measuring (tests/rust, program stack). It is no part of what is proved,
  * and another compiler or target may need another amount.
  *
- *     dvg_report 91 KiB    dvg_nearest 70 KiB    dvg_plan, dvg_role 36 KiB
+ *     dvg_report 91 KiB    dvg_nearest 70 KiB    dvg_write 55 KiB    dvg_plan, dvg_role 36 KiB
  *     dvg_open, dvg_scores 35 KiB    dvg_members, dvg_members_at 1 KiB
  *
  * The caller owns everything that it lends, before, during and after the call. A pointer must be
@@ -46,14 +46,18 @@ extern "C" {
 
 /* The numbers of refusals, each with the question that got a no. A place is that of the first bad
  * one; where none is named it is 0. Questions 1 to 10 are put to the image in this order, each to the
- * whole image before the next; every call on an image puts them before its own. */
+ * whole image before the next; every call on an image puts them before its own. dvg_write gets no
+ * image: it puts 3, 5, 6 and 7 to 10 to the numbers and tables that it gets, in this order too, and 20
+ * after them. */
 #define DVG_TOO_SHORT 1      /* Are there at least 32 bytes, the header? */
 #define DVG_WRONG_LENGTH 2   /* Is the header's length the lent length? */
 #define DVG_COUNTS 3         /* Are there at most 512 handsets and at most 4,096 ties? */
 #define DVG_RESERVED 4       /* Are bytes 30 and 31 zero? */
 #define DVG_THRESHOLDS 5     /* Is G at most 8,000,000,000,000, 1 <= p <= q <= 1,000, and mu at
                                 most 512? (A mu of 0 is blank and means 4.) */
-#define DVG_TABLES 6         /* Is each table past the header, in the image, clear of the other? */
+#define DVG_TABLES 6         /* Is each table past the header, in the image, clear of the other?
+                                dvg_write: has each table just the numbers that the counts need, 2 n
+                                coordinates and 2 m ends, no fewer and no more? */
 #define DVG_COORDINATE 7     /* Is every x and y from -1,000,000 to 1,000,000? Place: a handset. */
 #define DVG_NO_HANDSET 8     /* Is each end of every tie below n? Place: a tie. */
 #define DVG_LOOP 9           /* Do the ends of every tie differ? Place: a tie. */
@@ -70,13 +74,18 @@ extern "C" {
 #define DVG_SPOT 17          /* dvg_nearest: are x and y from -1,000,000 to 1,000,000? */
 #define DVG_DATE 18          /* dvg_members_at: is the year from 1600 to 9999, and is there such a date
                                 in the Gregorian calendar? */
-#define DVG_MINUTES 19          /* dvg_members_at: is the minute at most 1,439, closing at most 1,440, and
+#define DVG_MINUTES 19       /* dvg_members_at: is the minute at most 1,439, closing at most 1,440, and
                                 opening not after closing? */
+#define DVG_BUFFER_SHORT 20  /* dvg_write: does the buffer hold the whole image? */
 
 /* A start table of DVG_STARTS entries and a member table of DVG_MEMBERS entries suffice for every
  * image; for a given one, n + 1 and n + 2 m do. */
 #define DVG_STARTS 513
 #define DVG_MEMBERS 8704
+
+/* A buffer of DVG_IMAGE bytes suffices for every image that dvg_write writes; for given counts,
+ * 32 + 8 n + 4 m do. */
+#define DVG_IMAGE 20512
 
 /* The text of the report: its length, or the refusal's number (1 to 10, 16) made negative. */
 int64_t dvg_report(const uint8_t *image, size_t image_len, uint8_t *text, size_t text_len);
@@ -142,6 +151,24 @@ int64_t dvg_members_at(uint32_t year, uint32_t month, uint32_t day, uint32_t min
 #define DVG_RESTDAY 1
 #define DVG_TABLE(r) ((int32_t)((r) % 2))
 #define DVG_COUNT(r) ((int64_t)((r) / 2))
+
+/* The image of a site, written at the front of the buffer: its length in bytes. The image has no gaps:
+ * the header, the handset records from byte 32, the tie records directly after them. Lent with just
+ * that length it is accepted by every call on an image, which finds the numbers given here, in the
+ * same order; what an accepted image holds, written again, has the same plan, roles, scores and report.
+ *
+ * The numbers are n, m, G, p, q and mu of the header; a mu of 0 is written as 0, which is blank. The
+ * coordinate table has x and y of handset 0, of handset 1, and so on, 2 n numbers; the tie table has the
+ * two handsets of tie 0, of tie 1, and so on, 2 m numbers. Both hold plain numbers of C, no bytes of an
+ * image, and are only read. Any numbers may come in, also ones that no field of the header holds: none
+ * is cut off before it is asked.
+ *
+ * Refusals 3, 5, 6, 7, 8, 9, 10, 20, asked in this order, each of the whole tables before the next: 7
+ * with the place of a handset, 8 to 10 with that of a tie. A refused call keeps every byte of the
+ * buffer, and a success every byte past the image. */
+int64_t dvg_write(uint64_t handsets, uint64_t ties, uint64_t near_squared, uint64_t p, uint64_t q,
+                  uint64_t mu, const int32_t *coordinates, size_t coordinates_len,
+                  const uint16_t *ends, size_t ends_len, uint8_t *buffer, size_t buffer_len);
 
 #ifdef __cplusplus
 }

@@ -50,11 +50,12 @@ static void put(uint8_t *at, int width, uint64_t value)
     }
 }
 
+static const uint16_t ties[TIES][2] = {{0, 1}, {0, 2}, {1, 2}, {2, 3},
+                                       {3, 4}, {4, 5}, {4, 6}, {5, 6}};
+
 /* Seven handsets at one place, gamma 0, epsilon 1/2, mu 4. */
 static void build_site(uint8_t image[LENGTH])
 {
-    static const uint16_t ties[TIES][2] = {{0, 1}, {0, 2}, {1, 2}, {2, 3},
-                                           {3, 4}, {4, 5}, {4, 6}, {5, 6}};
     int i;
     memset(image, 0, LENGTH);
     put(image + 0, 2, HANDSETS);
@@ -355,6 +356,125 @@ static void check_members_at(void)
     check("only the chosen plan is asked", is_in(answer, DVG_RESTDAY, 7));
 }
 
+/* What the writer gets, to be changed: site S, with room for one number more in each table. */
+struct numbers {
+    uint64_t handsets, ties, near_squared, p, q, mu;
+    int32_t coordinates[2 * HANDSETS + 1];
+    size_t coordinates_len;
+    uint16_t ends[2 * TIES + 1];
+    size_t ends_len;
+};
+
+static struct numbers numbers_of_s(void)
+{
+    struct numbers s = {HANDSETS, TIES, 0, 1, 2, 4, {0}, 2 * HANDSETS, {0}, 2 * TIES};
+    memcpy(s.ends, ties, sizeof ties);
+    return s;
+}
+
+static int64_t write_site(const struct numbers *s, uint8_t *buffer, size_t buffer_len)
+{
+    return dvg_write(s->handsets, s->ties, s->near_squared, s->p, s->q, s->mu, s->coordinates,
+                     s->coordinates_len, s->ends, s->ends_len, buffer, buffer_len);
+}
+
+/* Whether the writer refuses with this number and place, and keeps every byte of the buffer. */
+static int write_refuses(const struct numbers *s, size_t buffer_len, int32_t number, int32_t place)
+{
+    static uint8_t buffer[DVG_IMAGE];
+    int64_t refused;
+    memset(buffer, 0xa5, sizeof buffer);
+    refused = write_site(s, buffer, buffer_len);
+    return refused == -((int64_t)number + 256 * place) && DVG_NUMBER(refused) == number &&
+           DVG_PLACE(refused) == place && untouched(buffer, sizeof buffer, 0xa5);
+}
+
+static void check_write(const uint8_t *image)
+{
+    static uint8_t buffer[DVG_IMAGE];
+    struct numbers s = numbers_of_s();
+    struct numbers before = s;
+    memset(buffer, 0xa5, sizeof buffer);
+    check("write answers the image's length", write_site(&s, buffer, sizeof buffer) == LENGTH);
+    check("write makes the image of site S", memcmp(buffer, image, LENGTH) == 0);
+    check("write keeps what is past the image",
+          untouched(buffer + LENGTH, sizeof buffer - LENGTH, 0xa5));
+    check("write leaves the tables as they were",
+          memcmp(s.coordinates, before.coordinates, sizeof s.coordinates) == 0 &&
+              memcmp(s.ends, before.ends, sizeof s.ends) == 0);
+    check_open(buffer);
+    check_report(buffer);
+    memset(buffer, 0xa5, sizeof buffer);
+    check("write fits a buffer of just the length",
+          write_site(&s, buffer, LENGTH) == LENGTH && memcmp(buffer, image, LENGTH) == 0 &&
+              untouched(buffer + LENGTH, sizeof buffer - LENGTH, 0xa5));
+    s.mu = 0;
+    check("write leaves a blank mu blank",
+          write_site(&s, buffer, LENGTH) == LENGTH && buffer[28] == 0 && buffer[29] == 0);
+    s.handsets = s.ties = 0;
+    s.coordinates_len = s.ends_len = 0;
+    check("write makes an image without handsets",
+          write_site(&s, buffer, 32) == 32 && dvg_open(buffer, 32) == 0);
+}
+
+/* Two handsets at the limits and a tie, byte by byte. */
+static void check_write_signs(void)
+{
+    static const uint8_t expected[52] = {
+        2, 0, 1, 0, 32, 0, 0, 0, 48, 0, 0, 0, 52, 0, 0, 0,             /* n, m, both offsets, L */
+        0, 0x80, 0x28, 0xa5, 0x46, 0x07, 0, 0, 0xe7, 3, 0xe8, 3, 0, 2, 0, 0, /* G, p, q, mu */
+        0xc0, 0xbd, 0xf0, 0xff, 0x40, 0x42, 0x0f, 0, /* handset 0 at (-1,000,000, 1,000,000) */
+        0xfd, 0xff, 0xff, 0xff, 2, 1, 0, 0,          /* handset 1 at (-3, 258) */
+        1, 0, 0, 0};                                 /* tie 0: 1 and 0 */
+    static const int32_t coordinates[4] = {-1000000, 1000000, -3, 258};
+    static const uint16_t ends[2] = {1, 0};
+    uint8_t image[53];
+    memset(image, 0xa5, sizeof image);
+    check("write takes signs, the largest G, and mu 512",
+          dvg_write(2, 1, UINT64_C(8000000000000), 999, 1000, 512, coordinates, 4, ends, 2, image,
+                    sizeof image) == 52);
+    check("byte by byte", memcmp(image, expected, sizeof expected) == 0 && image[52] == 0xa5);
+    check("open accepts what was written", dvg_open(image, 52) == 2 + 65536);
+}
+
+/* The faults are made from the last question's to the first's, and stay: each is found before those of
+ * later questions. */
+static void check_write_refused(void)
+{
+    struct numbers s = numbers_of_s();
+    check("write refuses a buffer one byte short", write_refuses(&s, LENGTH - 1, DVG_BUFFER_SHORT, 0));
+    check("write refuses less than a header", write_refuses(&s, 31, DVG_BUFFER_SHORT, 0));
+    check("write refuses an empty buffer", write_refuses(&s, 0, DVG_BUFFER_SHORT, 0));
+    s.ends[2 * 5] = 1; /* tie 5 is now 1-0, as tie 0 the other way round */
+    s.ends[2 * 5 + 1] = 0;
+    check("write refuses a repeated tie", write_refuses(&s, DVG_IMAGE, DVG_REPEATED, 5));
+    check("and in an empty buffer", write_refuses(&s, 0, DVG_REPEATED, 5));
+    s.ends[2 * 6] = 6;
+    check("write refuses a loop", write_refuses(&s, 0, DVG_LOOP, 6));
+    s.ends[2 * 7 + 1] = HANDSETS;
+    check("write refuses a handset that is not there", write_refuses(&s, 0, DVG_NO_HANDSET, 7));
+    s.coordinates[2 * 6 + 1] = -1000001;
+    check("write refuses a y beyond", write_refuses(&s, 0, DVG_COORDINATE, 6));
+    s.coordinates[2 * 4] = INT32_MIN;
+    check("write refuses an x far beyond", write_refuses(&s, 0, DVG_COORDINATE, 4));
+    s.ends_len = 2 * TIES - 1;
+    check("write refuses half a tie less", write_refuses(&s, 0, DVG_TABLES, 0));
+    s.ends_len = 2 * TIES;
+    s.coordinates_len = 2 * HANDSETS + 1;
+    check("write refuses a coordinate too many", write_refuses(&s, 0, DVG_TABLES, 0));
+    s.p = 3;
+    check("write refuses p above q", write_refuses(&s, 0, DVG_THRESHOLDS, 0));
+    s.p = 65536 + 1;
+    check("write refuses a p that no field holds", write_refuses(&s, 0, DVG_THRESHOLDS, 0));
+    s.ties = 4097;
+    check("write refuses 4097 ties", write_refuses(&s, 0, DVG_COUNTS, 0));
+    s.ties = TIES;
+    s.handsets = 65536 + HANDSETS;
+    check("write refuses a count that no field holds", write_refuses(&s, 0, DVG_COUNTS, 0));
+    s.handsets = UINT64_MAX;
+    check("write refuses the last number", write_refuses(&s, DVG_IMAGE, DVG_COUNTS, 0));
+}
+
 int main(void)
 {
     uint8_t image[LENGTH];
@@ -370,6 +490,9 @@ int main(void)
     check_scores(image);
     check_nearest(image);
     check_members_at();
+    check_write(image);
+    check_write_signs();
+    check_write_refused();
     check("the image is as it was", memcmp(image, before, LENGTH) == 0);
     return failures != 0;
 }

@@ -107,6 +107,27 @@ pub enum Scheduled {
     Restday(u64),
 }
 
+/// The numbers that the writer of an image gets for its header, within the limits or not. A mu of 0 is
+/// blank.
+#[derive(Clone, Copy, Debug, PartialEq, Eq)]
+pub struct Parameters {
+    pub handsets: u64,
+    pub ties: u64,
+    pub gamma_squared: u64,
+    pub p: u64,
+    pub q: u64,
+    pub mu: u64,
+}
+
+/// What the writer of an image gets: x and y of each handset in turn, and the two ends of each tie, or
+/// tables of any other length.
+#[derive(Clone, Copy, Debug, PartialEq, Eq)]
+pub struct Contents<'a> {
+    pub parameters: Parameters,
+    pub coordinates: &'a [i32],
+    pub ends: &'a [u16],
+}
+
 /// A planner under test.
 pub trait Planner {
     fn name(&self) -> &'static str;
@@ -132,6 +153,9 @@ pub trait Planner {
 
     /// The members stand in the chosen plan's member table, from the community's start on.
     fn members_at(&self, query: Query) -> Result<Scheduled, Refusal>;
+
+    /// The length of the image, which stands at the front of the buffer.
+    fn write(&self, contents: Contents, buffer: &mut [u8]) -> Result<u64, Refusal>;
 
     /// The text's length, or the number of the refusal alone, as the C call answers.
     fn report(&self, image: &[u8], text: &mut [u8]) -> Result<u64, u64>;

@@ -1,7 +1,7 @@
 //! One image through every call of a planner, compared with the reference: answers, every entry of
 //! what was lent, and the image itself. Lent tables hold a pattern before a call and have guards on
 //! both sides; images stand at any address, with noise around them. The call for the members at a time
-//! gets no image, and is compared on many times besides.
+//! and the writer get no image, and are compared on many times and on many numbers besides.
 
 use std::fmt::{Debug, Display};
 use std::io::Write;
@@ -10,10 +10,11 @@ use std::process::{Command, Stdio};
 
 use crate::calendar::{self, SATURDAY};
 use crate::calls::{
-    Counts, Nearest, Opened, Plan, Planner, Plans, Point, Query, Refusal, Role, Scheduled,
+    Contents, Counts, Nearest, Opened, Plan, Planner, Plans, Point, Query, Refusal, Role, Scheduled,
 };
+use crate::numbers::{self, Numbers, MOST_IMAGE};
 use crate::reference::{self, Community, Findings};
-use crate::sites::{self, Rng, Tables, MOST_COORDINATE, MOST_HANDSETS};
+use crate::sites::{self, Rng, Site, Tables, MOST_COORDINATE, MOST_HANDSETS};
 use crate::times;
 
 /// Agreement, or what differs.
@@ -69,29 +70,28 @@ fn lent_members(length: usize) -> Lent<u16> {
     Lent::new(length, |i| (i as u16).wrapping_mul(0x9e37) ^ 0xa55a)
 }
 
-fn lent_text(length: usize) -> Lent<u8> {
+fn lent_bytes(length: usize) -> Lent<u8> {
     Lent::new(length, |i| (i as u8).wrapping_mul(0x9d) ^ 0xa5)
 }
 
-/// An image to lend, with noise on both sides.
-struct LentImage {
-    all: Vec<u8>,
+/// What is lent to be read, with noise on both sides.
+struct Noisy<T> {
+    all: Vec<T>,
     from: usize,
     to: usize,
 }
 
-impl LentImage {
-    fn new(image: &[u8], rng: &mut Rng) -> LentImage {
+impl<T: Copy> Noisy<T> {
+    fn new(part: &[T], noise: fn(u64) -> T, rng: &mut Rng) -> Noisy<T> {
         let from = rng.below(16);
-        let to = from + image.len();
-        let mut all = vec![0; to + GUARD];
-        rng.fill(&mut all[..from]);
-        rng.fill(&mut all[to..]);
-        all[from..to].copy_from_slice(image);
-        LentImage { all, from, to }
+        let to = from + part.len();
+        let mut all: Vec<T> = (0..from).map(|_| noise(rng.word())).collect();
+        all.extend_from_slice(part);
+        all.extend((0..GUARD).map(|_| noise(rng.word())));
+        Noisy { all, from, to }
     }
 
-    fn part(&self) -> &[u8] {
+    fn part(&self) -> &[T] {
         &self.all[self.from..self.to]
     }
 }
@@ -110,7 +110,7 @@ pub fn similar_image(planner: &dyn Planner, image: &[u8], rng: &mut Rng) -> Outc
 }
 
 fn every_call(planner: &dyn Planner, image: &[u8], roles: usize, rng: &mut Rng) -> Outcome {
-    let lent = LentImage::new(image, rng);
+    let lent = Noisy::new(image, |word| word as u8, rng);
     match reference::open(image) {
         Err(refusal) => refused(planner, lent.part(), refusal, rng)?,
         Ok(site) => accepted(planner, lent.part(), &Findings::of(site), roles, rng)?,
@@ -133,9 +133,14 @@ fn refused(planner: &dyn Planner, image: &[u8], refusal: Refusal, rng: &mut Rng)
     for point in [point_inside(rng), point_outside(rng)] {
         same(format_args!("nearest to {point:?}"), planner.nearest(image, point), Err(refusal))?;
     }
-    let mut text = lent_text(rng.pick(&[0, 1, 100, 65_536]));
+    let mut text = lent_bytes(rng.pick(&[0, 1, 100, 65_536]));
     same("report", planner.report(image, text.part()), Err(refusal.number))?;
-    holds("report wrote before a refusal", text.holds(&[]))
+    holds("report wrote before a refusal", text.holds(&[]))?;
+    match refusal.number {
+        // The records are refused as well where the writer gets them.
+        7.. => write_into(planner, &Numbers::held(image), rng.pick(&ROOMS), &Err(refusal), rng),
+        _ => Ok(()),
+    }
 }
 
 /// Every call on an accepted image.
@@ -161,13 +166,14 @@ fn accepted(
     let tables = (found.start_table(), found.member_table());
     holds("a lookup changed a table", (starts, members) == tables)?;
     nearest(planner, image, found, rng)?;
-    reports(planner, image, &reference::text(found), rng)
+    let text = reference::text(found);
+    reports(planner, image, &text, rng)?;
+    written_again(planner, image, found, &text, rng)
 }
 
 /// Plans with tables of just the length needed, longer, one short, shorter and empty.
 fn plans(planner: &dyn Planner, image: &[u8], found: &Findings, rng: &mut Rng) -> Outcome {
-    let (starts, members) = (found.start_table(), found.member_table());
-    let (s, m) = (starts.len(), members.len());
+    let (s, m) = (found.start_table().len(), found.member_table().len());
     let lengths = [
         (s, m),
         (s + 1, m + 1),
@@ -182,19 +188,26 @@ fn plans(planner: &dyn Planner, image: &[u8], found: &Findings, rng: &mut Rng) -
         (513, 0),
         (0, 0),
     ];
-    for (starts_len, members_len) in lengths {
-        let (mut lent_s, mut lent_m) = (lent_starts(starts_len), lent_members(members_len));
-        let got = planner.plan(image, lent_s.part(), lent_m.part());
-        let what = format_args!("plan with tables of {starts_len} and {members_len}");
-        let expected = reference::ask_tables(found, starts_len, members_len);
-        same(what, got, expected)?;
-        let kept = match expected {
-            Ok(_) => lent_s.holds(&starts) && lent_m.holds(&members),
-            Err(_) => lent_s.holds(&[]) && lent_m.holds(&[]),
-        };
-        holds(format_args!("what {what} left in them"), kept)?;
-    }
-    Ok(())
+    lengths.into_iter().try_for_each(|lengths| plan_into(planner, image, found, lengths))
+}
+
+/// One plan, with tables of these lengths.
+fn plan_into(
+    planner: &dyn Planner,
+    image: &[u8],
+    found: &Findings,
+    (starts_len, members_len): (usize, usize),
+) -> Outcome {
+    let (mut starts, mut members) = (lent_starts(starts_len), lent_members(members_len));
+    let got = planner.plan(image, starts.part(), members.part());
+    let what = format_args!("plan with tables of {starts_len} and {members_len}");
+    let expected = reference::ask_tables(found, starts_len, members_len);
+    same(what, got, expected)?;
+    let kept = match expected {
+        Ok(_) => starts.holds(&found.start_table()) && members.holds(&found.member_table()),
+        Err(_) => starts.holds(&[]) && members.holds(&[]),
+    };
+    holds(format_args!("what {what} left in them"), kept)
 }
 
 /// The roles of handsets, every one where they are no more than `most`, and of numbers that are none.
@@ -472,14 +485,122 @@ fn point_outside(rng: &mut Rng) -> Point {
 fn reports(planner: &dyn Planner, image: &[u8], text: &[u8], rng: &mut Rng) -> Outcome {
     let length = text.len();
     let lengths = [length, length + 1, length + rng.below(99), length - 1, rng.below(length), 0];
-    for buffer in lengths {
-        let mut lent = lent_text(buffer);
-        let got = planner.report(image, lent.part());
-        let expected = if buffer < length { Err(16) } else { Ok(length as u64) };
-        same(format_args!("report into {buffer} bytes"), got, expected)?;
-        let written = if buffer < length { &[] } else { text };
-        let what = format_args!("what the report left in {buffer} bytes");
-        holds(what, lent.holds(written))?;
+    lengths.into_iter().try_for_each(|buffer| report_into(planner, image, text, buffer))
+}
+
+/// One report, into a buffer of this length.
+fn report_into(planner: &dyn Planner, image: &[u8], text: &[u8], buffer: usize) -> Outcome {
+    let length = text.len();
+    let mut lent = lent_bytes(buffer);
+    let got = planner.report(image, lent.part());
+    let expected = if buffer < length { Err(16) } else { Ok(length as u64) };
+    same(format_args!("report into {buffer} bytes"), got, expected)?;
+    let written = if buffer < length { &[] } else { text };
+    holds(format_args!("what the report left in {buffer} bytes"), lent.holds(written))
+}
+
+// ---------------------------------------------------------------- the writer
+
+/// Lengths of buffers: two that hold no image, and one that holds every image.
+const ROOMS: [usize; 3] = [0, 31, MOST_IMAGE];
+/// How many times the numbers of a site are changed.
+const CHANGED: usize = 8;
+
+/// The image of a site, into buffers of just its length, longer, one byte short, shorter and empty: each
+/// byte is that of the image as the tests build it. Then the site's numbers with several changes.
+pub fn writing(planner: &dyn Planner, site: &Site, rng: &mut Rng) -> Outcome {
+    let (numbers, image) = (Numbers::of(site), site.plain_image());
+    let length = image.len();
+    let (whole, short) = (Ok(image), Err(Refusal { number: 20, place: 0 }));
+    for room in [length, length + 1, length + rng.below(99), MOST_IMAGE] {
+        write_into(planner, &numbers, room, &whole, rng)?;
+    }
+    for room in [length - 1, rng.below(length), 31, 0] {
+        write_into(planner, &numbers, room, &short, rng)?;
+    }
+    (0..CHANGED).try_for_each(|_| changed(planner, &numbers::several(&numbers, rng), rng))
+}
+
+/// Numbers and tables of every kind, and site S with every choice of one fault for each question.
+pub fn hostile_numbers(planner: &dyn Planner, rng: &mut Rng) -> Outcome {
+    for choice in 0..1 << 8 {
+        for (numbers, room) in numbers::with_faults(choice) {
+            let expected = reference::written(numbers.contents(), room);
+            write_into(planner, &numbers, room, &expected, rng)?;
+        }
+    }
+    let hostile = numbers::hostile(rng);
+    hostile.iter().try_for_each(|numbers| changed(planner, numbers, rng))
+}
+
+/// Any numbers, with a buffer that is long enough for their tables and with another one. The reader, too,
+/// refuses the image of numbers that the writer refuses with 7 to 10, and accepts that of others.
+fn changed(planner: &dyn Planner, numbers: &Numbers, rng: &mut Rng) -> Outcome {
+    let (contents, length) = (numbers.contents(), numbers.length());
+    let other = rng.pick(&[length + 9, length - 1, 31, 0]);
+    for room in [length, other] {
+        write_into(planner, numbers, room, &reference::written(contents, room), rng)?;
+    }
+    match reference::written(contents, length) {
+        Err(refusal) if refusal.number < 7 => Ok(()),
+        asked => {
+            let opened = planner.open(&numbers.image()).map(|_| ());
+            same(format_args!("open the image of {contents:?}"), opened, asked.map(|_| ()))
+        }
+    }
+}
+
+/// One call of the writer: its answer, every byte of the buffer, and the tables, which are as they were.
+fn write_into(
+    planner: &dyn Planner,
+    numbers: &Numbers,
+    room: usize,
+    expected: &Result<Vec<u8>, Refusal>,
+    rng: &mut Rng,
+) -> Outcome {
+    let coordinates = Noisy::new(&numbers.coordinates, |word| word as i32, rng);
+    let ends = Noisy::new(&numbers.ends, |word| word as u16, rng);
+    let parameters = numbers.parameters;
+    let contents = Contents { parameters, coordinates: coordinates.part(), ends: ends.part() };
+    let mut buffer = lent_bytes(room);
+    let got = planner.write(contents, buffer.part());
+    let what = format_args!("write {contents:?} into {room} bytes");
+    let (answer, image) = match expected {
+        Ok(image) => (Ok(image.len() as u64), image.as_slice()),
+        Err(refusal) => (Err(*refusal), [].as_slice()),
+    };
+    same(what, got, answer)?;
+    holds(format_args!("what it left in the buffer: {what}"), buffer.holds(image))?;
+    let kept = coordinates.part() == numbers.coordinates && ends.part() == numbers.ends;
+    holds(format_args!("a table was changed: {what}"), kept)
+}
+
+/// What an accepted image holds, written again: the new image is accepted, and has the plan and the report of
+/// the old one, and the roles of some handsets and the scores of some lists.
+fn written_again(
+    planner: &dyn Planner,
+    image: &[u8],
+    found: &Findings,
+    text: &[u8],
+    rng: &mut Rng,
+) -> Outcome {
+    let numbers = Numbers::held(image);
+    let mut again = vec![0; numbers.length()];
+    let answer = planner.write(numbers.contents(), &mut again);
+    same("write again", answer, Ok(again.len() as u64))?;
+    same("open what was written again", planner.open(&again), planner.open(image))?;
+    let lengths = (found.start_table().len(), found.member_table().len());
+    plan_into(planner, &again, found, lengths)
+        .and_then(|()| report_into(planner, &again, text, text.len()))
+        .map_err(|problem| format!("of what was written again: {problem}"))?;
+    let lists = lists(found, rng);
+    for _ in 0..2 {
+        let handset = rng.below(found.site().positions.len() + 1) as u64;
+        let role = planner.role(&again, handset);
+        same(format_args!("role of {handset}, written again"), role, found.record(handset))?;
+        let list = &lists[rng.below(lists.len())];
+        let scores = planner.scores(&again, list);
+        same(format_args!("scores of {list:?}, written again"), scores, found.scores(list))?;
     }
     Ok(())
 }
@@ -572,7 +693,7 @@ pub fn program(path: &Path, input: &[u8]) -> Outcome {
 #[cfg(test)]
 mod tests {
     use super::*;
-    use crate::calls::{Date, Record, Scores, Time};
+    use crate::calls::{Date, Parameters, Record, Scores, Time};
     use crate::fast::Fast;
     use crate::sites::{site_s, Layout};
 
@@ -596,6 +717,14 @@ mod tests {
         LosesALeapDay,
         CutsYears,
         CapsTheFirstGroup,
+        WritesAHeaderFirst,
+        WritesPastTheImage,
+        WritesTheMeaningOfMu,
+        SwapsTheEndsOfATie,
+        AsksRoomFirst,
+        TakesLongerTables,
+        CutsCounts,
+        ForgetsTheLastTie,
     }
 
     impl Planner for Mistake {
@@ -700,6 +829,29 @@ mod tests {
             }
         }
 
+        fn write(&self, contents: Contents, buffer: &mut [u8]) -> Result<u64, Refusal> {
+            if *self == Mistake::AsksRoomFirst && buffer.len() < 32 {
+                return Err(Refusal { number: 20, place: 0 });
+            }
+            if *self == Mistake::WritesAHeaderFirst {
+                buffer
+                    .iter_mut()
+                    .take(1)
+                    .for_each(|byte| *byte = contents.parameters.handsets as u8);
+            }
+            let length = Fast.write(self.taken(contents), buffer)?;
+            let (image, past) = buffer.split_at_mut(length as usize);
+            let last_tie = &mut image[(length as usize - 4)..];
+            match self {
+                Mistake::WritesPastTheImage => past.iter_mut().take(1).for_each(|byte| *byte = 0),
+                Mistake::SwapsTheEndsOfATie => last_tie.swap(0, 2),
+                Mistake::ForgetsTheLastTie => last_tie.fill(0),
+                Mistake::WritesTheMeaningOfMu if image[28] == 0 => image[28] = 4,
+                _ => {}
+            }
+            Ok(length)
+        }
+
         fn report(&self, image: &[u8], text: &mut [u8]) -> Result<u64, u64> {
             let length = Fast.report(image, text)?;
             if *self == Mistake::CountsNoMultiple {
@@ -709,7 +861,29 @@ mod tests {
         }
     }
 
-    /// Site S, the same with its last tie repeated, and times.
+    impl Mistake {
+        /// What the writer takes its arguments for.
+        fn taken<'a>(&self, contents: Contents<'a>) -> Contents<'a> {
+            let Contents { parameters, coordinates, ends } = contents;
+            let Parameters { handsets, ties, .. } = parameters;
+            let (n, m) = (handsets as usize, ties as usize);
+            let longer = coordinates.len() / 2 >= n && ends.len() / 2 >= m;
+            match self {
+                Mistake::TakesLongerTables if longer => Contents {
+                    coordinates: &coordinates[..2 * n],
+                    ends: &ends[..2 * m],
+                    ..contents
+                },
+                Mistake::CutsCounts => {
+                    let parameters = Parameters { handsets: handsets % 65_536, ..parameters };
+                    Contents { parameters, ..contents }
+                }
+                _ => contents,
+            }
+        }
+    }
+
+    /// Site S, the same with its last tie repeated, times, and numbers.
     fn outcome(planner: Mistake) -> Outcome {
         let mut rng = Rng::new(8);
         let good = site_s(4).image(Layout::any(&mut rng), &mut rng);
@@ -719,7 +893,9 @@ mod tests {
         renumbering(&planner, &good, &mut rng)?;
         image(&planner, &repeated.plain_image(), &mut rng)?;
         hostile_times(&planner, &mut rng)?;
-        every_date(&planner)
+        every_date(&planner)?;
+        writing(&planner, &site_s(0), &mut rng)?;
+        hostile_numbers(&planner, &mut rng)
     }
 
     #[test]
@@ -743,6 +919,14 @@ mod tests {
             LosesALeapDay,
             CutsYears,
             CapsTheFirstGroup,
+            WritesAHeaderFirst,
+            WritesPastTheImage,
+            WritesTheMeaningOfMu,
+            SwapsTheEndsOfATie,
+            AsksRoomFirst,
+            TakesLongerTables,
+            CutsCounts,
+            ForgetsTheLastTie,
         ];
         for mistake in mistakes {
             assert!(outcome(mistake).is_err(), "{mistake:?} was not noticed");

@@ -13,8 +13,8 @@
 //! Every pass is linear in the handsets and ties, times the words of a row.
 
 use crate::calls::{
-    Counts, Date, Nearest, Opened, Planner, Point, Query, Record, Refusal, Role, Scheduled, Scores,
-    Time, Window,
+    Contents, Counts, Date, Nearest, Opened, Parameters, Planner, Point, Query, Record, Refusal,
+    Role, Scheduled, Scores, Time, Window,
 };
 
 const HEADER: usize = 32;
@@ -38,6 +38,11 @@ struct Image<'a> {
     mu: u16,
 }
 
+/// Beyond the limits of question 5.
+fn thresholds_are_bad(gamma_squared: u64, p: u64, q: u64, mu: u64) -> bool {
+    gamma_squared > 8_000_000_000_000 || p == 0 || p > q || q > 1000 || mu > 512
+}
+
 /// Beyond the limits of a coordinate.
 fn outside(coordinate: i32) -> bool {
     coordinate.wrapping_add(MOST_COORDINATE) as u32 > 2 * MOST_COORDINATE as u32
@@ -48,6 +53,10 @@ type Tie = u32;
 
 fn ends(tie: Tie) -> (usize, usize) {
     ((tie & 0xffff) as usize, (tie >> 16) as usize)
+}
+
+fn joined([u, v]: [u16; 2]) -> Tie {
+    u32::from(u) | u32::from(v) << 16
 }
 
 impl<'a> Image<'a> {
@@ -69,7 +78,7 @@ impl<'a> Image<'a> {
         }
         let gamma_squared = long(16) | long(20) << 32;
         let (p, q, mu) = (short(24), short(26), short(28));
-        if gamma_squared > 8_000_000_000_000 || p == 0 || p > q || q > 1000 || mu > 512 {
+        if thresholds_are_bad(gamma_squared, p.into(), q.into(), mu.into()) {
             return refuse(5, 0);
         }
         let (handsets_at, ties_at) = (long(4) as usize, long(8) as usize);
@@ -100,80 +109,96 @@ impl<'a> Image<'a> {
         self.ties.len()
     }
 
-    fn positions(&self) -> impl Iterator<Item = [i32; 2]> + 'a {
+    fn positions(&self) -> impl Iterator<Item = [i32; 2]> + Clone + 'a {
         self.handsets.iter().map(|record| {
             let both = u64::from_le_bytes(*record);
             [both as i32, (both >> 32) as i32]
         })
     }
 
-    fn ties(&self) -> impl Iterator<Item = Tie> + 'a {
+    fn ties(&self) -> impl Iterator<Item = Tie> + Clone + 'a {
         self.ties.iter().map(|record| Tie::from_le_bytes(*record))
     }
 
-    /// Calls `each` with every tie, four to a turn of the loop: a short loop's speed depends much on
-    /// where its jump happens to stand.
     fn for_each_tie(&self, mut each: impl FnMut(Tie)) {
-        let (fours, rest) = self.ties.as_chunks::<4>();
-        for four in fours {
-            four.iter().for_each(|record| each(Tie::from_le_bytes(*record)));
-        }
-        rest.iter().for_each(|record| each(Tie::from_le_bytes(*record)));
+        by_fours(self.ties, |record| each(Tie::from_le_bytes(record)));
     }
 
-    /// Question 7. The whole table is tested without a branch; only a fault is searched for.
     fn check_positions(&self) -> Result<(), Refusal> {
-        let bad = |[x, y]: [i32; 2]| outside(x) | outside(y);
-        if self.positions().fold(false, |fault, position| fault | bad(position)) {
-            return refuse(7, self.positions().position(bad).unwrap_or(0));
-        }
-        Ok(())
+        check_positions(self.positions())
     }
 
-    /// Whether questions 8 and 9 get a yes, without a branch.
     fn ends_are_good(&self) -> bool {
-        let n = self.handset_count() as u32;
-        let bad = |tie: Tie| {
-            let (u, v) = (tie & 0xffff, tie >> 16);
-            (u >= n) | (v >= n) | (u == v)
-        };
-        !self.ties().fold(false, |fault, tie| fault | bad(tie))
+        ends_are_good(self.handset_count(), self.ties())
     }
 
     /// Questions 8, 9 and 10.
     fn check_ties<const W: usize, const R: usize>(&self) -> Result<(), Refusal> {
         let mut seen = [[0; W]; R];
         let mut repeated = false;
-        self.for_each_tie(|tie| {
-            let (u, v) = ends(tie);
-            repeated |= set_bit::<W, R>(&mut seen, u.min(v), u.max(v));
-        });
+        self.for_each_tie(|tie| repeated |= tie_again::<W, R>(&mut seen, tie));
         if repeated | !self.ends_are_good() {
             return Err(self.tie_fault());
         }
         Ok(())
     }
 
-    /// The refusal of a tie table with a fault: questions 8, 9 and 10, one after the other.
-    #[cold]
     fn tie_fault(&self) -> Refusal {
-        let n = self.handset_count();
-        let bad_end = |tie| ends(tie).0 >= n || ends(tie).1 >= n;
-        let to_itself = |tie| ends(tie).0 == ends(tie).1;
-        let mut seen = [[0; 8]; MOST_HANDSETS];
-        let mut repeats = |tie| {
-            let (u, v) = ends(tie);
-            set_bit(&mut seen, u.min(v), u.max(v))
-        };
-        let (number, place) = if let Some(place) = self.ties().position(bad_end) {
-            (8, place)
-        } else if let Some(place) = self.ties().position(to_itself) {
-            (9, place)
-        } else {
-            (10, self.ties().position(&mut repeats).unwrap_or(0))
-        };
-        Refusal { number, place: place as u64 }
+        tie_fault(self.handset_count(), self.ties())
     }
+}
+
+// ---------------------------------------------------------------- records
+
+/// Calls `each` with every record, four to a turn of the loop: a short loop's speed depends much on
+/// where its jump happens to stand.
+fn by_fours<T: Copy>(records: &[T], mut each: impl FnMut(T)) {
+    let (fours, rest) = records.as_chunks::<4>();
+    for four in fours {
+        four.iter().for_each(|&record| each(record));
+    }
+    rest.iter().for_each(|&record| each(record));
+}
+
+/// Question 7. The whole table is tested without a branch; only a fault is searched for.
+fn check_positions(positions: impl Iterator<Item = [i32; 2]> + Clone) -> Result<(), Refusal> {
+    let bad = |[x, y]: [i32; 2]| outside(x) | outside(y);
+    if positions.clone().fold(false, |fault, position| fault | bad(position)) {
+        return refuse(7, positions.clone().position(bad).unwrap_or(0));
+    }
+    Ok(())
+}
+
+/// Whether questions 8 and 9 get a yes, without a branch.
+fn ends_are_good(handsets: usize, ties: impl Iterator<Item = Tie>) -> bool {
+    let n = handsets as u32;
+    let bad = |tie: Tie| {
+        let (u, v) = (tie & 0xffff, tie >> 16);
+        (u >= n) | (v >= n) | (u == v)
+    };
+    !ties.fold(false, |fault, tie| fault | bad(tie))
+}
+
+/// Notes a tie, and says whether it was there before, either way round.
+fn tie_again<const W: usize, const R: usize>(seen: &mut Rows<W, R>, tie: Tie) -> bool {
+    let (u, v) = ends(tie);
+    set_bit::<W, R>(seen, u.min(v), u.max(v))
+}
+
+/// The refusal of a tie table with a fault: questions 8, 9 and 10, one after the other.
+#[cold]
+fn tie_fault(n: usize, ties: impl Iterator<Item = Tie> + Clone) -> Refusal {
+    let bad_end = |tie| ends(tie).0 >= n || ends(tie).1 >= n;
+    let to_itself = |tie| ends(tie).0 == ends(tie).1;
+    let mut seen = [[0; 8]; MOST_HANDSETS];
+    let (number, place) = if let Some(place) = ties.clone().position(bad_end) {
+        (8, place)
+    } else if let Some(place) = ties.clone().position(to_itself) {
+        (9, place)
+    } else {
+        (10, ties.clone().position(|tie| tie_again(&mut seen, tie)).unwrap_or(0))
+    };
+    Refusal { number, place: place as u64 }
 }
 
 // ---------------------------------------------------------------- rows of bits
@@ -559,6 +584,84 @@ fn report<const W: usize, const R: usize>(
     Ok(length.0)
 }
 
+// ---------------------------------------------------------------- the writer
+
+/// What the writer gets, after questions 3, 5 and 6.
+struct Listed<'a> {
+    parameters: Parameters,
+    positions: &'a [[i32; 2]],
+    ties: &'a [[u16; 2]],
+}
+
+impl<'a> Listed<'a> {
+    fn read(contents: Contents<'a>) -> Result<Listed<'a>, Refusal> {
+        let Contents { parameters, coordinates, ends } = contents;
+        let Parameters { handsets, ties, gamma_squared, p, q, mu } = parameters;
+        if handsets > MOST_HANDSETS as u64 || ties > MOST_TIES as u64 {
+            return refuse(3, 0);
+        }
+        if thresholds_are_bad(gamma_squared, p, q, mu) {
+            return refuse(5, 0);
+        }
+        if coordinates.len() as u64 != 2 * handsets || ends.len() as u64 != 2 * ties {
+            return refuse(6, 0);
+        }
+        let (positions, ties) = (coordinates.as_chunks().0, ends.as_chunks().0);
+        Ok(Listed { parameters, positions, ties })
+    }
+
+    fn handset_count(&self) -> usize {
+        self.positions.len()
+    }
+
+    fn ties(&self) -> impl Iterator<Item = Tie> + Clone + 'a {
+        self.ties.iter().copied().map(joined)
+    }
+
+    fn header(&self, ties_at: usize, length: usize) -> [u8; HEADER] {
+        let Parameters { handsets, ties, gamma_squared, p, q, mu } = self.parameters;
+        let words = [
+            handsets | ties << 16 | (HEADER as u64) << 32,
+            ties_at as u64 | (length as u64) << 32,
+            gamma_squared,
+            p | q << 16 | mu << 32,
+        ];
+        let mut header = [0; HEADER];
+        let (eights, _) = header.as_chunks_mut();
+        eights.iter_mut().zip(words).for_each(|(eight, word)| *eight = word.to_le_bytes());
+        header
+    }
+}
+
+/// Questions 7 to 10 and 20 of the tables as they stand, then the bytes, a record at a time.
+fn write<const W: usize, const R: usize>(
+    listed: &Listed,
+    buffer: &mut [u8],
+) -> Result<u64, Refusal> {
+    check_positions(listed.positions.iter().copied())?;
+    let mut seen = [[0; W]; R];
+    let mut repeated = false;
+    by_fours(listed.ties, |ends| repeated |= tie_again::<W, R>(&mut seen, joined(ends)));
+    if repeated | !ends_are_good(listed.handset_count(), listed.ties()) {
+        return Err(tie_fault(listed.handset_count(), listed.ties()));
+    }
+    let ties_at = HEADER + 8 * listed.handset_count();
+    let length = ties_at + 4 * listed.ties.len();
+    let Some(image) = buffer.get_mut(..length) else {
+        return refuse(20, 0);
+    };
+    let (head, records) = image.split_at_mut(HEADER);
+    head.copy_from_slice(&listed.header(ties_at, length));
+    let (handsets, ties) = records.split_at_mut(ties_at - HEADER);
+    for (record, &[x, y]) in handsets.as_chunks_mut().0.iter_mut().zip(listed.positions) {
+        *record = (u64::from(x as u32) | u64::from(y as u32) << 32).to_le_bytes();
+    }
+    for (record, tie) in ties.as_chunks_mut().0.iter_mut().zip(listed.ties()) {
+        *record = tie.to_le_bytes();
+    }
+    Ok(length as u64)
+}
+
 // ---------------------------------------------------------------- dates
 
 /// The shift of each month's weekdays, from January on, in years that begin with March.
@@ -863,6 +966,11 @@ impl Planner for Fast {
         }
     }
 
+    fn write(&self, contents: Contents, buffer: &mut [u8]) -> Result<u64, Refusal> {
+        let listed = Listed::read(contents)?;
+        by_width!(listed, write(&listed, buffer))
+    }
+
     fn report(&self, image: &[u8], text: &mut [u8]) -> Result<u64, u64> {
         let whole = Image::read(image).and_then(|image| by_width!(image, report(&image, text)));
         whole.map(|length| length as u64).map_err(|refusal| refusal.number)
@@ -872,6 +980,7 @@ impl Planner for Fast {
 #[cfg(test)]
 mod tests {
     use super::*;
+    use crate::numbers::{Numbers, MOST_IMAGE};
     use crate::reference::Reference;
     use crate::sites::{self, Layout, Rng};
 
@@ -912,6 +1021,14 @@ mod tests {
         assert_eq!(report(&Fast), report(&Reference));
         for point in [(0, 0), (1_000_000, -1_000_000), (-3, 1_000_001)] {
             assert_eq!(Fast.nearest(image, point), Reference.nearest(image, point));
+        }
+        let numbers = Numbers::held(image);
+        let write = |planner: &dyn Planner, room: usize| {
+            let mut buffer = vec![7; room];
+            (planner.write(numbers.contents(), &mut buffer), buffer)
+        };
+        for room in [numbers.length() - 1, numbers.length(), MOST_IMAGE] {
+            assert_eq!(write(&Fast, room), write(&Reference, room));
         }
     }
 }

@@ -3,7 +3,8 @@
 //! are kept beside the header, in its order.
 
 use crate::calls::{
-    Counts, Nearest, Opened, Planner, Plans, Point, Query, Record, Refusal, Role, Scheduled, Scores,
+    Contents, Counts, Nearest, Opened, Parameters, Planner, Plans, Point, Query, Record, Refusal,
+    Role, Scheduled, Scores,
 };
 
 /// The header's functions.
@@ -55,6 +56,20 @@ mod c {
             restday_starts_len: usize,
             restday_members: *const u16,
             restday_members_len: usize,
+        ) -> i64;
+        pub fn dvg_write(
+            handsets: u64,
+            ties: u64,
+            near_squared: u64,
+            p: u64,
+            q: u64,
+            mu: u64,
+            coordinates: *const i32,
+            coordinates_len: usize,
+            ends: *const u16,
+            ends_len: usize,
+            buffer: *mut u8,
+            buffer_len: usize,
         ) -> i64;
     }
 }
@@ -179,6 +194,10 @@ impl Planner for Proved {
         decode(members_at(query)).map(decode_scheduled)
     }
 
+    fn write(&self, contents: Contents, buffer: &mut [u8]) -> Result<u64, Refusal> {
+        decode(write(contents, buffer))
+    }
+
     fn report(&self, image: &[u8], text: &mut [u8]) -> Result<u64, u64> {
         let answer =
             unsafe { c::dvg_report(image.as_ptr(), image.len(), text.as_mut_ptr(), text.len()) };
@@ -210,11 +229,34 @@ fn members_at(Query { time, window, community, plans: Plans { workday, restday }
     }
 }
 
+/// The answer of dvg_write as it stands.
+fn write(Contents { parameters, coordinates, ends }: Contents, buffer: &mut [u8]) -> i64 {
+    let Parameters { handsets, ties, gamma_squared, p, q, mu } = parameters;
+    // SAFETY: as above.
+    unsafe {
+        c::dvg_write(
+            handsets,
+            ties,
+            gamma_squared,
+            p,
+            q,
+            mu,
+            coordinates.as_ptr(),
+            coordinates.len(),
+            ends.as_ptr(),
+            ends.len(),
+            buffer.as_mut_ptr(),
+            buffer.len(),
+        )
+    }
+}
+
 #[cfg(test)]
 mod tests {
     use super::*;
     use crate::calls::{Date, Plan, Time, Window};
     use crate::compare;
+    use crate::numbers::Numbers;
     use crate::sites::{self, Rng};
 
     #[test]
@@ -225,6 +267,7 @@ mod tests {
             let image = site.plain_image();
             assert_eq!(compare::image(&Proved, &image, &mut Rng::new(1)), Ok(()));
             assert_eq!(compare::renumbering(&Proved, &image, &mut Rng::new(1)), Ok(()));
+            assert_eq!(compare::writing(&Proved, &site, &mut Rng::new(1)), Ok(()));
         }
     }
 
@@ -269,6 +312,23 @@ mod tests {
         );
         assert_eq!((at(thursday, 1440, hours, 9), at(thursday, 0, (1020, 480), 0)), (-19, -19));
         assert_eq!(at(thursday, 0, (0, 1441), 0), -19);
+    }
+
+    /// The length itself, and refusals with their places.
+    #[test]
+    fn writer_as_the_header_encodes_it() {
+        let mut numbers = Numbers::of(&sites::site_s(4));
+        let answer = |numbers: &Numbers, room| write(numbers.contents(), &mut vec![0; room]);
+        assert_eq!(
+            (answer(&numbers, 120), answer(&numbers, 119), answer(&numbers, 0)),
+            (120, -20, -20)
+        );
+        numbers.ends[10..12].copy_from_slice(&[3, 2]);
+        assert_eq!(answer(&numbers, 0), -1290);
+        numbers.coordinates[13] = -1_000_001;
+        assert_eq!(answer(&numbers, 0), -1543);
+        numbers.parameters.handsets = u64::MAX;
+        assert_eq!(answer(&numbers, 120), -3);
     }
 
     #[test]

@@ -9,6 +9,7 @@
 //! | `ffi`       | the proved planner, through its C interface (feature `proved`)              |
 //! | `sites`     | sites to try, their images, and renumberings of images                      |
 //! | `damage`    | damaged images                                                              |
+//! | `numbers`   | numbers and tables for the writer to try                                    |
 //! | `times`     | times, working hours and two plans to try                                   |
 //! | `examples`  | the inputs stored with the report program                                   |
 //! | `compare`   | one image, or many times, through a planner's calls, against the reference  |
@@ -21,6 +22,7 @@ pub mod examples;
 pub mod fast;
 #[cfg(feature = "proved")]
 pub mod ffi;
+pub mod numbers;
 pub mod reference;
 pub mod sites;
 pub mod times;

@@ -7,7 +7,8 @@ use std::collections::{BTreeSet, HashMap, HashSet, VecDeque};
 
 use crate::calendar::{self, SATURDAY};
 use crate::calls::{
-    Counts, Nearest, Opened, Planner, Point, Query, Record, Refusal, Role, Scheduled, Scores,
+    Contents, Counts, Nearest, Opened, Parameters, Planner, Point, Query, Record, Refusal, Role,
+    Scheduled, Scores,
 };
 
 const HEADER: usize = 32;
@@ -45,14 +46,8 @@ pub fn open(image: &[u8]) -> Result<Site, Refusal> {
     ask(4, header.zero == 0)?;
     ask(5, header.limits_hold())?;
     ask(6, header.tables_fit())?;
-    let positions = header.positions(image);
-    ask_each(7, positions.iter().map(|&(x, y)| in_area(x) && in_area(y)))?;
-    let ties = header.tie_records(image);
-    let known = |handset| handset < header.handsets;
-    ask_each(8, ties.iter().map(|&(u, v)| known(u) && known(v)))?;
-    ask_each(9, ties.iter().map(|&(u, v)| u != v))?;
-    let mut seen = HashSet::new();
-    ask_each(10, ties.iter().map(|&(u, v)| seen.insert(pair(u, v))))?;
+    let (positions, ties) = (header.positions(image), header.tie_records(image));
+    ask_records(&positions, &ties)?;
     Ok(Site {
         positions,
         ties,
@@ -73,6 +68,16 @@ fn ask_each(number: u64, mut answers: impl Iterator<Item = bool>) -> Result<(), 
         None => Ok(()),
         Some(place) => Err(Refusal { number, place: place as u64 }),
     }
+}
+
+/// Questions 7 to 10.
+fn ask_records(positions: &[(i64, i64)], ties: &[(usize, usize)]) -> Result<(), Refusal> {
+    ask_each(7, positions.iter().map(|&(x, y)| in_area(x) && in_area(y)))?;
+    let known = |handset| handset < positions.len();
+    ask_each(8, ties.iter().map(|&(u, v)| known(u) && known(v)))?;
+    ask_each(9, ties.iter().map(|&(u, v)| u != v))?;
+    let mut seen = HashSet::new();
+    ask_each(10, ties.iter().map(|&(u, v)| seen.insert(pair(u, v))))
 }
 
 fn in_area(coordinate: i64) -> bool {
@@ -371,6 +376,53 @@ pub fn members_at(query: Query) -> Result<Scheduled, Refusal> {
     Ok(if working { Scheduled::Workday(count) } else { Scheduled::Restday(count) })
 }
 
+/// The image of the numbers that the writer gets, or the first question of 3, 5, 6, 7 to 10 and 20 that
+/// gets a no. `room` is the buffer's length.
+pub fn written(contents: Contents, room: usize) -> Result<Vec<u8>, Refusal> {
+    let Contents { parameters, coordinates, ends } = contents;
+    let Parameters { handsets, ties, gamma_squared, p, q, mu } = parameters;
+    ask(3, handsets <= MOST_HANDSETS as u64 && ties <= MOST_TIES as u64)?;
+    let epsilon_fits = 1 <= p && p <= q && q <= MOST_DENOMINATOR;
+    ask(5, gamma_squared <= MOST_GAMMA_SQUARED && epsilon_fits && mu <= MOST_MU as u64)?;
+    ask(6, coordinates.len() as u64 == 2 * handsets && ends.len() as u64 == 2 * ties)?;
+    ask_records(&in_pairs(coordinates), &in_pairs(ends))?;
+    let image = image_of(contents);
+    ask(20, room >= image.len())?;
+    Ok(image)
+}
+
+/// The header, the handsets directly after it, the ties directly after them.
+fn image_of(Contents { parameters, coordinates, ends }: Contents) -> Vec<u8> {
+    let Parameters { handsets, ties, gamma_squared, p, q, mu } = parameters;
+    let handsets_at = HEADER as u64;
+    let ties_at = handsets_at + 8 * handsets;
+    let length = ties_at + 4 * ties;
+    let mut image = Vec::new();
+    image.extend([handsets, ties].into_iter().flat_map(|count| little_endian(2, count)));
+    image.extend([handsets_at, ties_at, length].into_iter().flat_map(|at| little_endian(4, at)));
+    image.extend(little_endian(8, gamma_squared));
+    image.extend([p, q, mu, 0].into_iter().flat_map(|field| little_endian(2, field)));
+    image.extend(coordinates.iter().flat_map(|&coordinate| twos_complement(coordinate.into())));
+    image.extend(ends.iter().flat_map(|&end| little_endian(2, end.into())));
+    image
+}
+
+/// The numbers of a table two by two.
+fn in_pairs<T: Copy, U: From<T>>(table: &[T]) -> Vec<(U, U)> {
+    table.chunks(2).map(|two| (two[0].into(), two[1].into())).collect()
+}
+
+/// The bytes of a number, the lowest first.
+fn little_endian(width: usize, value: u64) -> impl Iterator<Item = u8> {
+    (0..width).map(move |place| (value >> (8 * place)) as u8)
+}
+
+/// The four bytes of a number with a sign.
+fn twos_complement(value: i64) -> impl Iterator<Item = u8> {
+    let word = if value < 0 { value + (1 << 32) } else { value };
+    little_endian(4, word as u64)
+}
+
 /// The report on an accepted image.
 pub fn text(findings: &Findings) -> Vec<u8> {
     let site = findings.site();
@@ -494,6 +546,12 @@ impl Planner for Reference {
         members_at(query)
     }
 
+    fn write(&self, contents: Contents, buffer: &mut [u8]) -> Result<u64, Refusal> {
+        let image = written(contents, buffer.len())?;
+        buffer[..image.len()].copy_from_slice(&image);
+        Ok(image.len() as u64)
+    }
+
     fn report(&self, image: &[u8], text: &mut [u8]) -> Result<u64, u64> {
         let whole = report(image, text.len()).map_err(|refusal| refusal.number)?;
         text[..whole.len()].copy_from_slice(&whole);
@@ -506,6 +564,7 @@ mod tests {
     use super::*;
     use crate::calls::{Date, Plan, Plans, Time, Window};
     use crate::damage;
+    use crate::numbers;
     use crate::sites::{self, Rng};
 
     fn findings(site: &sites::Site) -> Findings {
@@ -799,6 +858,124 @@ cores 2 borders 5 outliers 0 multiple 1
         assert_eq!(at(thursday, 1440, hours, 9), Err(refusal(19, 0)));
         assert_eq!(at(saturday, 0, (481, 480), 0), Err(refusal(19, 0)));
         assert_eq!(at(saturday, 0, (480, 1441), 0), Err(refusal(19, 0)));
+    }
+
+    /// Site S with mu 4, byte by byte.
+    const S_IMAGE: [u8; 120] = [
+        7, 0, 8, 0, 32, 0, 0, 0, 88, 0, 0, 0, 120, 0, 0, 0, // n, m, both offsets, L
+        0, 0, 0, 0, 0, 0, 0, 0, 1, 0, 2, 0, 4, 0, 0, 0, // G, p, q, mu, reserved
+        0, 0, 0, 0, 0, 0, 0, 0, 0, 0, 0, 0, 0, 0, 0, 0, // handsets 0 and 1
+        0, 0, 0, 0, 0, 0, 0, 0, 0, 0, 0, 0, 0, 0, 0, 0, // handsets 2 and 3
+        0, 0, 0, 0, 0, 0, 0, 0, 0, 0, 0, 0, 0, 0, 0, 0, // handsets 4 and 5
+        0, 0, 0, 0, 0, 0, 0, 0, // handset 6
+        0, 0, 1, 0, 0, 0, 2, 0, 1, 0, 2, 0, 2, 0, 3, 0, // ties 0 to 3
+        3, 0, 4, 0, 4, 0, 5, 0, 4, 0, 6, 0, 5, 0, 6, 0, // ties 4 to 7
+    ];
+
+    const S_NUMBERS: Contents = Contents {
+        parameters: Parameters { handsets: 7, ties: 8, gamma_squared: 0, p: 1, q: 2, mu: 4 },
+        coordinates: &[0; 14],
+        ends: &[0, 1, 0, 2, 1, 2, 2, 3, 3, 4, 4, 5, 4, 6, 5, 6],
+    };
+
+    /// Three handsets, some at the limits; the largest G; a blank mu.
+    const FAR_IMAGE: [u8; 60] = [
+        3, 0, 1, 0, 32, 0, 0, 0, 56, 0, 0, 0, 60, 0, 0, 0, // n, m, both offsets, L
+        0, 0x80, 0x28, 0xa5, 0x46, 0x07, 0, 0, 0x41, 2, 0xe8, 3, 0, 0, 0, 0, // G, p, q, mu
+        0xfd, 0xff, 0xff, 0xff, 2, 1, 0, 0, // handset 0 at (-3, 258)
+        0x40, 0x42, 0x0f, 0, 0xc0, 0xbd, 0xf0, 0xff, // handset 1 at (1,000,000, -1,000,000)
+        0, 0, 0, 0, 0xff, 0xff, 0xff, 0xff, // handset 2 at (0, -1)
+        2, 0, 1, 0, // tie 0
+    ];
+
+    const FAR_NUMBERS: Contents = Contents {
+        parameters: Parameters {
+            handsets: 3,
+            ties: 1,
+            gamma_squared: 8_000_000_000_000,
+            p: 577,
+            q: 1000,
+            mu: 0,
+        },
+        coordinates: &[-3, 258, 1_000_000, -1_000_000, 0, -1],
+        ends: &[2, 1],
+    };
+
+    #[test]
+    fn images_byte_by_byte() {
+        for (numbers, image) in [(S_NUMBERS, &S_IMAGE[..]), (FAR_NUMBERS, &FAR_IMAGE)] {
+            assert_eq!(written(numbers, image.len()), Ok(image.to_vec()));
+            assert_eq!(written(numbers, image.len() - 1), Err(refusal(20, 0)));
+            assert!(open(image).is_ok());
+        }
+        assert_eq!(sites::site_s(4).plain_image(), S_IMAGE);
+        let mut longer = [9; 62];
+        assert_eq!(Reference.write(FAR_NUMBERS, &mut longer), Ok(60));
+        assert_eq!(longer, [&FAR_IMAGE[..], &[9, 9]].concat()[..]);
+    }
+
+    /// The writer's questions at their limits.
+    #[test]
+    fn numbers_that_are_refused() {
+        let with = |change: fn(&mut Parameters)| {
+            let mut parameters = S_NUMBERS.parameters;
+            change(&mut parameters);
+            written(Contents { parameters, ..S_NUMBERS }, 0)
+        };
+        let number = |change| with(change).expect_err("no room").number;
+        assert_eq!((number(|x| x.handsets = 512), number(|x| x.handsets = 513)), (6, 3));
+        assert_eq!((number(|x| x.ties = 4096), number(|x| x.ties = 4097)), (6, 3));
+        assert_eq!((number(|x| x.handsets += 1 << 16), number(|x| x.ties += 1 << 63)), (3, 3));
+        let most = |x: &mut Parameters| x.gamma_squared = 8_000_000_000_000;
+        let more = |x: &mut Parameters| x.gamma_squared = 8_000_000_000_001;
+        assert_eq!((number(most), number(more)), (20, 5));
+        assert_eq!((number(|x| x.p = 2), number(|x| x.p = 3), number(|x| x.p = 0)), (20, 5, 5));
+        assert_eq!((number(|x| x.q = 1000), number(|x| x.q = 1001)), (20, 5));
+        assert_eq!((number(|x| x.mu = 512), number(|x| x.mu = 513)), (20, 5));
+        assert_eq!((number(|x| x.mu = 0), number(|x| x.mu += 1 << 32)), (20, 5));
+        for coordinates in [&[0; 13][..], &[0; 15], &[0; 16], &[]] {
+            let contents = Contents { coordinates, ..S_NUMBERS };
+            assert_eq!(written(contents, 0), Err(refusal(6, 0)));
+        }
+        for ends in [&[0; 15][..], &[0; 17], &[0; 32], &[]] {
+            assert_eq!(written(Contents { ends, ..S_NUMBERS }, 0), Err(refusal(6, 0)));
+        }
+    }
+
+    #[test]
+    fn tables_that_are_refused() {
+        let coordinate = |at: usize, value| {
+            let mut coordinates = [0; 14];
+            coordinates[at] = value;
+            written(Contents { coordinates: &coordinates, ..S_NUMBERS }, 120).map(|_| ())
+        };
+        assert_eq!((coordinate(0, 1_000_000), coordinate(13, -1_000_000)), (Ok(()), Ok(())));
+        assert_eq!(coordinate(0, 1_000_001), Err(refusal(7, 0)));
+        assert_eq!(coordinate(13, -1_000_001), Err(refusal(7, 6)));
+        assert_eq!(coordinate(4, i32::MIN), Err(refusal(7, 2)));
+        let tie = |number: usize, ends: [u16; 2]| {
+            let mut table = S_NUMBERS.ends.to_vec();
+            table[2 * number..2 * number + 2].copy_from_slice(&ends);
+            written(Contents { ends: &table, ..S_NUMBERS }, 120).map(|_| ())
+        };
+        assert_eq!(tie(7, [6, 0]), Ok(()));
+        assert_eq!((tie(7, [6, 7]), tie(0, [65_535, 1])), (Err(refusal(8, 7)), Err(refusal(8, 0))));
+        assert_eq!((tie(3, [6, 6]), tie(3, [7, 7])), (Err(refusal(9, 3)), Err(refusal(8, 3))));
+        assert_eq!((tie(5, [2, 3]), tie(5, [3, 2])), (Err(refusal(10, 5)), Err(refusal(10, 5))));
+        assert_eq!(tie(0, [6, 5]), Err(refusal(10, 7)));
+    }
+
+    /// Every choice of faults of the writer's numbers: the first question decides.
+    #[test]
+    fn the_writers_questions_are_put_in_order() {
+        let refusals = [(3, 0), (5, 0), (6, 0), (7, 6), (8, 7), (9, 1), (10, 2), (20, 0)];
+        for choice in 1..1_u32 << refusals.len() {
+            let (number, place) = refusals[choice.trailing_zeros() as usize];
+            for (numbers, room) in numbers::with_faults(choice) {
+                let got = written(numbers.contents(), room);
+                assert_eq!(got, Err(refusal(number, place)), "{numbers:?}");
+            }
+        }
     }
 
     #[test]

@@ -1,5 +1,6 @@
-//! The benchmark: open, plan, nearest and report of the proved planner (feature `proved`), of the optimised
-//! one and of the reference, on the same images in the same run.
+//! The benchmark: open, plan, nearest, report and write of the proved planner (feature `proved`), of the
+//! optimised one and of the reference, on the same images in the same run. Write makes the image anew from
+//! its numbers.
 //!
 //!     bench [ROUNDS]
 
@@ -10,6 +11,7 @@ use divanegret_tests::calls::Planner;
 use divanegret_tests::fast::Fast;
 #[cfg(feature = "proved")]
 use divanegret_tests::ffi::Proved;
+use divanegret_tests::numbers::{Numbers, MOST_IMAGE};
 use divanegret_tests::reference::Reference;
 use divanegret_tests::sites::{self, Rng, Site};
 
@@ -39,8 +41,8 @@ fn explain(rounds: usize) {
         "Release builds for the default target, without target-cpu flags. Each time is the median of\n\
          {rounds} rounds; in each round every planner takes its turn on every image of the table, and\n\
          each ratio is the median of those within a round, so that a clock that changes from one\n\
-         round to the next changes no ratio. All calls get the same lent tables and the same text\n\
-         buffer, allocated once and not cleared between calls; whatever a call clears or allocates for\n\
+         round to the next changes no ratio. All calls get the same lent tables and the same two\n\
+         buffers, allocated once and not cleared between calls; whatever a call clears or allocates for\n\
          itself is part of its time. Before each sample the call has run once, so that no planner\n\
          finds the image warmer than another. Times are in microseconds a call.\n"
     );
@@ -51,11 +53,12 @@ fn explain(rounds: usize) {
 struct Case {
     name: String,
     image: Vec<u8>,
+    numbers: Numbers,
 }
 
 fn case(name: &str, site: &Site) -> Case {
     let (n, m) = (site.positions.len(), site.ties.len());
-    Case { name: format!("{name} {n}/{m}"), image: site.plain_image() }
+    Case { name: format!("{name} {n}/{m}"), image: site.plain_image(), numbers: Numbers::of(site) }
 }
 
 fn named_sites() -> Vec<Case> {
@@ -89,11 +92,17 @@ struct Tables {
     starts: Vec<u32>,
     members: Vec<u16>,
     text: Vec<u8>,
+    image: Vec<u8>,
 }
 
 impl Tables {
     fn new() -> Tables {
-        Tables { starts: vec![0; 513], members: vec![0; 8704], text: vec![0; 65_536] }
+        Tables {
+            starts: vec![0; 513],
+            members: vec![0; 8704],
+            text: vec![0; 65_536],
+            image: vec![0; MOST_IMAGE],
+        }
     }
 }
 
@@ -103,17 +112,19 @@ enum Call {
     Plan,
     Nearest,
     Report,
+    Write,
 }
 
-const CALLS: [(Call, &str); 4] = [
+const CALLS: [(Call, &str); 5] = [
     (Call::Open, "open"),
     (Call::Plan, "plan"),
     (Call::Nearest, "nearest"),
     (Call::Report, "report"),
+    (Call::Write, "write"),
 ];
 
-fn run(planner: &dyn Planner, call: Call, image: &[u8], tables: &mut Tables) {
-    let image = black_box(image);
+fn run(planner: &dyn Planner, call: Call, case: &Case, tables: &mut Tables) {
+    let image = black_box(case.image.as_slice());
     let accepted = match call {
         Call::Open => black_box(planner.open(image)).is_ok(),
         Call::Plan => {
@@ -121,6 +132,10 @@ fn run(planner: &dyn Planner, call: Call, image: &[u8], tables: &mut Tables) {
         }
         Call::Nearest => black_box(planner.nearest(image, black_box((0, 0)))).is_ok(),
         Call::Report => black_box(planner.report(image, &mut tables.text)).is_ok(),
+        Call::Write => {
+            let contents = black_box(case.numbers.contents());
+            black_box(planner.write(contents, &mut tables.image)).is_ok()
+        }
     };
     assert!(accepted, "{} refused a site of the benchmark", planner.name());
 }
@@ -188,8 +203,8 @@ impl Bench<'_> {
         for _ in 0..*rounds {
             for (i, case) in cases.iter().enumerate() {
                 for (k, planner) in planners.iter().enumerate() {
-                    run(*planner, call, &case.image, tables);
-                    let seconds = time(*planner, call, &case.image, tables, repeats[i][k]);
+                    run(*planner, call, case, tables);
+                    let seconds = time(*planner, call, case, tables, repeats[i][k]);
                     samples[i][k].push(1e6 * seconds);
                 }
             }
@@ -200,8 +215,8 @@ impl Bench<'_> {
 
 /// How often a call is made for one sample.
 fn repeats(planner: &dyn Planner, call: Call, case: &Case, tables: &mut Tables) -> u32 {
-    run(planner, call, &case.image, tables);
-    let once = time(planner, call, &case.image, tables, 1);
+    run(planner, call, case, tables);
+    let once = time(planner, call, case, tables, 1);
     (SAMPLE.as_secs_f64() / once.max(1e-7)).ceil().max(1.0) as u32
 }
 
@@ -211,9 +226,9 @@ fn ratio(times: &[f64], others: &[f64]) -> f64 {
 }
 
 /// Seconds a call, over a number of calls.
-fn time(planner: &dyn Planner, call: Call, image: &[u8], tables: &mut Tables, repeats: u32) -> f64 {
+fn time(planner: &dyn Planner, call: Call, case: &Case, tables: &mut Tables, repeats: u32) -> f64 {
     let started = Instant::now();
-    (0..repeats).for_each(|_| run(planner, call, image, tables));
+    (0..repeats).for_each(|_| run(planner, call, case, tables));
     started.elapsed().as_secs_f64() / f64::from(repeats)
 }
 

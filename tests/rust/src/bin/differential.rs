@@ -4,10 +4,10 @@
 //!
 //!     differential [--seed N] [--count N | --seconds N] [--program PATH] [--save DIRECTORY]
 //!
-//! Every date, hostile times, named sites and site S with every choice of faults come first, whatever the
-//! count. Then case i has the seed N + i, so a failing case is run again alone with its own seed and
-//! `--count 1`. A failing image is written into the directory. With `--program` the report program is
-//! run as well.
+//! Every date, hostile times, hostile numbers for the writer, named sites and site S with every choice of
+//! faults come first, whatever the count. Then case i has the seed N + i, so a failing case is run again
+//! alone with its own seed and `--count 1`. A failing image is written into the directory. With
+//! `--program` the report program is run as well.
 
 use std::any::Any;
 use std::panic::{catch_unwind, AssertUnwindSafe};
@@ -41,7 +41,8 @@ fn main() -> ExitCode {
         }
     };
     let mut run = Run::new(&options);
-    match run.times().and_then(|()| run.fixed()).and_then(|()| run.random()) {
+    let before = run.times().and_then(|()| run.numbers()).and_then(|()| run.fixed());
+    match before.and_then(|()| run.random()) {
         Ok(cases) => {
             let names: Vec<&str> = run.planners.iter().map(|planner| planner.name()).collect();
             let names = names.join(" and ");
@@ -150,6 +151,12 @@ impl<'a> Run<'a> {
         self.each_planner("hostile times", None, hostile)
     }
 
+    /// The writer, with hostile arguments.
+    fn numbers(&self) -> Result<(), Failure> {
+        let hostile = |planner: &dyn Planner| compare::hostile_numbers(planner, &mut Rng::new(0));
+        self.each_planner("hostile numbers", None, hostile)
+    }
+
     /// The named examples, and site S with every choice of one fault for each question.
     fn fixed(&mut self) -> Result<(), Failure> {
         let case = "fixed";
@@ -203,11 +210,14 @@ impl<'a> Run<'a> {
         Ok(())
     }
 
-    /// An accepted site in some layout, and a renumbering of it.
+    /// An accepted site in some layout, a renumbering of it, and its image as the planner writes it.
     fn site(&mut self, case: &str, site: &Site, rng: &mut Rng) -> Result<(), Failure> {
         let image = site.image(Layout::any(rng), rng);
         self.check(case, compare::image, &image, rng)?;
-        self.check(case, compare::renumbering, &image, rng)
+        self.check(case, compare::renumbering, &image, rng)?;
+        let seed = rng.word();
+        let writing = |planner: &dyn Planner| compare::writing(planner, site, &mut Rng::new(seed));
+        self.each_planner(case, Some(&image), writing)
     }
 
     /// One comparison of an image, each planner with the same random numbers.

@@ -8,6 +8,7 @@ use std::hint::black_box;
 
 use divanegret_tests::calls::{Date, Planner};
 use divanegret_tests::ffi::Proved;
+use divanegret_tests::numbers::{Numbers, MOST_IMAGE};
 use divanegret_tests::sites::{self, Rng, Site};
 use divanegret_tests::times;
 
@@ -27,9 +28,9 @@ fn main() {
     let mut lent = Lent::new();
     let mut most = [0; NAMES.len()];
     for (name, site) in sites {
-        let image = site.plain_image();
+        let (image, numbers) = (site.plain_image(), Numbers::of(&site));
         let bytes: [usize; NAMES.len()] =
-            std::array::from_fn(|call| measure(&mut || run(call, &image, &mut lent)));
+            std::array::from_fn(|call| measure(&mut || run(call, &image, &numbers, &mut lent)));
         row(name, &bytes);
         most = std::array::from_fn(|call| bytes[call].max(most[call]));
     }
@@ -58,6 +59,7 @@ struct Lent {
     members: Vec<u16>,
     list: Vec<u16>,
     text: Vec<u8>,
+    image: Vec<u8>,
 }
 
 impl Lent {
@@ -67,18 +69,29 @@ impl Lent {
             members: vec![0; 8704],
             list: (0..512).collect(),
             text: vec![0; 65_536],
+            image: vec![0; MOST_IMAGE],
         }
     }
 }
 
 /// The calls; the first shows what the measurement itself takes.
-const NAMES: [&str; 9] =
-    ["nothing", "open", "plan", "role", "scores", "members", "nearest", "at a time", "report"];
+const NAMES: [&str; 10] = [
+    "nothing",
+    "open",
+    "plan",
+    "role",
+    "scores",
+    "members",
+    "nearest",
+    "at a time",
+    "write",
+    "report",
+];
 
 const THURSDAY: Date = Date { year: 2024, month: 2, day: 29 };
 
 /// One call by its place in `NAMES`.
-fn run(call: usize, image: &[u8], lent: &mut Lent) {
+fn run(call: usize, image: &[u8], numbers: &Numbers, lent: &mut Lent) {
     let accepted = match call {
         0 => false,
         1 => Proved.open(image).is_ok(),
@@ -88,6 +101,7 @@ fn run(call: usize, image: &[u8], lent: &mut Lent) {
         5 => Proved.members(&lent.starts, &lent.members, 0).is_ok(),
         6 => Proved.nearest(image, (0, 0)).is_ok(),
         7 => Proved.members_at(times::in_working_hours(THURSDAY)).is_ok(),
+        8 => Proved.write(numbers.contents(), &mut lent.image).is_ok(),
         _ => Proved.report(image, &mut lent.text).is_ok(),
     };
     black_box(accepted);
