@@ -1,8 +1,8 @@
 /* divanegret: the talk-group planner of a site controller, for firmware written in C.
  *
  * docs/SITE-IMAGE.md has the site image byte by byte, the meaning of near, core, group, role,
- * score, nearest group and the plan for a time, and every refusal; this file says how C calls the
- * planner.
+ * score, nearest group and the plan for a time, how an image is written, and every refusal; this
+ * file says how C calls the planner.
  *
  * Every function here is a thin, proved wrapper around the planner's library; its outcome is
  * fixed for every input, byte by byte. The functions
@@ -154,14 +154,16 @@ int64_t dvg_members_at(uint32_t year, uint32_t month, uint32_t day, uint32_t min
 
 /* The image of a site, written at the front of the buffer: its length in bytes. The image has no gaps:
  * the header, the handset records from byte 32, the tie records directly after them. Lent with just
- * that length it is accepted by every call on an image, which finds the numbers given here, in the
- * same order; what an accepted image holds, written again, has the same plan, roles, scores and report.
+ * that length it passes questions 1 to 10 of every call, and has the numbers given here, in the same
+ * order. What an accepted image holds, written again, has the same plan, roles, scores, nearest groups
+ * and report, and is no longer than it was.
  *
- * The numbers are n, m, G, p, q and mu of the header; a mu of 0 is written as 0, which is blank. The
- * coordinate table has x and y of handset 0, of handset 1, and so on, 2 n numbers; the tie table has the
- * two handsets of tie 0, of tie 1, and so on, 2 m numbers. Both hold plain numbers of C, no bytes of an
- * image, and are only read. Any numbers may come in, also ones that no field of the header holds: none
- * is cut off before it is asked.
+ * handsets, ties and near_squared are n, m and G of the header, p, q and mu its own; a mu of 0 is
+ * written as 0, which is blank. coordinates is the coordinate table, x and y of handset 0, then of
+ * handset 1, and so on: 2 n numbers. ends is the tie table, the two handsets of tie 0, then of tie 1,
+ * and so on: 2 m numbers. Both hold plain numbers of C, no bytes of an image; their lengths are counted
+ * in numbers, and they are only read. Any numbers may come in, also ones that no field of the header
+ * holds: none is cut off before it is asked.
  *
  * Refusals 3, 5, 6, 7, 8, 9, 10, 20, asked in this order, each of the whole tables before the next: 7
  * with the place of a handset, 8 to 10 with that of a tie. A refused call keeps every byte of the

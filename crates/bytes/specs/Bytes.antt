@@ -4,10 +4,10 @@
 --     number w s at      the same, and 0 where fewer than w bytes stand there: what a read gives
 --     leBytes w v        the w bytes of the number v; what they do not hold of it is left out
 --     stored w s at v    s with the w bytes of v from a place on, or as it is where fewer stand there: what a write leaves
---     packed w l         the numbers of a table, w bytes each, one after the other
---     Below b l          every number of l is less than b
+--     tableBytes w l         the numbers of a table, w bytes each, one after the other
+--     Below b l          every number of l is less than b, which is above 0
 --     ReadBack           the theorem, over the width: a number that was written is read back, and one that was read and is written to its place changes
---                        nothing (proved in proofs/Packing)
+--                        nothing (proved in proofs/Writing)
 use Prim.Native.Nat.{ℕ, zero, suc, _+_, _*_, _/_, _%_, _^_, _≤_, _<_}
 use mathlib.Core.Path.{_≡_}
 use mathlib.Core.Bool.{cond}
@@ -31,10 +31,10 @@ unfoldable pub stored : ℕ → List ℕ → ℕ → ℕ → List ℕ
 unfolding leBytes
 stored w s at v = cond (leb (at + w) (length s)) (sets s at (leBytes w v)) s
 
-unfoldable pub packed : ℕ → List ℕ → List ℕ
+unfoldable pub tableBytes : ℕ → List ℕ → List ℕ
 unfolding leBytes
-packed w [] = []
-packed w (v ∷ l) = leBytes w v ++ packed w l
+tableBytes w [] = []
+tableBytes w (v ∷ l) = leBytes w v ++ tableBytes w l
 
 abbrev pub Below : ℕ → List ℕ → Type 0
 Below b l = (i : ℕ) → getD l i 0 < b

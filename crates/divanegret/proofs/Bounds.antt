@@ -19,9 +19,9 @@ use lib.ListN.{length, getD, drop, length-take, length-drop}
 use Rattle.sets.specs.Below.{any, find, count}
 use Rattle.sets.proofs.Tests.{and-left, and-right, or-right, decide, find-law, find-none, not-any}
 use Rattle.sets.proofs.Counting.{bit-le, count-le, sum-le, sum-const}
-use Rattle.fields.specs.Fields.{coordinateCount}
+use Rattle.fields.specs.Fields.{coordinateCount, countsFit, thresholdsFit}
 use Rattle.image.specs.Image.{headerBytes, headerOf, handsetCount, edgeCount, handsetRecords, edgeRecords, handsetRecord, endA, endB}
-use Rattle.image.specs.Questions.{reservedValue, countsFit, thresholdsFit, tablesFit, outOfLimits, badEnd, isLoop, repeatsEarlier, ask, askEach, askEdges, askRecords, askHeader, openOf, Accepted}
+use Rattle.image.specs.Questions.{reservedValue, tablesFit, outOfLimits, badEnd, isLoop, repeatsEarlier, ask, askEach, askEdges, askRecords, askHeader, openOf, Accepted}
 use Rattle.image.specs.Answers.{refusal}
 use Rattle.image.specs.declared.Header.{Header}
 use Rattle.image.specs.declared.Refusal.{Refusal}
@@ -63,9 +63,9 @@ use Rattle.nearest.proofs.Meaning.{nearest-means}
 use Rattle.reporting.specs.Report.{reportText, writtenOf, reportFor, reportOf}
 use Rattle.reporting.specs.declared.Reported.{Reported}
 use Rattle.reporting.specs.declared.Reported.the-variants as R
-use Rattle.packing.specs.Packing.{headerFor, handsetPart, edgePart, lengthsFit}
-use Rattle.packing.specs.Held.{imageMost}
-use Rattle.packing.specs.declared.Parameters.{Parameters}
+use Rattle.layout.specs.Layout.{headerFor, handsetPart, edgePart, lengthsFit}
+use Rattle.layout.specs.Held.{imageMost}
+use Rattle.layout.specs.declared.Parameters.{Parameters}
 use Rattle.writer.specs.Writer.{tablesAnswer, encodedFor, encodedOf}
 use Rattle.writer.specs.declared.Encoded.{Encoded}
 use Rattle.writer.specs.declared.Encoded.the-variants as E

@@ -43,7 +43,7 @@ use Rattle.nearest.specs.declared.Nearest.the-variants as N
 use Rattle.reporting.specs.Report.{reportOf, reportAnswer}
 use Rattle.reporting.specs.declared.Reported.{Reported}
 use Rattle.reporting.specs.declared.Reported.the-variants as R
-use Rattle.packing.specs.Held.{imageMost}
+use Rattle.layout.specs.Held.{imageMost}
 use Rattle.writer.specs.Writer.{encodedOf, encodedAnswer}
 use Rattle.writer.specs.declared.Encoded.{Encoded}
 use Rattle.writer.specs.declared.Encoded.the-variants as E

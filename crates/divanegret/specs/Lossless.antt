@@ -1,7 +1,7 @@
--- The numbers that C gets lose nothing: what the macros of include/divanegret.h take out of a call's number is all of the call's answer. No count, place or
--- score is cut off, for any image, tables, handset, list, group, time or numbers. A call's number is its answer's code (codes/specs/Codes), by the call's contract; its
--- answer as a number, a place and values is that of the library's own definitions (planAnswer, knownAnswer, tallyAnswer, lookAnswer, scheduledAnswer,
--- nearestAnswer, reportAnswer, encodedAnswer).
+-- The numbers that C gets lose nothing: what the macros of include/divanegret.h take out of a call's number is all of the call's answer. No count, place,
+-- score or length is cut off, for any image, tables, handset, list, group, time or numbers. A call's number is its answer's code (codes/specs/Codes), by the
+-- call's contract; its answer as a number, a place and values is that of the library's own definitions (planAnswer, knownAnswer, tallyAnswer, lookAnswer,
+-- scheduledAnswer, nearestAnswer, reportAnswer, encodedAnswer).
 --
 --     int32 k                    the (int32_t) of a macro: the low 32 bits of k, as a signed number
 --     openMacros, planMacros     the macros of dvg_open and dvg_plan, in the order of the answer's values
@@ -44,7 +44,7 @@ use Rattle.schedule.specs.declared.Time.{Time}
 use Rattle.schedule.specs.declared.Window.{Window}
 use Rattle.nearest.specs.Nearest.{nearestOf, nearestAnswer}
 use Rattle.reporting.specs.Report.{reportOf, reportAnswer}
-use Rattle.packing.specs.declared.Parameters.{Parameters}
+use Rattle.layout.specs.declared.Parameters.{Parameters}
 use Rattle.writer.specs.Writer.{encodedOf, encodedAnswer}
 use Rattle.codes.specs.Codes.{openCode, planCode, roleCode, tallyCode, lookedCode, scheduledCode, nearestCode, reportCode, encodedCode}
 

@@ -13,7 +13,7 @@ ghost use Rattle.schedule.specs.Schedule.{choiceOf, scheduledOf};
 ghost use Rattle.nearest.specs.Nearest.{nearestOf};
 ghost use Rattle.writer.specs.Writer.{encodedOf, bufferAfter};
 ghost use Rattle.codes.specs.Codes.{openCode, planCode, roleCode, tallyCode, lookedCode, scheduledCode, nearestCode, reportCode, encodedCode};
-use packing::Parameters;
+use layout::Parameters;
 use schedule::Time;
 use schedule::Window;
 

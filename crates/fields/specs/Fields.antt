@@ -1,4 +1,4 @@
--- What the fields of the image mean (paper 01, "The site image"), how many bytes a record has, and the limits of a coordinate.
+-- What the fields of the image mean (paper 01, "The site image"), how many bytes a record has, and the limits of coordinates, counts and thresholds.
 --
 --     coordinateBytes    how many bytes a coordinate has
 --     coordinateCount    how many coordinates a handset has
@@ -13,6 +13,10 @@
 --     inLimits x         a coordinate, plus 2 ^ 31, is from -1,000,000 to 1,000,000 (image/specs/Signed: exactly when the signed number is)
 --     gap a b            how far apart two numbers are
 --     endsOf r           the two ends of an edge, from its record
+--     limitSquaredMost   the most that G may be
+--     handsetsMost       the most handsets, and edgesMost the most edges, that a site may have
+--     countsFit n m      question 3: the counts of handsets and edges are within their limits
+--     thresholdsFit ..   question 5: so are G, p, q and mu
 use Prim.Native.Nat.{ℕ, zero, suc, _+_, _*_, _-_, _%_}
 use mathlib.Core.Bool.{Bool, _&&_}
 use mathlib.Core.List.{List}
@@ -62,4 +66,19 @@ gap a b = (a - b) + (b - a)
 
 unfoldable pub endsOf : List ℕ → Ends
 unfolding number
-endsOf r = record { a = number 2 r 0; b = number 2 r 2 }
+endsOf r = record { a = number endBytes r 0; b = number endBytes r endBytes }
+
+abbrev pub limitSquaredMost : ℕ
+limitSquaredMost = 8000000000000
+
+abbrev pub handsetsMost : ℕ
+handsetsMost = 512
+
+abbrev pub edgesMost : ℕ
+edgesMost = 4096
+
+abbrev pub countsFit : ℕ → ℕ → Bool
+countsFit n m = leb n handsetsMost && leb m edgesMost
+
+abbrev pub thresholdsFit : ℕ → ℕ → ℕ → ℕ → Bool
+thresholdsFit limit p q mu = leb limit limitSquaredMost && (leb 1 p && (leb p q && (leb q 1000 && leb mu 512)))

@@ -1,10 +1,10 @@
-// The fields of a site image: a coordinate with its limits and gaps, the ends of an edge, and the core size.
+// The fields of a site image: a coordinate with its limits and gaps, the ends of an edge, the core size, and the limits of counts and thresholds.
 //
 // Every read is of a place that may not be there, and then gives 0, as those of the crate `bytes` do.
 ghost use mathlib.Core.Path.{_≡_};
 ghost use Prim.Native.Nat.{_*_};
 ghost use Rattle.bytes.specs.Bytes.{number};
-ghost use Rattle.fields.specs.Fields.{coordinateBytes, coreSize, shifted, inLimits, gap, endsOf};
+ghost use Rattle.fields.specs.Fields.{coordinateBytes, coreSize, shifted, inLimits, gap, endsOf, countsFit, thresholdsFit};
 
 // How many bytes a coordinate has.
 pub const COORDINATE_BYTES: usize = 4;
@@ -23,6 +23,14 @@ pub const END_BYTES: usize = 2;
 pub const ENDS: usize = 2;
 
 pub const EDGE_BYTES: usize = END_BYTES * ENDS;
+
+// The most handsets and edges that a site may have.
+pub const HANDSETS_MOST: usize = 512;
+
+pub const EDGES_MOST: usize = 4096;
+
+// The most that G, the square of the near distance, may be.
+const LIMIT_SQUARED_MOST: u64 = 8000000000000;
 
 // What a blank mu, 0, means.
 const BLANK_MU: u16 = 4;
@@ -62,7 +70,7 @@ pub fn read_ends(edge: &[u8]) -> Ends
 {
     Ends {
         a: bytes::read2(edge, 0) as usize,
-        b: bytes::read2(edge, 2) as usize,
+        b: bytes::read2(edge, END_BYTES) as usize,
     }
 }
 
@@ -71,4 +79,18 @@ pub fn core_size(mu: u16) -> u16
     ensures { λ r. ⌜ r ≡ coreSize mu ⌝ }
 {
     if mu == 0 { BLANK_MU } else { mu }
+}
+
+// Question 3, of any counts.
+pub fn counts_fit(n: u64, m: u64) -> bool
+    ensures { λ r. ⌜ r ≡ countsFit n m ⌝ }
+{
+    (n <= HANDSETS_MOST as u64) & (m <= EDGES_MOST as u64)
+}
+
+// Question 5, of any thresholds.
+pub fn thresholds_fit(limit: u64, p: u64, q: u64, mu: u64) -> bool
+    ensures { λ r. ⌜ r ≡ thresholdsFit limit p q mu ⌝ }
+{
+    (limit <= LIMIT_SQUARED_MOST) & ((1 <= p) & ((p <= q) & ((q <= 1000) & (mu <= 512))))
 }

@@ -7,7 +7,7 @@
 --     pass, go-on, refuse a question by its answer; go-on-each: one that gets a yes for each record goes on
 --     records-header      questions 7 to 10 answer no other header; go-on-header: where 1 to 6 get a yes, the rest is the answer
 --     counts-limits       what counts that fit keep to; Fits, fits: what a header's numbers keep to, for the proofs of the calls
---     header-fits, header-length, handsets-length, edges-length     what an image whose header is accepted keeps to: both tables of records are whole
+--     header-fits, tables-clear, header-length, handsets-length, edges-length     what an image whose header is accepted keeps to: both tables of records are whole
 --     accepted-fits, length-is, ends-below, coordinate-limits     what an accepted image keeps to: its header, its length, its edges' ends, its coordinates
 --     header-short, header-other, header-on     how questions 1 and 2 go, with the header in hand
 --     header-no           where one of questions 1 to 6 gets a no, that is the answer; header-yes: where all get a yes, what that says of the image
@@ -16,15 +16,16 @@ use Prim.Native.Nat.{ℕ, _+_, _*_, _-_, _≤_, _<_}
 use native.Mathlib.Omega.{arith}
 use mathlib.Core.Path.{_≡_, refl, sym, ap, _∙_, subst}
 use borrow.Author.Tests.{lt-leb, ne-eqb}
+use mathlib.Core.Logic.{_⊎_}
 use mathlib.Core.Bool.{Bool, true, false, _&&_, not}
 use mathlib.Core.List.{List}
 use lib.Dec.{T, leb, ltb, eqb, leb→le, le→leb, ltb→lt, eqb→eq}
 use lib.ListN.{length, take, drop, length-take, length-drop}
 use Rattle.sets.specs.Below.{any}
-use Rattle.sets.proofs.Tests.{and-left, and-right, any-none, none-any, eqb-of}
-use Rattle.fields.specs.Fields.{coordinateCount, handsetBytes, edgeBytes, coordinateLimit, inLimits}
-use Rattle.image.specs.Image.{headerOf, handsetCount, edgeCount, handsetRecords, edgeRecords, handsetRecord, coordinateOf, endA, endB}
-use Rattle.image.specs.Questions.{limitSquaredMost, reservedValue, countsFit, thresholdsFit, tablesFit, outOfLimits, badEnd, isLoop, repeatsEarlier, ask, askEach, askEdges, askRecords, askHeader, askImage, openOf, HeaderAccepted, Accepted}
+use Rattle.sets.proofs.Tests.{and-left, and-right, or-cases, any-none, none-any, eqb-of}
+use Rattle.fields.specs.Fields.{coordinateCount, handsetBytes, edgeBytes, coordinateLimit, inLimits, limitSquaredMost, countsFit, thresholdsFit}
+use Rattle.image.specs.Image.{headerBytes, headerOf, handsetCount, edgeCount, handsetRecords, edgeRecords, handsetRecord, coordinateOf, endA, endB}
+use Rattle.image.specs.Questions.{reservedValue, tablesFit, outOfLimits, badEnd, isLoop, repeatsEarlier, ask, askEach, askEdges, askRecords, askHeader, askImage, openOf, HeaderAccepted, Accepted}
 use Rattle.image.specs.Acceptance.{Acceptance}
 use Rattle.image.specs.declared.Header.{Header}
 use Rattle.image.specs.declared.Refusal.{Refusal}
@@ -207,6 +208,15 @@ header-yes s h e = let a = pass-header s _ e in (a .0, sym (same (a .1)))
 module _ (s : List ℕ) (a : HeaderAccepted s) where
   pub header-fits : Fits (headerOf s)
   header-fits = fits (headerOf s) (a .q3) (a .q5) (a .q6)
+
+  -- the two tables do not overlap
+  pub tables-clear : T (leb (headerOf s .handsets + handsetBytes * headerOf s .n) (headerOf s .edges))
+      ⊎ T (leb (headerOf s .edges + edgeBytes * headerOf s .m) (headerOf s .handsets))
+  tables-clear =
+      let h : Header = headerOf s in
+      or-cases (leb (h .handsets + handsetBytes * h .n) (h .edges)) (leb (h .edges + edgeBytes * h .m) (h .handsets))
+      (and-right (leb (h .edges + edgeBytes * h .m) (h .len)) _
+      (and-right (leb (h .handsets + handsetBytes * h .n) (h .len)) _ (and-right (leb headerBytes (h .edges)) _ (and-right (leb headerBytes (h .handsets)) _ (a .q6)))))
 
   pub header-length : headerOf s .len ≡ length s
   header-length = eqb→eq (headerOf s .len) (length s) (a .q2)

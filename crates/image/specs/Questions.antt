@@ -1,16 +1,13 @@
 -- The ten questions put to an image (paper 01, "Questions put to an image"), and the reader's answer.
 --
---     limitSquaredMost         the most that G may be
 --     reservedValue            what the reserved bytes, 30 and 31, hold
---     countsFit n m            question 3: n and m are within their limits
---     thresholdsFit G p q mu   question 5: so are the thresholds
 --     tablesFit h              question 6: the two tables lie past the header and within the image, and do not overlap
 --     outOfLimits r            question 7 gets a no for a handset's record: some coordinate is out of its limits
 --     badEnd part n k          question 8 gets a no for edge k: an end is no handset
 --     isLoop part k            question 9 gets a no: its two ends are the same
 --     repeatsEarlier part k    question 10 gets a no: it joins what an earlier edge joins
 --     ask, askEach             a question, and a question to each record: a yes goes on, a no is the refusal
---     askImage, askHeader      questions 1 to 6 and 3 to 6, in their order
+--     askImage, askHeader      questions 1 to 6 and 3 to 6, in their order; 3 and 5 are in fields/specs/Fields
 --     askRecords, askEdges     questions 7 to 10 and 8 to 10
 --     openOf s                 the questions in the paper's order, each of the whole image before the next: the header, or the number and
 --                              place of the first no
@@ -23,24 +20,15 @@ use mathlib.Core.List.{List}
 use lib.Dec.{T, leb, ltb, eqb}
 use lib.ListN.{length}
 use Rattle.sets.specs.Below.{any, find}
-use Rattle.fields.specs.Fields.{coordinateCount, handsetBytes, edgeBytes, inLimits}
+use Rattle.fields.specs.Fields.{coordinateCount, handsetBytes, edgeBytes, inLimits, countsFit, thresholdsFit}
 use Rattle.image.specs.Image.{headerBytes, headerOf, handsetCount, edgeCount, handsetRecords, edgeRecords, handsetRecord, coordinateOf, endA, endB, joins}
 use Rattle.image.specs.declared.Header.{Header}
 use Rattle.image.specs.declared.Refusal.{Refusal}
 use Rattle.image.specs.declared.Opened.{Opened}
 use Rattle.image.specs.declared.Opened.the-variants.{Site, Refused}
 
-abbrev pub limitSquaredMost : ℕ
-limitSquaredMost = 8000000000000
-
 abbrev pub reservedValue : ℕ
 reservedValue = 0
-
-abbrev pub countsFit : ℕ → ℕ → Bool
-countsFit n m = leb n 512 && leb m 4096
-
-abbrev pub thresholdsFit : ℕ → ℕ → ℕ → ℕ → Bool
-thresholdsFit limit p q mu = leb limit limitSquaredMost && (leb 1 p && (leb p q && (leb q 1000 && leb mu 512)))
 
 abbrev pub tablesFit : Header → Bool
 tablesFit h =

@@ -14,21 +14,13 @@ ghost use Rattle.sets.specs.Bits.{cell, withBit};
 ghost use Rattle.sets.specs.Rows.{Table, Counted};
 ghost use Rattle.fields.specs.Fields.{handsetBytes, edgeBytes};
 ghost use Rattle.image.specs.Image.{headerOf, distanceBetween, endA, endB};
-ghost use Rattle.image.specs.Questions.{countsFit, thresholdsFit, tablesFit, outOfLimits, ask, askEdges, askRecords, askHeader, askImage, openOf, refusalOf};
+ghost use Rattle.image.specs.Questions.{tablesFit, outOfLimits, ask, askEdges, askRecords, askHeader, askImage, openOf, refusalOf};
 ghost use Rattle.image.specs.Answers.{openAnswer};
 ghost use Rattle.image.specs.Rows.{Room, Cleared, related, Held, Reading};
 ghost use Rattle.image.specs.Scan.{badRecord, Stand, linked, Added};
 
 // How many bytes the header has.
 pub const HEADER_BYTES: usize = 32;
-
-// The most handsets and edges that a site may have.
-pub const HANDSETS_MOST: usize = 512;
-
-pub const EDGES_MOST: usize = 4096;
-
-// The most that G, the square of the near distance, may be.
-const LIMIT_SQUARED_MOST: u64 = 8000000000000;
 
 // What the reserved bytes, 30 and 31, hold.
 pub const RESERVED: u16 = 0;
@@ -77,20 +69,6 @@ fn read_header(s: &[u8]) -> Header
     }
 }
 
-// Question 3, of any counts.
-pub fn counts_fit(n: u64, m: u64) -> bool
-    ensures { λ r. ⌜ r ≡ countsFit n m ⌝ }
-{
-    (n <= HANDSETS_MOST as u64) & (m <= EDGES_MOST as u64)
-}
-
-// Question 5, of any thresholds.
-pub fn thresholds_fit(limit: u64, p: u64, q: u64, mu: u64) -> bool
-    ensures { λ r. ⌜ r ≡ thresholdsFit limit p q mu ⌝ }
-{
-    (limit <= LIMIT_SQUARED_MOST) & ((1 <= p) & ((p <= q) & ((q <= 1000) & (mu <= 512))))
-}
-
 // Question 6. The ends are computed in 64 bits, where no offset wraps.
 fn tables_fit(h: Header) -> bool
     ensures { λ r. ⌜ r ≡ tablesFit h ⌝ }
@@ -106,7 +84,7 @@ fn tables_fit(h: Header) -> bool
 }
 
 // The answer of a no.
-pub fn refused(number: u32, place: usize) -> Opened
+fn refused(number: u32, place: usize) -> Opened
     ensures { λ r. ⌜ r ≡ Opened.Refused (record { number = number; place = place }) ⌝ }
 {
     Opened::Refused(Refusal { number, place })
@@ -124,10 +102,10 @@ fn ask_header(h: Header) -> Opened
     ensures { λ r. ⌜ r ≡ askHeader h (Opened.Site h) ⌝ }
 {
     let q6 = put_question(tables_fit(h), 6, 0, Opened::Site(h));
-    let thresholds = thresholds_fit(h.limit, h.p as u64, h.q as u64, h.mu as u64);
+    let thresholds = fields::thresholds_fit(h.limit, h.p as u64, h.q as u64, h.mu as u64);
     let q5 = put_question(thresholds, 5, 0, q6);
     let q4 = put_question(h.reserved == RESERVED, 4, 0, q5);
-    put_question(counts_fit(h.n as u64, h.m as u64), 3, 0, q4)
+    put_question(fields::counts_fit(h.n as u64, h.m as u64), 3, 0, q4)
 }
 
 // Question 7 of a handset's record: whether a coordinate is out of its limits.

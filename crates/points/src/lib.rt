@@ -10,7 +10,7 @@ ghost use Rattle.image.specs.Signed.{raised};
 ghost use Rattle.points.specs.Points.{pointInLimits, distanceFrom};
 
 // A signed coordinate plus 2 ^ 31.
-fn raise(x: i32) -> u32
+pub fn raise(x: i32) -> u32
     ensures { λ r. ⌜ r ≡ raised x ⌝ }
 {
     (x as i64 + 2147483648) as u32

@@ -2,7 +2,7 @@
 use mathlib.Core.Path.{refl}
 use Rattle.image.specs.Image.{handsetRecords, edgeRecords}
 use Rattle.image.specs.Questions.{openOf}
-use Rattle.packing.specs.Packing.{imageOf}
+use Rattle.layout.specs.Layout.{imageOf}
 use Rattle.writer.specs.Writer.{encodedOf, bufferAfter}
 use Rattle.roundtrips.specs.Examples.{Examples}
 

@@ -1,9 +1,9 @@
 -- Two images whose parameters and records are the same get the same answers to questions 7 to 10: these four let every header through, or are one
 -- refusal, whatever header comes after them.
 --
---     Alike s t         the images s and t have the same parameters and the same records
+--     SameRecords s t         the images s and t have the same parameters and the same records
 --     SameOpening s t   both images are accepted, or both are refused with the same number, 7 to 10, and place
---     same-opening      that is so where they are alike and both headers are accepted
+--     same-opening      that is so where they are same and both headers are accepted
 use Prim.Native.Nat.{ℕ, _≤_}
 use native.Mathlib.Omega.{arith}
 use mathlib.Core.Path.{_≡_, refl, sym, _∙_}
@@ -17,10 +17,10 @@ use Rattle.image.specs.declared.Refusal.{Refusal}
 use Rattle.image.specs.declared.Opened.{Opened}
 use Rattle.image.specs.declared.Opened.the-variants.{Site, Refused}
 use Rattle.image.proofs.Acceptance.{go-on-header}
-use Rattle.packing.specs.declared.Parameters.{Parameters}
+use Rattle.layout.specs.declared.Parameters.{Parameters}
 use Rattle.roundtrips.specs.RoundTrips.{parametersOf}
 
-pub record Alike (s t : List ℕ) : Type 0 where
+pub record SameRecords (s t : List ℕ) : Type 0 where
   pub parameters : parametersOf (headerOf s) ≡ parametersOf (headerOf t)
   pub handsets : handsetRecords s ≡ handsetRecords t
   pub edges : edgeRecords s ≡ edgeRecords t
@@ -59,12 +59,12 @@ open-asked : (s : List ℕ) → HeaderAccepted s → openOf s ≡ asked (paramet
 unfolding openOf askRecords askEdges
 open-asked s ok = go-on-header s _ ok
 
-module _ (s t : List ℕ) (alike : Alike s t) (ok : HeaderAccepted s) (fine : HeaderAccepted t) where
+module _ (s t : List ℕ) (same : SameRecords s t) (ok : HeaderAccepted s) (fine : HeaderAccepted t) where
   pub same-opening : SameOpening s t
   same-opening = go (asked-settled (parametersOf (headerOf s)) (handsetRecords s) (edgeRecords s))
     where
       of-t : openOf t ≡ asked (parametersOf (headerOf s)) (handsetRecords s) (edgeRecords s) (Site (headerOf t))
-      of-t = open-asked t fine ∙ sym (λ i. asked (alike .parameters i) (alike .handsets i) (alike .edges i) (Site (headerOf t)))
+      of-t = open-asked t fine ∙ sym (λ i. asked (same .parameters i) (same .handsets i) (same .edges i) (Site (headerOf t)))
 
       go : Settled (asked (parametersOf (headerOf s)) (handsetRecords s) (edgeRecords s)) → SameOpening s t
       go (inl f) = inl (open-asked s ok ∙ f (Site (headerOf s)), of-t ∙ f (Site (headerOf t)))

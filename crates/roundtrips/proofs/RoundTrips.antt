@@ -1,39 +1,40 @@
 -- The theorem of specs/RoundTrips. The writer's questions 7 to 10 are the reader's, of the records that the tables make. So where 3, 5 and 6 get a yes, the
--- writer's answer is the reader's answer to the image written, but for 20; and that image is alike to every image that holds the tables (proofs/Openings).
+-- writer's answer is the reader's answer to the image written, but for 20; and that image has the records of every image that holds the tables (proofs/Openings).
 --
 --     answer-is, buffer-is         the call's answer, and the buffer after it
 --     granted, front, reads-back   what is written is read back
---     asked-of, alike-of           the tables that an image holds pass 3, 5 and 6, and their image is alike to it
---     image-opening                so the two are both accepted, or refused alike
+--     asked-of, records-of         the tables that an image holds pass 3, 5 and 6, and their image has its records
+--     image-opening                so the two are both accepted, or refused with the same number and place
 --     writer-too, image-too        a refusal of such an image is the writer's, and one of the writer's is the image's, but for 20
+--     no-longer                    and no longer than it
 --     written-again                an accepted image's tables are written, and what is written has the image's outcome
 --     round-trips                  the theorem
-use Prim.Native.Nat.{ℕ, _*_, _≤_}
+use Prim.Native.Nat.{ℕ, _+_, _*_, _≤_}
 use native.Mathlib.Omega.{arith}
 use mathlib.Core.Path.{_≡_, refl, sym, ap, _∙_, subst}
 use mathlib.Core.Logic.{_⊎_, inl, inr, ⊎-elim}
 use mathlib.Core.Bool.{Bool, true, false, cond}
 use mathlib.Core.List.{List}
-use lib.Dec.{T, leb, eqb}
+use lib.Dec.{T, leb, eqb, leb→le}
 use lib.IntN.{ℤ}
 use lib.ListN.{length, take, drop}
 use lib.Seq.{take-at, drop-at}
 use borrow.Author.Tests.{le-leb}
 use Rattle.sets.proofs.Tests.{and-make, eqb-of}
 use Rattle.bytes.specs.Bytes.{Below}
-use Rattle.fields.specs.Fields.{coordinateCount, endCount}
+use Rattle.fields.specs.Fields.{coordinateCount, handsetBytes, endCount, edgeBytes, countsFit, thresholdsFit}
 use Rattle.image.specs.Image.{headerOf}
-use Rattle.image.specs.Questions.{countsFit, thresholdsFit, openOf, HeaderAccepted, Accepted}
+use Rattle.image.specs.Questions.{openOf, HeaderAccepted, Accepted}
 use Rattle.image.specs.Answers.{refusal}
 use Rattle.image.specs.declared.Header.{Header}
 use Rattle.image.specs.declared.Refusal.{Refusal}
 use Rattle.image.specs.declared.Opened.{Opened}
 use Rattle.image.specs.declared.Opened.the-variants as O
-use Rattle.image.proofs.Acceptance.{accepted, opened}
+use Rattle.image.proofs.Acceptance.{accepted, opened, header-fits, header-length, tables-clear}
 use Rattle.image.proofs.Answers.{open-same}
-use Rattle.packing.specs.Packing.{headerFor, imageOf, Signed32}
-use Rattle.packing.specs.declared.Parameters.{Parameters}
-use Rattle.packing.proofs.Reading.{Asked, asked-length, image-below, header-read, handsets-read, edges-read, header-accepted}
+use Rattle.layout.specs.Layout.{headerFor, imageOf, Signed32}
+use Rattle.layout.specs.declared.Parameters.{Parameters}
+use Rattle.layout.proofs.Reading.{Asked, asked-length, image-below, header-read, handsets-read, edges-read, header-accepted}
 use Rattle.writer.specs.Writer.{tablesAnswer, encodedFor, encodedOf, bufferFor, bufferAfter, WriteCall}
 use Rattle.writer.specs.declared.Encoded.{Encoded}
 use Rattle.writer.specs.declared.Encoded.the-variants as E
@@ -41,7 +42,7 @@ use Rattle.writer.proofs.Answers.{encoded-same}
 use Rattle.writer.proofs.Drafting.{by-reader, Granted, encoded-length}
 use Rattle.roundtrips.specs.RoundTrips.{parametersOf, Holds, ReadsBack, SameOutcome, RoundTrips}
 use Rattle.roundtrips.proofs.Tables.{handsets-are, edges-are, image-holds, tables-of}
-use Rattle.roundtrips.proofs.Openings.{Alike, SameOpening, same-opening}
+use Rattle.roundtrips.proofs.Openings.{SameRecords, SameOpening, same-opening}
 use Rattle.roundtrips.proofs.Same.{same-outcome}
 
 -- ---- the cases of an answer
@@ -99,6 +100,18 @@ module _ (x : Parameters) (coords : List ℤ) (ends l : List ℕ) (k : ℕ) (l�
 
 -- ---- the tables that an image holds
 
+-- the two tables of the image lie past its header, and clear of each other
+no-longer : (s : List ℕ) (x : Parameters) (coords : List ℤ) (ends : List ℕ) → HeaderAccepted s → Holds s x coords ends → headerFor x .len ≤ length s
+no-longer s x coords ends ok held =
+    let h : Header = headerOf s in
+    let f = header-fits s ok in
+    let n : h .n ≡ x .n = ap (λ (y : Parameters). y .n) (held .parameters) in
+    let m : h .m ≡ x .m = ap (λ (y : Parameters). y .m) (held .parameters) in
+    ⊎-elim
+    (λ t. omega (arith, f .handsets-from, f .edges-to, header-length s ok, leb→le (h .handsets + handsetBytes * h .n) (h .edges) t))
+    (λ t. omega (arith, f .edges-from, f .handsets-to, header-length s ok, leb→le (h .edges + edgeBytes * h .m) (h .handsets) t))
+    (tables-clear s ok)
+
 module _ (s : List ℕ) (x : Parameters) (coords : List ℤ) (ends : List ℕ) (ok : HeaderAccepted s) (small : Below 256 s)
     (held : Holds s x coords ends) where
   asked-of : Asked x coords ends
@@ -109,15 +122,15 @@ module _ (s : List ℕ) (x : Parameters) (coords : List ℤ) (ends : List ℕ) (
         (eqb-of (length coords) (coordinateCount * x .n) (held .coordinate-count)) (eqb-of (length ends) (endCount * x .m) (held .end-count));
   }
 
-  alike-of : Alike s (imageOf x coords ends)
-  alike-of = record {
+  records-of : SameRecords s (imageOf x coords ends)
+  records-of = record {
     parameters = held .parameters ∙ sym (ap parametersOf (header-read x coords ends asked-of));
     handsets = handsets-are s x coords ends ok small held ∙ sym (handsets-read x coords ends asked-of);
     edges = edges-are s x coords ends ok small held ∙ sym (edges-read x coords ends asked-of);
   }
 
   image-opening : SameOpening s (imageOf x coords ends)
-  image-opening = same-opening s (imageOf x coords ends) alike-of ok (header-accepted x coords ends asked-of)
+  image-opening = same-opening s (imageOf x coords ends) records-of ok (header-accepted x coords ends asked-of)
 
   module _ (l : List ℕ) (r : Encoded) (l′ : List ℕ) (call : WriteCall x coords ends l r l′) where
     answer-by : (o : Opened) → openOf (imageOf x coords ends) ≡ o → r ≡ encodedFor o (length l)
@@ -144,7 +157,7 @@ module _ (s : List ℕ) (x : Parameters) (coords : List ℤ) (ends : List ℕ) (
         answer-by (O.Site (headerFor x)) (again ∙ ap O.Site (header-read x coords ends asked-of))
         ∙ ap (λ (b : Bool). cond b (E.Length k) (E.Refused (refusal 20))) (le-leb k (length l) room) in
         let wrote : WriteCall x coords ends l (E.Length k) l′ = subst (λ (a : Encoded). WriteCall x coords ends l a l′) answer call in
-        let outcome : SameOutcome s image = same-outcome s image alike-of good (accepted image (headerOf image) again .0) in
+        let outcome : SameOutcome s image = same-outcome s image records-of good (accepted image (headerOf image) again .0) in
         (answer, subst (SameOutcome s) (sym (front x coords ends l k l′ wrote)) outcome)
       where
         go : SameOpening s (imageOf x coords ends) → openOf (imageOf x coords ends) ≡ O.Site (headerOf (imageOf x coords ends))
@@ -163,5 +176,6 @@ round-trips = record {
   an-image = λ x coords ends signed low q3 q5 q6.
       let ok : Asked x coords ends = record { q3 = q3; q5 = q5; q6 = q6 } in
       (header-accepted x coords ends ok, image-below x coords ends, image-holds x coords ends signed low ok);
+  no-longer = no-longer;
   its-tables = tables-of;
 }

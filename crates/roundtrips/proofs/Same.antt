@@ -39,9 +39,9 @@ use Rattle.nearest.proofs.Answers.{nearest-same}
 use Rattle.text.specs.Text.{bytes}
 use Rattle.reporting.specs.Report.{headLine, listLine, totalsLine, groupLine, groupLines, outliers, reportWith, reportText, writtenOf, writtenIn, reportFor, reportOf, afterFor, textAfter}
 use Rattle.reporting.proofs.Answers.{report-same}
-use Rattle.packing.specs.declared.Parameters.{Parameters}
+use Rattle.layout.specs.declared.Parameters.{Parameters}
 use Rattle.roundtrips.specs.RoundTrips.{parametersOf, SameOutcome}
-use Rattle.roundtrips.proofs.Openings.{Alike}
+use Rattle.roundtrips.proofs.Openings.{SameRecords}
 
 -- ---- what the calls go by
 
@@ -55,26 +55,26 @@ textBy x g lines =
     })
     ++ (lines ++ (listLine (bytes "cores:") (cores g) ++ (listLine (bytes "outliers:") (outliers g) ++ totalsLine (totals g))))
 
-module _ (s t : List ℕ) (alike : Alike s t) where
+module _ (s t : List ℕ) (same : SameRecords s t) where
   network-is : network s ≡ network t
   unfolding neighbour adjacent within distanceSquared mu
   network-is = λ i. record {
-    n = alike .parameters i .n;
+    n = same .parameters i .n;
     neighbour = λ u v.
-        eqb u v || (any (alike .parameters i .m) (joins (alike .edges i) u v)
-        && leb (distanceBetween (handsetRecord (alike .handsets i) u) (handsetRecord (alike .handsets i) v)) (alike .parameters i .limit));
-    p = alike .parameters i .p;
-    q = alike .parameters i .q;
-    mu = coreSize (alike .parameters i .mu);
+        eqb u v || (any (same .parameters i .m) (joins (same .edges i) u v)
+        && leb (distanceBetween (handsetRecord (same .handsets i) u) (handsetRecord (same .handsets i) v)) (same .parameters i .limit));
+    p = same .parameters i .p;
+    q = same .parameters i .q;
+    mu = coreSize (same .parameters i .mu);
   }
 
   tally-is : (l : List ℕ) → tallyOf s l ≡ tallyOf t l
   unfolding tallyOf joinedPairs joinedBy leaving
   tally-is l = λ i. record {
     pairs = pairs l;
-    joined = countPairs (length l) (λ a b. any (alike .parameters i .m) (λ k. everyEdge k && joins (alike .edges i) (getD l a 0) (getD l b 0) k));
-    leaving = count (alike .parameters i .m)
-        (λ k. everyEdge k && justOne (contains (endA (alike .edges i) k) l) (contains (endB (alike .edges i) k) l));
+    joined = countPairs (length l) (λ a b. any (same .parameters i .m) (λ k. everyEdge k && joins (same .edges i) (getD l a 0) (getD l b 0) k));
+    leaving = count (same .parameters i .m)
+        (λ k. everyEdge k && justOne (contains (endA (same .edges i) k) l) (contains (endB (same .edges i) k) l));
   }
 
   lines-are : (gs : List (List ℕ)) (k : ℕ) → groupLines s gs k ≡ groupLines t gs k
@@ -87,7 +87,7 @@ module _ (s t : List ℕ) (alike : Alike s t) where
   unfolding reportText reportWith
   text-is =
       ap (textBy (parametersOf (headerOf s)) (network s)) (lines-are (communities (network s)) (length (communities (network s))))
-      ∙ (λ i. textBy (alike .parameters i) (network-is i) (groupLines t (communities (network-is i)) (length (communities (network-is i)))))
+      ∙ (λ i. textBy (same .parameters i) (network-is i) (groupLines t (communities (network-is i)) (length (communities (network-is i)))))
 
 -- ---- the calls
 
@@ -95,21 +95,21 @@ module _ (s t : List ℕ) (alike : Alike s t) where
 one-answer : {A : Type 0} (f : A → Answer) → Injective f → (x y : A) → x ≡ y → (a b : A) → f a ≡ f x → f b ≡ f y → a ≡ b
 one-answer f same x y e a b p q = same a b (p ∙ ap f e ∙ sym q)
 
-module _ (s t : List ℕ) (alike : Alike s t) (ok : Accepted s) (fine : Accepted t) where
+module _ (s t : List ℕ) (same : SameRecords s t) (ok : Accepted s) (fine : Accepted t) where
   -- an outcome that goes by the reader's answer
   by-header : {A : Type 0} (f : List ℕ → Opened → A) → f s (Site (headerOf s)) ≡ f t (Site (headerOf t)) → f s (openOf s) ≡ f t (openOf t)
   by-header f e = ap (f s) (opened s ok) ∙ e ∙ sym (ap (f t) (opened t fine))
 
   plan-is : (a b : ℕ) → planOf s a b ≡ planOf t a b
   unfolding planOf communitiesOf
-  plan-is a b = by-header (λ y o. planFor y o a b) (ap (λ (g : Network). planned (communities g) a b) (network-is s t alike))
+  plan-is a b = by-header (λ y o. planFor y o a b) (ap (λ (g : Network). planned (communities g) a b) (network-is s t same))
 
   table-is : (a b : ℕ) (new : List (List ℕ) → List ℕ) (l : List ℕ)
       → tableFor s (openOf s) a b (new (communitiesOf s)) l ≡ tableFor t (openOf t) a b (new (communitiesOf t)) l
   unfolding communitiesOf
   table-is a b new l =
       by-header (λ y o. tableFor y o a b (new (communitiesOf y)) l)
-      (ap (λ (g : Network). tableAfter (communities g) a b (new (communities g)) l) (network-is s t alike))
+      (ap (λ (g : Network). tableAfter (communities g) a b (new (communities g)) l) (network-is s t same))
 
   starts-are : (l : List ℕ) (b : ℕ) → startsAfter s l b ≡ startsAfter t l b
   unfolding startsAfter
@@ -124,11 +124,11 @@ module _ (s t : List ℕ) (alike : Alike s t) (ok : Accepted s) (fine : Accepted
   known-is v =
       by-header (λ y o. knownFor y o v)
       (ap (λ (g : Network). cond (ltb v (g .n)) (K.Handset (record { neighbours = neighbourhoodSize g v; role = role g v })) (K.Refused (refusal 13)))
-      (network-is s t alike))
+      (network-is s t same))
 
   tallied-is : (l : List ℕ) → talliedOf s l ≡ talliedOf t l
   unfolding talliedOf
-  tallied-is l = by-header (λ y o. talliedFor y o l) (λ i. askEntries (alike .parameters i .n) l (tally-is s t alike l i))
+  tallied-is l = by-header (λ y o. talliedFor y o l) (λ i. askEntries (same .parameters i .n) l (tally-is s t same l i))
 
   scored-is : (l : List ℕ) → scoredOf s l ≡ scoredOf t l
   unfolding scoredOf
@@ -136,21 +136,22 @@ module _ (s t : List ℕ) (alike : Alike s t) (ok : Accepted s) (fine : Accepted
 
   report-is : (room : ℕ) → reportOf s room ≡ reportOf t room
   unfolding reportOf
-  report-is room = by-header (λ y o. reportFor y o room) (ap (λ (x : List ℕ). writtenOf x room) (text-is s t alike))
+  report-is room = by-header (λ y o. reportFor y o room) (ap (λ (x : List ℕ). writtenOf x room) (text-is s t same))
 
   after-is : (l : List ℕ) → textAfter s l ≡ textAfter t l
   unfolding textAfter
-  after-is l = by-header (λ y o. afterFor y o l) (ap (λ (x : List ℕ). writtenIn x l) (text-is s t alike))
+  after-is l = by-header (λ y o. afterFor y o l) (ap (λ (x : List ℕ). writtenIn x l) (text-is s t same))
 
   nearest-is : (p : List ℤ) → nearestOf s p ≡ nearestOf t p
   unfolding nearestOf distanceTo communitiesOf
   nearest-is p =
       let far : List ℕ → ℕ → ℕ = λ part v. distanceFrom (map raised p) (handsetRecord part v) in
       by-header (λ y o. nearestFor y o p)
-      (λ i. cond (pointInLimits p) (nearestIn (far (alike .handsets i)) (communities (network-is s t alike i))) (N.Refused (refusal 17)))
+      (λ i. cond (pointInLimits p) (nearestIn (far (same .handsets i)) (communities (network-is s t same i))) (N.Refused (refusal 17)))
 
   pub same-outcome : SameOutcome s t
   same-outcome = record {
+    parameters = same .parameters;
     plan = λ ss ms a b ss′ ms′ ss″ ms″ c d. (
       one-answer _ plan-same _ _ (plan-is (length ss) (length ms)) a b (c .answer) (d .answer),
       c .starts ∙ starts-are ss (length ms) ∙ sym (d .starts),

@@ -1,7 +1,7 @@
 -- The numbers of a site's two tables in the records of an image. Number j of the one table is coordinate j % coordinateCount of handset j / coordinateCount,
--- and number j of the other an end of edge j / endCount (packing/proofs/Numbers).
+-- and number j of the other an end of edge j / endCount (layout/proofs/Numbers).
 --
---     handsets-are, edges-are                  the records of an image that holds two tables are the packed tables
+--     handsets-are, edges-are                  the records of an image that holds two tables are the tables in bytes
 --     image-holds                              the image of two tables holds them
 --     tabulated k f                            the list of f 0 to f (k - 1)
 --     tables-of                                the tables that an image has
@@ -15,18 +15,18 @@ use lib.Signed.{mag}
 use lib.ListN.{length, getD, drop, length-map}
 use Rattle.sets.proofs.Tests.{three}
 use Rattle.bytes.specs.Bytes.{number, Below}
-use Rattle.bytes.proofs.Packing.{take-below, drop-below, number-below, packed-is}
+use Rattle.bytes.proofs.Writing.{take-below, drop-below, number-below, table-bytes-is}
 use Rattle.fields.specs.Fields.{coordinateBytes, coordinateCount, endBytes, endCount, edgeBytes}
 use Rattle.image.specs.Image.{headerOf, handsetCount, edgeCount, handsetRecords, edgeRecords}
 use Rattle.image.specs.Signed.{signed32, signedCoordinate}
 use Rattle.image.specs.Questions.{HeaderAccepted}
 use Rattle.image.proofs.Acceptance.{handsets-length, edges-length}
 use Rattle.image.proofs.Signed.{handsets-below, coordinate-small}
-use Rattle.packing.specs.Packing.{word32, handsetPart, edgePart, imageOf, Signed32}
-use Rattle.packing.specs.declared.Parameters.{Parameters}
-use Rattle.packing.proofs.Numbers.{signed-word, word-signed, coordinate-place, first-place, second-place, coordinate-packed, end-packed}
-use Rattle.packing.proofs.Storing.{getD-word}
-use Rattle.packing.proofs.Reading.{Asked, coords-length, ends-length, header-read, handsets-read, edges-read}
+use Rattle.layout.specs.Layout.{word32, handsetPart, edgePart, imageOf, Signed32}
+use Rattle.layout.specs.declared.Parameters.{Parameters}
+use Rattle.layout.proofs.Numbers.{signed-word, word-signed, coordinate-place, first-place, second-place, coordinate-written, end-written}
+use Rattle.layout.proofs.Storing.{getD-word}
+use Rattle.layout.proofs.Reading.{Asked, coords-length, ends-length, header-read, handsets-read, edges-read}
 use Rattle.roundtrips.specs.RoundTrips.{parametersOf, Holds}
 
 -- ---- the records of an image
@@ -60,7 +60,7 @@ module _ (s : List ℕ) (x : Parameters) (coords : List ℤ) (ends : List ℕ) (
 
   pub handsets-are : handsetRecords s ≡ handsetPart coords
   handsets-are =
-      sym (packed-is coordinateBytes (map word32 coords) (handsetRecords s) (handsets-below s small)
+      sym (table-bytes-is coordinateBytes (map word32 coords) (handsetRecords s) (handsets-below s small)
       (omega (arith, handsets-length s ok, n-is, held .coordinate-count, length-map coords word32))
       (λ j h. coordinate-is j (omega (arith, length-map coords word32)) ∙ getD-word coords j))
 
@@ -76,7 +76,7 @@ module _ (s : List ℕ) (x : Parameters) (coords : List ℤ) (ends : List ℕ) (
 
   pub edges-are : edgeRecords s ≡ edgePart ends
   edges-are =
-      sym (packed-is endBytes ends (edgeRecords s) (edges-below s small) (omega (arith, edges-length s ok, m-is, held .end-count)) end-is)
+      sym (table-bytes-is endBytes ends (edgeRecords s) (edges-below s small) (omega (arith, edges-length s ok, m-is, held .end-count)) end-is)
 
 -- ---- the image of two tables
 
@@ -88,11 +88,11 @@ module _ (x : Parameters) (coords : List ℤ) (ends : List ℕ) (signed : Signed
       → signed32 (number coordinateBytes (handsetRecords image) (coordinateBytes * j)) ≡ getD coords j (pos 0)
   coordinate-read j h =
       ap signed32
-      (ap (λ (part : List ℕ). number coordinateBytes part (coordinateBytes * j)) (handsets-read x coords ends ok) ∙ coordinate-packed coords signed j h)
+      (ap (λ (part : List ℕ). number coordinateBytes part (coordinateBytes * j)) (handsets-read x coords ends ok) ∙ coordinate-written coords signed j h)
       ∙ signed-word (getD coords j (pos 0)) (signed j)
 
   end-read : (j : ℕ) → j < length ends → number endBytes (edgeRecords image) (endBytes * j) ≡ getD ends j 0
-  end-read j h = ap (λ (part : List ℕ). number endBytes part (endBytes * j)) (edges-read x coords ends ok) ∙ end-packed ends low j h
+  end-read j h = ap (λ (part : List ℕ). number endBytes part (endBytes * j)) (edges-read x coords ends ok) ∙ end-written ends low j h
 
   pub image-holds : Holds image x coords ends
   unfolding signedCoordinate

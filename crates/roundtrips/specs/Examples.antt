@@ -15,8 +15,8 @@ use Rattle.image.specs.Image.{headerOf, handsetRecords, edgeRecords}
 use Rattle.image.specs.Questions.{openOf}
 use Rattle.image.specs.declared.Opened.the-variants.{Site}
 use Rattle.community.specs.Examples.{siteS, pairNeg, nobody}
-use Rattle.packing.specs.Packing.{imageOf}
-use Rattle.packing.specs.declared.Parameters.{Parameters}
+use Rattle.layout.specs.Layout.{imageOf}
+use Rattle.layout.specs.declared.Parameters.{Parameters}
 use Rattle.writer.specs.Writer.{encodedOf, bufferAfter}
 use Rattle.writer.specs.declared.Encoded.the-variants.{Length, Refused}
 

@@ -5,13 +5,14 @@
 --     parametersOf h              the parameters that a header has
 --     Holds s x coords ends       the image s has the numbers of x in its header, and those of the two tables in its records, in their order
 --     ReadsBack x coords ends ..  what the reader finds in the k bytes that were written: the header, the same numbers; and the rest of the buffer is kept
---     SameOutcome s t             whatever is asked of two images, the outcome is the same: the plan in both tables, roles, tallies, scores, the nearest group
---                                 and the report's text
+--     SameOutcome s t             two images have the same parameters, and whatever a call makes of them is the same: the plan in both tables, roles, tallies,
+--                                 scores, the nearest group and the report's text
 --     RoundTrips                  the theorem:
 --       reads-back                the reader, lent just the bytes written, accepts them and finds the same numbers in the same order
 --       written-again             an accepted image's numbers are not refused where the buffer is long enough, and what is then written has the same outcome,
 --                                 whatever the gaps and the order of the tables were
 --       same-refusals             tables are refused with 7 to 10 exactly when an image of these numbers is, with the same number and place
+--       no-longer                 an image written again is no longer than the first, so that a buffer of the first one's length is long enough
 --       an-image, its-tables      tables that pass 3, 5 and 6 are those of an image, and every image has its tables
 use Prim.Native.Nat.{ℕ, _+_, _*_, _≤_, _<_}
 use mathlib.Core.Path.{_≡_}
@@ -21,10 +22,10 @@ use lib.Dec.{T}
 use lib.IntN.{ℤ, pos}
 use lib.ListN.{length, getD, take, drop}
 use Rattle.bytes.specs.Bytes.{Below}
-use Rattle.fields.specs.Fields.{coordinateCount, endCount}
+use Rattle.fields.specs.Fields.{coordinateCount, endCount, countsFit, thresholdsFit}
 use Rattle.image.specs.Image.{headerOf, edgeRecords, endA, endB}
 use Rattle.image.specs.Signed.{signedCoordinate}
-use Rattle.image.specs.Questions.{countsFit, thresholdsFit, openOf, HeaderAccepted, Accepted}
+use Rattle.image.specs.Questions.{openOf, HeaderAccepted, Accepted}
 use Rattle.image.specs.Answers.{openAnswer}
 use Rattle.image.specs.declared.Header.{Header}
 use Rattle.image.specs.declared.Refusal.{Refusal}
@@ -41,8 +42,8 @@ use Rattle.nearest.specs.Nearest.{nearestOf, nearestAnswer}
 use Rattle.nearest.specs.declared.Nearest.{Nearest}
 use Rattle.reporting.specs.Report.{ReportCall}
 use Rattle.reporting.specs.declared.Reported.{Reported}
-use Rattle.packing.specs.Packing.{headerFor, imageOf, lengthsFit, Signed32}
-use Rattle.packing.specs.declared.Parameters.{Parameters}
+use Rattle.layout.specs.Layout.{headerFor, imageOf, lengthsFit, Signed32}
+use Rattle.layout.specs.declared.Parameters.{Parameters}
 use Rattle.writer.specs.Writer.{WriteCall}
 use Rattle.writer.specs.declared.Encoded.{Encoded}
 use Rattle.writer.specs.declared.Encoded.the-variants as E
@@ -65,6 +66,7 @@ pub record ReadsBack (x : Parameters) (coords : List ℤ) (ends l : List ℕ) (k
   pub rest : drop k l′ ≡ drop k l
 
 pub record SameOutcome (s t : List ℕ) : Type 0 where
+  pub parameters : parametersOf (headerOf s) ≡ parametersOf (headerOf t)
   pub plan : (ss ms : List ℕ) (a b : Planned) (ss′ ms′ ss″ ms″ : List ℕ) → PlanCall s ss ms a ss′ ms′ → PlanCall t ss ms b ss″ ms″
       → (a ≡ b) × (ss′ ≡ ss″) × (ms′ ≡ ms″)
   pub role : (v : ℕ) (a b : Known) → knownAnswer a ≡ knownAnswer (knownOf s v) → knownAnswer b ≡ knownAnswer (knownOf t v) → a ≡ b
@@ -83,6 +85,8 @@ pub record RoundTrips : Type 0 where
   pub same-refusals : (s : List ℕ) (x : Parameters) (coords : List ℤ) (ends l : List ℕ) (r : Encoded) (l′ : List ℕ) → HeaderAccepted s → Below 256 s
       → Holds s x coords ends → WriteCall x coords ends l r l′
       → (q : Refusal) → (openOf s ≡ O.Refused q) ↔ ((r ≡ E.Refused q) × (7 ≤ q .number) × (q .number ≤ 10))
+  pub no-longer : (s : List ℕ) (x : Parameters) (coords : List ℤ) (ends : List ℕ) → HeaderAccepted s → Holds s x coords ends
+      → headerFor x .len ≤ length s
   pub an-image : (x : Parameters) (coords : List ℤ) (ends : List ℕ) → Signed32 coords → Below 65536 ends
       → T (countsFit (x .n) (x .m)) → T (thresholdsFit (x .limit) (x .p) (x .q) (x .mu)) → T (lengthsFit x (length coords) (length ends))
       → HeaderAccepted (imageOf x coords ends) × Below 256 (imageOf x coords ends) × Holds (imageOf x coords ends) x coords ends

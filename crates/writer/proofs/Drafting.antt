@@ -2,7 +2,7 @@
 --
 --     no-3, no-5, no-6     the answer where a question gets a no and those before it a yes
 --     by-reader            where all three get a yes, it is the reader's answer to the image
---     Asked                questions 3, 5 and 6 got a yes (packing/proofs/Reading); packs-asked: then the image is written where there is room
+--     Asked                questions 3, 5 and 6 got a yes (layout/proofs/Reading); writes-asked: then the image is written where there is room
 --     put-within           what is written is no longer than the draft; draft-image: and the part of it that is handed to the reader is the image
 --     tables-site          a header as answer: the three questions got a yes, and it is that of the image
 --     Granted, encoded-length     a length as answer: the same, it is that of the image, and the buffer has room
@@ -21,17 +21,18 @@ use borrow.Author.Tests.{le-leb}
 use Rattle.sets.proofs.Tests.{T-true, and-right}
 use Rattle.sets.proofs.Writing.{sets-front}
 use Rattle.image.specs.Answers.{refusal}
-use Rattle.image.specs.Questions.{countsFit, thresholdsFit, ask, askRecords, openOf}
+use Rattle.fields.specs.Fields.{countsFit, thresholdsFit}
+use Rattle.image.specs.Questions.{ask, askRecords, openOf}
 use Rattle.image.specs.Rows.{zeros}
 use Rattle.image.specs.declared.Header.{Header}
 use Rattle.image.specs.declared.Refusal.{Refusal}
 use Rattle.image.specs.declared.Opened.{Opened}
 use Rattle.image.specs.declared.Opened.the-variants as O
 use Rattle.image.proofs.Acceptance.{pass, go-on, refuse, records-header, fits}
-use Rattle.packing.specs.Packing.{headerFor, handsetPart, edgePart, imageOf, lengthsFit}
-use Rattle.packing.specs.Held.{imageMost, packs, Put}
-use Rattle.packing.specs.declared.Parameters.{Parameters}
-use Rattle.packing.proofs.Reading.{Asked, tables-fit, asked-length, open-image}
+use Rattle.layout.specs.Layout.{headerFor, handsetPart, edgePart, imageOf, lengthsFit, writes, Put}
+use Rattle.layout.specs.Held.{imageMost}
+use Rattle.layout.specs.declared.Parameters.{Parameters}
+use Rattle.layout.proofs.Reading.{Asked, tables-fit, asked-length, open-image}
 use Rattle.writer.specs.Writer.{tablesAnswer, encodedFor, encodedOf, bufferFor, bufferAfter, encodedAnswer, WriteCall}
 use Rattle.writer.specs.declared.Encoded.{Encoded}
 use Rattle.writer.specs.declared.Encoded.the-variants as E
@@ -74,32 +75,32 @@ module _ (x : Parameters) (coords : List ℤ) (ends : List ℕ) where
 
   -- ---- the draft
 
-  packs-asked : Asked x coords ends → (room : ℕ) → headerFor x .len ≤ room → packs x (length coords) (length ends) room ≡ true
-  packs-asked ok room h = rw (T-true q3 (ok .q3), T-true q6 (ok .q6), le-leb (headerFor x .len) room h) refl
+  writes-asked : Asked x coords ends → (room : ℕ) → headerFor x .len ≤ room → writes x (length coords) (length ends) room ≡ true
+  writes-asked ok room h = rw (T-true q3 (ok .q3), T-true q6 (ok .q6), le-leb (headerFor x .len) room h) refl
 
   -- where there is room, what is written is the image
   put-there : Asked x coords ends → (s : List ℕ) (r : ℕ) (s′ : List ℕ) → headerFor x .len ≤ length s → Put x coords ends s r s′
       → (s′ ≡ imageOf x coords ends ++ drop (headerFor x .len) s) × (r ≡ headerFor x .len)
   put-there ok s r s′ h p =
-      let e = packs-asked ok (length s) h in
+      let e = writes-asked ok (length s) h in
       let image : List ℕ = imageOf x coords ends in
       let long : length image ≡ headerFor x .len = asked-length x coords ends ok in (
-        p .list ∙ ap (λ (b : Bool). cond b (sets s 0 image) s) e ∙ sets-front s image (omega arith) ∙ ap (λ (k : ℕ). image ++ drop k s) long,
-        p .written ∙ ap (λ (b : Bool). cond b (headerFor x .len) 0) e,
+        p .buffer ∙ ap (λ (b : Bool). cond b (sets s 0 image) s) e ∙ sets-front s image (omega arith) ∙ ap (λ (k : ℕ). image ++ drop k s) long,
+        p .size ∙ ap (λ (b : Bool). cond b (headerFor x .len) 0) e,
       )
 
   -- in any case what is written is no longer than the list
   pub put-within : (s : List ℕ) (r : ℕ) (s′ : List ℕ) → Put x coords ends s r s′ → r ≤ length s′
-  put-within s r s′ p = go (packs x (length coords) (length ends) (length s)) refl
+  put-within s r s′ p = go (writes x (length coords) (length ends) (length s)) refl
     where
-      go : (b : Bool) → packs x (length coords) (length ends) (length s) ≡ b → r ≤ length s′
+      go : (b : Bool) → writes x (length coords) (length ends) (length s) ≡ b → r ≤ length s′
       go true e =
-          let t : T (packs x (length coords) (length ends) (length s)) = subst T (sym e) tt in
+          let t : T (writes x (length coords) (length ends) (length s)) = subst T (sym e) tt in
           let room : headerFor x .len ≤ length s = leb→le (headerFor x .len) (length s) (and-right q6 _ (and-right q3 _ t)) in
-          let list : s′ ≡ sets s 0 (imageOf x coords ends) = p .list ∙ ap (λ (b : Bool). cond b (sets s 0 (imageOf x coords ends)) s) e in
-          let long : r ≡ headerFor x .len = p .written ∙ ap (λ (b : Bool). cond b (headerFor x .len) 0) e in
+          let list : s′ ≡ sets s 0 (imageOf x coords ends) = p .buffer ∙ ap (λ (b : Bool). cond b (sets s 0 (imageOf x coords ends)) s) e in
+          let long : r ≡ headerFor x .len = p .size ∙ ap (λ (b : Bool). cond b (headerFor x .len) 0) e in
           omega (arith, ap length list, length-sets s 0 (imageOf x coords ends))
-      go false e = let none : r ≡ 0 = p .written ∙ ap (λ (b : Bool). cond b (headerFor x .len) 0) e in omega arith
+      go false e = let none : r ≡ 0 = p .size ∙ ap (λ (b : Bool). cond b (headerFor x .len) 0) e in omega arith
 
   pub draft-image : Asked x coords ends → (r : ℕ) (s′ : List ℕ) → Put x coords ends (zeros imageMost) r s′ → take (r - 0) (drop 0 s′) ≡ imageOf x coords ends
   draft-image ok r s′ p =

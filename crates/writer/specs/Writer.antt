@@ -18,11 +18,12 @@ use lib.Dec.{leb}
 use lib.IntN.{ℤ}
 use lib.ListN.{length, drop}
 use Rattle.image.specs.Answers.{Answer, refused, refusal, given, Injective}
-use Rattle.image.specs.Questions.{countsFit, thresholdsFit, ask, askRecords}
+use Rattle.fields.specs.Fields.{countsFit, thresholdsFit}
+use Rattle.image.specs.Questions.{ask, askRecords}
 use Rattle.image.specs.declared.Opened.{Opened}
 use Rattle.image.specs.declared.Opened.the-variants as O
-use Rattle.packing.specs.Packing.{headerFor, handsetPart, edgePart, imageOf, lengthsFit}
-use Rattle.packing.specs.declared.Parameters.{Parameters}
+use Rattle.layout.specs.Layout.{headerFor, handsetPart, edgePart, imageOf, lengthsFit}
+use Rattle.layout.specs.declared.Parameters.{Parameters}
 use Rattle.writer.specs.declared.Encoded.{Encoded}
 use Rattle.writer.specs.declared.Encoded.the-variants as E
 

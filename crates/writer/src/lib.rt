@@ -7,7 +7,7 @@ ghost use lib.ListN.{length};
 ghost use Rattle.writer.specs.Writer.{tablesAnswer, encodedFor, WriteCall};
 use image::Opened;
 use image::Refusal;
-use packing::Parameters;
+use layout::Parameters;
 
 // The length of the image written, or the refusal.
 pub enum Encoded {
@@ -19,17 +19,26 @@ pub enum Encoded {
 fn ask_tables(x: Parameters, coordinates: &[i32], ends: &[u16]) -> Opened
     ensures { λ r. ⌜ r ≡ tablesAnswer x (now (coordinates .entry)) (now (ends .entry)) ⌝ }
 {
-    if !image::counts_fit(x.n, x.m) {
-        return image::refused(3, 0);
+    if !fields::counts_fit(x.n, x.m) {
+        return Opened::Refused(Refusal {
+            number: 3,
+            place: 0,
+        });
     }
-    if !image::thresholds_fit(x.limit, x.p, x.q, x.mu) {
-        return image::refused(5, 0);
+    if !fields::thresholds_fit(x.limit, x.p, x.q, x.mu) {
+        return Opened::Refused(Refusal {
+            number: 5,
+            place: 0,
+        });
     }
-    if !packing::lengths_fit(x, coordinates.len(), ends.len()) {
-        return image::refused(6, 0);
+    if !layout::lengths_fit(x, coordinates.len(), ends.len()) {
+        return Opened::Refused(Refusal {
+            number: 6,
+            place: 0,
+        });
     }
-    let mut draft = [0u8; packing::IMAGE_MOST];
-    let len = packing::put_image(&mut draft, x, coordinates, ends);
+    let mut draft = [0u8; layout::IMAGE_MOST];
+    let len = layout::put_image(&mut draft, x, coordinates, ends);
     image::open(&draft[0..len])
 }
 
@@ -60,6 +69,6 @@ pub fn write(x: Parameters, coordinates: &[i32], ends: &[u16], buffer: &mut [u8]
     let Encoded::Length(_) = answer else {
         return answer;
     };
-    packing::put_image(buffer, x, coordinates, ends);
+    layout::put_image(buffer, x, coordinates, ends);
     answer
 }

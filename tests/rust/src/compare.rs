@@ -576,7 +576,7 @@ fn write_into(
 }
 
 /// What an accepted image holds, written again: the new image is accepted, and has the plan and the report of
-/// the old one, and the roles of some handsets and the scores of some lists.
+/// the old one, the community nearest to some point, the roles of some handsets and the scores of some lists.
 fn written_again(
     planner: &dyn Planner,
     image: &[u8],
@@ -588,12 +588,16 @@ fn written_again(
     let mut again = vec![0; numbers.length()];
     let answer = planner.write(numbers.contents(), &mut again);
     same("write again", answer, Ok(again.len() as u64))?;
+    holds("what was written again", again == numbers.image())?;
     same("open what was written again", planner.open(&again), planner.open(image))?;
     let lengths = (found.start_table().len(), found.member_table().len());
     plan_into(planner, &again, found, lengths)
         .and_then(|()| report_into(planner, &again, text, text.len()))
         .map_err(|problem| format!("of what was written again: {problem}"))?;
     let lists = lists(found, rng);
+    let point = point_inside(rng);
+    let nearest = planner.nearest(&again, point);
+    same(format_args!("nearest to {point:?}, written again"), nearest, planner.nearest(image, point))?;
     for _ in 0..2 {
         let handset = rng.below(found.site().positions.len() + 1) as u64;
         let role = planner.role(&again, handset);
@@ -724,6 +728,7 @@ mod tests {
         AsksRoomFirst,
         TakesLongerTables,
         CutsCounts,
+        CutsLengths,
         ForgetsTheLastTie,
     }
 
@@ -878,6 +883,10 @@ mod tests {
                     let parameters = Parameters { handsets: handsets % 65_536, ..parameters };
                     Contents { parameters, ..contents }
                 }
+                Mistake::CutsLengths => {
+                    let coordinates = &coordinates[..coordinates.len() % 65_536];
+                    Contents { coordinates, ..contents }
+                }
                 _ => contents,
             }
         }
@@ -926,6 +935,7 @@ mod tests {
             AsksRoomFirst,
             TakesLongerTables,
             CutsCounts,
+            CutsLengths,
             ForgetsTheLastTie,
         ];
         for mistake in mistakes {

@@ -9,7 +9,7 @@ use crate::sites::{
 use Change::{Coordinate, Coordinates, End, Ends, Parameter, Tie};
 
 /// The length of the longest image without gaps.
-pub const MOST_IMAGE: usize = 20_512;
+pub const MOST_IMAGE: usize = 32 + 8 * MOST_HANDSETS + 4 * MOST_TIES;
 
 /// What the writer gets, to be changed.
 #[derive(Clone, Debug, PartialEq, Eq)]
@@ -150,7 +150,7 @@ const FAULTS: [[Change; 3]; 7] = [
     ],
     [End(15, 7), End(14, 7), End(14, u16::MAX)],
     [Tie(1, [0, 0]), Tie(1, [6, 6]), Tie(1, [3, 3])],
-    [Tie(2, [1, 0]), Tie(2, [0, 1]), Tie(2, [1, 0])],
+    [Tie(2, [1, 0]), Tie(2, [0, 1]), Tie(2, [0, 1])],
 ];
 
 /// Lengths of buffers that hold the image of site S, and of ones that do not.
@@ -229,9 +229,9 @@ fn parameter_changes(numbers: &Numbers) -> Vec<Change> {
     changes
 }
 
-/// The length that fits, and others.
-fn lengths(fit: usize) -> [usize; 8] {
-    [fit, 0, 1, fit.saturating_sub(1), fit + 1, fit + 2, 2 * fit, fit / 2]
+/// The length that fits, and others; the last would fit in 16 bits.
+fn lengths(fit: usize) -> [usize; 9] {
+    [fit, 0, 1, fit.saturating_sub(1), fit + 1, fit + 2, 2 * fit, fit / 2, fit + 65_536]
 }
 
 /// Changes of the records at the given places, of handsets and of ties: coordinates at and beyond their

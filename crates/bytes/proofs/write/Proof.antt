@@ -9,7 +9,7 @@ use borrow.Author.Tests.{leb-true, not-true, not-false}
 use lib.ListN.{length}
 use lib.Seq.{sets, length-sets}
 use Rattle.bytes.specs.Bytes.{leBytes}
-use Rattle.bytes.proofs.Packing.{write-none, write-more, stored-there, stored-none}
+use Rattle.bytes.proofs.Writing.{write-none, write-more, stored-there, stored-none}
 use Rattle.bytes.proofs.write.Statement.{statement}
 use Rattle.bytes.proofs.write.Tie as tie
 

@@ -7,9 +7,10 @@ use lib.ListN.{length}
 use borrow.Author.Needs.{needs}
 use borrow.Author.Tests.{not-true, not-false}
 use denote.Ref.{now}
-use Rattle.image.specs.Questions.{countsFit, thresholdsFit, openOf}
+use Rattle.fields.specs.Fields.{countsFit, thresholdsFit}
+use Rattle.image.specs.Questions.{openOf}
 use Rattle.image.proofs.Answers.{open-same}
-use Rattle.packing.proofs.Reading.{Asked}
+use Rattle.layout.proofs.Reading.{Asked}
 use Rattle.writer.proofs.Drafting.{no-3, no-5, no-6, by-reader, put-within, draft-image}
 use Rattle.writer.proofs.ask_tables.Statement.{statement}
 use Rattle.writer.proofs.ask_tables.Tie as tie
@@ -34,40 +35,26 @@ asked c = record {
 counts-fit-requires : tie.Need-counts-fit-requires
 counts-fit-requires c κs = search needs
 
-refused-requires : tie.Need-refused-requires
-refused-requires c κs = search needs
-
 returns : tie.Need-returns
-returns c =
-    let t = c .before in
+returns t =
     let a = t .before .before .before .args in
-    c .refused .ensures ∙ sym (no-3 (a .x) (now (a .coordinates)) (now (a .ends)) (sym (t .before .counts-fit .ensures) ∙ not-true _ (t .if1 .taken)))
+    sym (no-3 (a .x) (now (a .coordinates)) (now (a .ends)) (sym (t .before .counts-fit .ensures) ∙ not-true _ (t .if1 .taken)))
 
 thresholds-fit-requires : tie.Need-thresholds-fit-requires
 thresholds-fit-requires c κs = search needs
 
-refused-requires-2 : tie.Need-refused-requires-2
-refused-requires-2 c κs = search needs
-
 returns-2 : tie.Need-returns-2
-returns-2 c =
-    let t = c .before in
+returns-2 t =
     let a = t .before .before .before .before .before .args in
-    c .refused2 .ensures
-    ∙ sym (no-5 (a .x) (now (a .coordinates)) (now (a .ends)) (counted (t .before .before)) (sym (t .before .thresholds-fit .ensures) ∙ not-true _ (t .if2 .taken)))
+    sym (no-5 (a .x) (now (a .coordinates)) (now (a .ends)) (counted (t .before .before)) (sym (t .before .thresholds-fit .ensures) ∙ not-true _ (t .if2 .taken)))
 
 lengths-fit-requires : tie.Need-lengths-fit-requires
 lengths-fit-requires c κs = search needs
 
-refused-requires-3 : tie.Need-refused-requires-3
-refused-requires-3 c κs = search needs
-
 returns-3 : tie.Need-returns-3
-returns-3 c =
-    let t = c .before in
+returns-3 t =
     let a = t .before .before .before .before .before .before .before .args in
-    c .refused3 .ensures
-    ∙ sym (no-6 (a .x) (now (a .coordinates)) (now (a .ends)) (counted (t .before .before .before .before)) (limited (t .before .before))
+    sym (no-6 (a .x) (now (a .coordinates)) (now (a .ends)) (counted (t .before .before .before .before)) (limited (t .before .before))
     (sym (t .before .lengths-fit .ensures) ∙ not-true _ (t .if3 .taken)))
 
 slice-aggregate-put-image : tie.Need-slice-aggregate-put-image
@@ -105,13 +92,10 @@ ask-tables-spec =
     tie.close
     (tie.spec
     counts-fit-requires
-    refused-requires
     returns
     thresholds-fit-requires
-    refused-requires-2
     returns-2
     lengths-fit-requires
-    refused-requires-3
     returns-3
     slice-aggregate-put-image
     put-image-requires

@@ -1,6 +1,6 @@
 // A site image made of numbers: the header, the handsets directly after it, the edges directly after them.
 //
-// The definitions are in specs/Packing. `put_image` writes an image at the front of a buffer, and nothing where the tables are not those of its counts or the
+// The definitions are in specs/Layout. `put_image` writes an image at the front of a buffer, and nothing where the tables are not those of its counts or the
 // buffer is too short; it does not ask whether the reader would accept it. proofs/Reading has what the reader finds in such an image.
 ghost use Prim.Native.Nat.{_+_, _*_, _≤_};
 ghost use mathlib.Core.Path.{_≡_};
@@ -8,13 +8,13 @@ ghost use lib.ListN.{length};
 ghost use lib.Seq.{sets};
 ghost use Rattle.fields.specs.Fields.{coordinateBytes, endBytes};
 ghost use Rattle.image.specs.Image.{headerBytes};
-ghost use Rattle.packing.specs.Packing.{word32, handsetPart, edgePart, lengthsFit};
-ghost use Rattle.packing.specs.Held.{countsPart, thresholdsPart, Put};
+ghost use Rattle.layout.specs.Layout.{word32, handsetPart, edgePart, lengthsFit, Put};
+ghost use Rattle.layout.specs.Held.{countsPart, thresholdsPart};
 
 // The length of the longest image.
 pub const IMAGE_MOST: usize = image::HEADER_BYTES
-    + fields::HANDSET_BYTES * image::HANDSETS_MOST
-    + fields::EDGE_BYTES * image::EDGES_MOST;
+    + fields::HANDSET_BYTES * fields::HANDSETS_MOST
+    + fields::EDGE_BYTES * fields::EDGES_MOST;
 
 // The numbers of a header that whoever writes an image chooses, as wide as they come: `limit` is G, and a blank `mu` is 0.
 pub struct Parameters {
@@ -36,11 +36,11 @@ pub fn lengths_fit(x: Parameters, coordinates: usize, ends: usize) -> bool
         & ((ends % fields::ENDS == 0) & (edges == x.m))
 }
 
-// A coordinate as the number in its bytes, two's complement.
+// A coordinate as the number in its bytes, two's complement: 2 ^ 31 more than the raised one, which comes round at 2 ^ 32.
 fn word(x: i32) -> u64
     ensures { λ r. ⌜ r ≡ word32 x ⌝ }
 {
-    (x as i64 + 4294967296) as u64 % 4294967296
+    (points::raise(x) as u64 + 2147483648) % 4294967296
 }
 
 // Writes the counts of handsets and edges, where their records begin, and the length of the image: the first half of the header.
@@ -98,7 +98,7 @@ fn put_ends(s: &mut [u8], from: u32, ends: &[u16])
 pub fn put_image(s: &mut [u8], x: Parameters, coordinates: &[i32], ends: &[u16]) -> usize
     ensures { λ r. ⌜ Put x (now (coordinates .entry)) (now (ends .entry)) (now (s .entry)) r (now (s .exit)) ⌝ }
 {
-    if !image::counts_fit(x.n, x.m) {
+    if !fields::counts_fit(x.n, x.m) {
         return 0;
     }
     let edges = image::HEADER_BYTES + fields::HANDSET_BYTES * (x.n as usize);

@@ -1,4 +1,4 @@
--- `packing::lengths_fit` meets its contract. A length is d times a count exactly when d divides it and the quotient is the count, which no count makes wrap.
+-- `layout::lengths_fit` meets its contract. A length is d times a count exactly when d divides it and the quotient is the count, which no count makes wrap.
 use Prim.Native.Nat.{ℕ, zero, _+_, _*_, _/_, _%_, _<_}
 use native.Mathlib.Omega.{arith}
 use native.Mathlib.Nat.{div-add-mod, mul-mod-right, mul-div-cancel-left}
@@ -7,8 +7,8 @@ use mathlib.Core.Bool.{_&&_}
 use lib.Dec.{eqb, eqb→eq}
 use Rattle.sets.proofs.Tests.{T-ext, and-make, and-left, and-right, eqb-of}
 use Rattle.fields.specs.Fields.{coordinateCount, endCount}
-use Rattle.packing.proofs.lengths_fit.Statement.{statement}
-use Rattle.packing.proofs.lengths_fit.Tie as tie
+use Rattle.layout.proofs.lengths_fit.Statement.{statement}
+use Rattle.layout.proofs.lengths_fit.Tie as tie
 
 times : (d a n : ℕ) → zero < d → (eqb (a % d) 0 && eqb (a / d) n) ≡ eqb a (d * n)
 times d a n h =

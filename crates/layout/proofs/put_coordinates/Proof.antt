@@ -1,4 +1,4 @@
--- `packing::put_coordinates` meets its contract. After i steps the first i coordinates are written. The measure is the count of those left.
+-- `layout::put_coordinates` meets its contract. After i steps the first i coordinates are written. The measure is the count of those left.
 use borrow.Author.Needs.{needs}
 use Prim.Native.Nat.{_+_, _*_, _-_, _≤_}
 use native.Mathlib.Omega.{arith}
@@ -8,18 +8,18 @@ use mathlib.Core.List.{map}
 use lib.ListN.{length, take, length-map}
 use lib.Seq.{sets, length-sets}
 use mir.Facts.{toZ-ofZ}
-use Rattle.bytes.specs.Bytes.{packed}
-use Rattle.bytes.proofs.Packing.{table-none, table-more, table-all}
+use Rattle.bytes.specs.Bytes.{tableBytes}
+use Rattle.bytes.proofs.Writing.{table-none, table-more, table-all}
 use Rattle.fields.specs.Fields.{coordinateBytes}
 use Rattle.image.specs.Image.{headerBytes}
-use Rattle.packing.specs.Packing.{word32}
-use Rattle.packing.proofs.Storing.{getD-word}
-use Rattle.packing.proofs.put_coordinates.Statement.{statement}
-use Rattle.packing.proofs.put_coordinates.Tie as tie
+use Rattle.layout.specs.Layout.{word32}
+use Rattle.layout.proofs.Storing.{getD-word}
+use Rattle.layout.proofs.put_coordinates.Statement.{statement}
+use Rattle.layout.proofs.put_coordinates.Tie as tie
 
 abbrev Inv-loop : tie.InvT-loop
 Inv-loop s₀ coordinates i₀ s i =
-    (i ≤ length coordinates) × (headerBytes + coordinateBytes * length coordinates ≤ length s₀) × (s ≡ sets s₀ headerBytes (packed coordinateBytes (take i (map word32 coordinates))))
+    (i ≤ length coordinates) × (headerBytes + coordinateBytes * length coordinates ≤ length s₀) × (s ≡ sets s₀ headerBytes (tableBytes coordinateBytes (take i (map word32 coordinates))))
 
 abbrev μ-loop : tie.MeasureT-loop
 μ-loop s₀ coordinates i₀ s i = length coordinates - i

@@ -1,4 +1,4 @@
--- `packing::put_image` meets its contract. With counts within their limits no number wraps; where the tables are those of the counts the four parts follow one
+-- `layout::put_image` meets its contract. With counts within their limits no number wraps; where the tables are those of the counts the four parts follow one
 -- another, and stand in a buffer that holds the image.
 use Prim.Native.Nat.{ℕ, _+_, _*_}
 use native.Mathlib.Omega.{arith}
@@ -10,14 +10,13 @@ use lib.Seq.{sets}
 use denote.Ref.{now}
 use borrow.Author.Needs.{needs}
 use borrow.Author.Tests.{not-true, not-false}
-use Rattle.fields.specs.Fields.{coordinateBytes}
+use Rattle.fields.specs.Fields.{coordinateBytes, countsFit}
 use Rattle.image.specs.Image.{headerBytes}
-use Rattle.image.specs.Questions.{countsFit}
 use Rattle.image.proofs.Acceptance.{counts-limits}
-use Rattle.packing.specs.Packing.{headerFor, edgePart, lengthsFit}
-use Rattle.packing.proofs.Storing.{parts, Fitting, fitting, packs-by, packs-yes, packs-no}
-use Rattle.packing.proofs.put_image.Statement.{statement}
-use Rattle.packing.proofs.put_image.Tie as tie
+use Rattle.layout.specs.Layout.{headerFor, edgePart, lengthsFit}
+use Rattle.layout.proofs.Storing.{parts, Fitting, fitting, writes-by, writes-yes, writes-no}
+use Rattle.layout.proofs.put_image.Statement.{statement}
+use Rattle.layout.proofs.put_image.Tie as tie
 
 -- what is known after the tests
 counted : (c : tie.Else1) → (let x = c .before .before .before .before .args .x in T (countsFit (x .n) (x .m)))
@@ -42,7 +41,7 @@ returns : tie.Need-returns
 returns c =
     let a = c .before .before .before .before .args in
     let f = sym (c .before .counts-fit .ensures) ∙ not-true _ (c .if1 .taken) in
-    packs-no (a .x) (now (a .coordinates)) (now (a .ends)) (now (a .s))
+    writes-no (a .x) (now (a .coordinates)) (now (a .ends)) (now (a .s))
     (ap (λ (b : Bool). b && (lengthsFit (a .x) (length (now (a .coordinates))) (length (now (a .ends))) && leb (headerFor (a .x) .len) (length (now (a .s))))) f)
 
 mul-edges : tie.Need-mul-edges
@@ -63,8 +62,8 @@ lengths-fit-requires c κs = search needs
 returns-2 : tie.Need-returns-2
 returns-2 c =
     let a = c .before .before .before .before .before .before .args in
-    packs-no (a .x) (now (a .coordinates)) (now (a .ends)) (now (a .s))
-    (packs-by (a .x) (now (a .coordinates)) (now (a .ends)) (now (a .s)) false (counted (c .before .before))
+    writes-no (a .x) (now (a .coordinates)) (now (a .ends)) (now (a .s))
+    (writes-by (a .x) (now (a .coordinates)) (now (a .ends)) (now (a .s)) false (counted (c .before .before))
     (ap (λ (b : Bool). b && leb (headerFor (a .x) .len) (length (now (a .s)))) (sym (c .before .lengths-fit .ensures)) ∙ not-true _ (c .if2 .taken)))
 
 put-counts-requires : tie.Need-put-counts-requires
@@ -106,8 +105,8 @@ returns-3 c =
     let a = test .before .before .before .before .before .before .args in
     let f = tested test in
     let at : headerFor (a .x) .edges ≡ headerBytes + coordinateBytes * length (now (a .coordinates)) = omega (arith, f .coordinates) in
-    packs-yes (a .x) (now (a .coordinates)) (now (a .ends)) (now (a .s))
-    (packs-by (a .x) (now (a .coordinates)) (now (a .ends)) (now (a .s)) true (counted (test .before .before)) (whole test))
+    writes-yes (a .x) (now (a .coordinates)) (now (a .ends)) (now (a .s))
+    (writes-by (a .x) (now (a .coordinates)) (now (a .ends)) (now (a .s)) true (counted (test .before .before)) (whole test))
     (parts (a .x) (now (a .coordinates)) (now (a .ends)) (now (a .s)) _ _ _ _ (w1 .put-counts .ensures) (w2 .put-thresholds .ensures) (w3 .put-coordinates .ensures)
     (w4 .put-ends .ensures ∙ ap (λ (k : ℕ). sets (w3 .put-coordinates .last .0) k (edgePart (now (a .ends)))) at))
     refl

@@ -1,4 +1,4 @@
--- `packing::put_ends` meets its contract. After i steps the first i ends are written. The measure is the count of those left.
+-- `layout::put_ends` meets its contract. After i steps the first i ends are written. The measure is the count of those left.
 use borrow.Author.Needs.{needs}
 use Prim.Native.Nat.{_+_, _*_, _-_, _≤_}
 use native.Mathlib.Omega.{arith}
@@ -6,14 +6,14 @@ use native.Mathlib.Numerals.{add-one}
 use mathlib.Core.Path.{_≡_, refl, ap, _∙_}
 use lib.ListN.{length, take}
 use lib.Seq.{sets, length-sets}
-use Rattle.bytes.specs.Bytes.{packed}
-use Rattle.bytes.proofs.Packing.{table-none, table-more, table-all}
+use Rattle.bytes.specs.Bytes.{tableBytes}
+use Rattle.bytes.proofs.Writing.{table-none, table-more, table-all}
 use Rattle.fields.specs.Fields.{endBytes}
-use Rattle.packing.proofs.put_ends.Statement.{statement}
-use Rattle.packing.proofs.put_ends.Tie as tie
+use Rattle.layout.proofs.put_ends.Statement.{statement}
+use Rattle.layout.proofs.put_ends.Tie as tie
 
 abbrev Inv-loop : tie.InvT-loop
-Inv-loop s₀ from ends i₀ s i = (i ≤ length ends) × (from + endBytes * length ends ≤ length s₀) × (s ≡ sets s₀ from (packed endBytes (take i ends)))
+Inv-loop s₀ from ends i₀ s i = (i ≤ length ends) × (from + endBytes * length ends ≤ length s₀) × (s ≡ sets s₀ from (tableBytes endBytes (take i ends)))
 
 abbrev μ-loop : tie.MeasureT-loop
 μ-loop s₀ from ends i₀ s i = length ends - i

@@ -4,28 +4,33 @@
 --     headerFor x             the header of the parameters x: n, m, G, p, q and mu as given, a blank mu left blank
 --     headerPart h            the bytes of a header
 --     word32 z                a signed number of 32 bits as the number in its bytes, two's complement
---     handsetPart coords      the handset records of a coordinate table, which has x and y of each handset in turn
+--     handsetPart coords      the handset records of a coordinate table, which has the coordinates of each handset in turn: x, then y
 --     edgePart ends           the edge records of a table that has the two ends of each edge in turn (paper 02: the tie table)
 --     imageOf x coords ends   the whole image
---     Signed32 coords         every number of a coordinate table is one of 32 bits
---     PackedNumbers           the theorem: the records of two tables have the tables' numbers, so that questions 7 to 10 of these records are of the tables (proved
---                             in proofs/Numbers)
 --     lengthsFit x a b        question 6 of the writer: tables of a coordinates and b ends have just the numbers that n handsets and m edges need
-use Prim.Native.Nat.{ℕ, _+_, _*_, _-_, _<_}
+--     writes x a b room       `put_image` writes: the counts are within their limits, the tables of a coordinates and b ends are those of the counts, and a
+--                             buffer of room bytes holds the image
+--     Put x coords ends ..    what it leaves of a buffer l, and the length r that it gives; `sets l 0 vs` is l with vs stored from its first byte on
+--     Signed32 coords         every number of a coordinate table is one of 32 bits, from -2,147,483,648 to 2,147,483,647: `mag` is k for k and for -(k + 1)
+--     RecordNumbers           the theorem: the records of two tables have the tables' numbers, which are what questions 7 to 10 look at (proved in
+--                             proofs/Numbers)
+use Prim.Native.Nat.{ℕ, _+_, _*_, _-_, _≤_, _<_}
 use mathlib.Core.Path.{_≡_}
-use mathlib.Core.Bool.{Bool, _&&_}
+use mathlib.Core.Bool.{Bool, _&&_, not, cond}
 use mathlib.Core.List.{List, _++_, map}
-use lib.Dec.{eqb}
+use lib.Dec.{leb, eqb}
 use lib.IntN.{ℤ, pos, negsuc}
 use lib.Signed.{mag}
 use lib.ListN.{length, getD}
-use Rattle.bytes.specs.Bytes.{leBytes, packed, Below}
-use Rattle.fields.specs.Fields.{coordinateBytes, coordinateCount, handsetBytes, endBytes, endCount, edgeBytes, inLimits}
+use lib.Seq.{sets}
+use Rattle.sets.specs.Below.{any}
+use Rattle.bytes.specs.Bytes.{leBytes, tableBytes, Below}
+use Rattle.fields.specs.Fields.{coordinateBytes, coordinateCount, handsetBytes, endBytes, endCount, edgeBytes, countsFit}
 use Rattle.image.specs.Image.{headerBytes, handsetRecord, coordinateOf, endA, endB}
 use Rattle.image.specs.Signed.{raised, withinLimits}
-use Rattle.image.specs.Questions.{reservedValue}
+use Rattle.image.specs.Questions.{reservedValue, outOfLimits}
 use Rattle.image.specs.declared.Header.{Header}
-use Rattle.packing.specs.declared.Parameters.{Parameters}
+use Rattle.layout.specs.declared.Parameters.{Parameters}
 
 abbrev pub headerFor : Parameters → Header
 headerFor x = record {
@@ -52,26 +57,34 @@ word32 (pos x) = x
 word32 (negsuc x) = 4294967295 - x
 
 abbrev pub handsetPart : List ℤ → List ℕ
-handsetPart coords = packed coordinateBytes (map word32 coords)
+handsetPart coords = tableBytes coordinateBytes (map word32 coords)
 
 abbrev pub edgePart : List ℕ → List ℕ
-edgePart ends = packed endBytes ends
+edgePart ends = tableBytes endBytes ends
 
 unfoldable pub imageOf : Parameters → List ℤ → List ℕ → List ℕ
-unfolding headerPart packed word32
+unfolding headerPart tableBytes word32
 imageOf x coords ends = headerPart (headerFor x) ++ (handsetPart coords ++ edgePart ends)
 
 abbrev pub lengthsFit : Parameters → ℕ → ℕ → Bool
 lengthsFit x a b = eqb a (coordinateCount * x .n) && eqb b (endCount * x .m)
 
+abbrev pub writes : Parameters → ℕ → ℕ → ℕ → Bool
+writes x a b room = countsFit (x .n) (x .m) && (lengthsFit x a b && leb (headerFor x .len) room)
+
+-- of the parameters x, the two tables and the buffer l as lent, the length r given back, and the buffer l′ after the call
+pub record Put (x : Parameters) (coords : List ℤ) (ends l : List ℕ) (r : ℕ) (l′ : List ℕ) : Type 0 where
+  pub buffer : l′ ≡ cond (writes x (length coords) (length ends) (length l)) (sets l 0 (imageOf x coords ends)) l
+  pub size : r ≡ cond (writes x (length coords) (length ends) (length l)) (headerFor x .len) 0
+
 abbrev pub Signed32 : List ℤ → Type 0
 Signed32 coords = (i : ℕ) → mag (getD coords i (pos 0)) < 2147483648
 
--- coordinate i of handset v, its limits, and the two ends of edge k
-pub record PackedNumbers : Type 0 where
+-- coordinate i of handset v, whether one is out of its limits, and the two ends of edge k
+pub record RecordNumbers : Type 0 where
   pub coordinates : (coords : List ℤ) → Signed32 coords → (v i : ℕ) → i < coordinateCount → coordinateCount * v + i < length coords
       → coordinateOf (handsetRecord (handsetPart coords) v) i ≡ raised (getD coords (coordinateCount * v + i) (pos 0))
-  pub limits : (coords : List ℤ) → Signed32 coords → (v i : ℕ) → i < coordinateCount → coordinateCount * v + i < length coords
-      → inLimits (coordinateOf (handsetRecord (handsetPart coords) v) i) ≡ withinLimits (getD coords (coordinateCount * v + i) (pos 0))
+  pub limits : (coords : List ℤ) → Signed32 coords → (v : ℕ) → coordinateCount * v + coordinateCount ≤ length coords
+      → outOfLimits (handsetRecord (handsetPart coords) v) ≡ any coordinateCount (λ i. not (withinLimits (getD coords (coordinateCount * v + i) (pos 0))))
   pub first-ends : (ends : List ℕ) → Below 65536 ends → (k : ℕ) → endCount * k < length ends → endA (edgePart ends) k ≡ getD ends (endCount * k) 0
   pub second-ends : (ends : List ℕ) → Below 65536 ends → (k : ℕ) → endCount * k + 1 < length ends → endB (edgePart ends) k ≡ getD ends (endCount * k + 1) 0

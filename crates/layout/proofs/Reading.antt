@@ -5,7 +5,7 @@
 --     image-below                   every number of the image is a byte
 --     Asked x coords ends           questions 3, 5 and 6 of the writer got a yes
 --     asked-length, header-read     then the image is as long as its header says, and its header is read back
---     handsets-read, edges-read     the parts of the records are the packed tables
+--     handsets-read, edges-read     the parts of the records are the tables in bytes
 --     header-accepted               questions 1 to 6 of the reader get a yes
 --     open-image                    and what is left to ask is 7 to 10
 use Prim.Native.Nat.{ℕ, _+_, _*_, _^_, _≤_, _<_}
@@ -19,15 +19,15 @@ use lib.ListN.{length, take, drop, length-append, length-map}
 use lib.Seq.{take-at, take-all, drop-at, drop-drop}
 use borrow.Author.Tests.{le-leb}
 use Rattle.sets.proofs.Tests.{and-left, and-right, eqb-of}
-use Rattle.bytes.specs.Bytes.{number, leBytes, packed, Below}
-use Rattle.bytes.proofs.Packing.{le-bytes-below, append-below, packed-below, number-at, length-packed}
-use Rattle.fields.specs.Fields.{coordinateBytes, coordinateCount, handsetBytes, endBytes, endCount, edgeBytes}
+use Rattle.bytes.specs.Bytes.{number, leBytes, tableBytes, Below}
+use Rattle.bytes.proofs.Writing.{le-bytes-below, append-below, table-bytes-below, number-at, length-table-bytes}
+use Rattle.fields.specs.Fields.{coordinateBytes, coordinateCount, handsetBytes, endBytes, endCount, edgeBytes, countsFit, thresholdsFit}
 use Rattle.image.specs.Image.{headerBytes, headerOf, handsetRecords, edgeRecords}
-use Rattle.image.specs.Questions.{reservedValue, countsFit, thresholdsFit, tablesFit, askRecords, openOf, HeaderAccepted}
+use Rattle.image.specs.Questions.{reservedValue, tablesFit, askRecords, openOf, HeaderAccepted}
 use Rattle.image.specs.declared.Header.{Header}
 use Rattle.image.proofs.Acceptance.{fits, go-on-header}
-use Rattle.packing.specs.Packing.{headerFor, headerPart, word32, handsetPart, edgePart, imageOf, lengthsFit}
-use Rattle.packing.specs.declared.Parameters.{Parameters}
+use Rattle.layout.specs.Layout.{headerFor, headerPart, word32, handsetPart, edgePart, imageOf, lengthsFit}
+use Rattle.layout.specs.declared.Parameters.{Parameters}
 
 -- ---- the image, whatever its numbers
 
@@ -41,7 +41,7 @@ module _ (x : Parameters) (coords : List ℤ) (ends : List ℕ) where
   pub length-image : length image ≡ headerBytes + (coordinateBytes * length coords + endBytes * length ends)
   unfolding imageOf headerPart leBytes
   length-image =
-      omega (arith, length-append (handsetPart coords) (edgePart ends), length-packed coordinateBytes (map word32 coords), length-packed endBytes ends, length-map coords word32)
+      omega (arith, length-append (handsetPart coords) (edgePart ends), length-table-bytes coordinateBytes (map word32 coords), length-table-bytes endBytes ends, length-map coords word32)
 
   after-header : drop headerBytes image ≡ handsetPart coords ++ edgePart ends
   unfolding imageOf headerPart leBytes
@@ -62,7 +62,7 @@ module _ (x : Parameters) (coords : List ℤ) (ends : List ℕ) where
       append-below 256 (leBytes 2 (h .n) ++ l1) (handsetPart coords ++ edgePart ends)
       (put 2 (h .n) l1 (put 2 (h .m) l2 (put 4 (h .handsets) l3 (put 4 (h .edges) l4 (put 4 (h .len) l5 (put 8 (h .limit) l6 (put 2 (h .p) l7 (put 2 (h .q) l8
       (put 2 (h .mu) l9 (le-bytes-below 2 (h .reserved)))))))))))
-      (append-below 256 (handsetPart coords) (edgePart ends) (packed-below coordinateBytes (map word32 coords)) (packed-below endBytes ends))
+      (append-below 256 (handsetPart coords) (edgePart ends) (table-bytes-below coordinateBytes (map word32 coords)) (table-bytes-below endBytes ends))
     where
       put : (w v : ℕ) (rest : List ℕ) → Below 256 rest → Below 256 (leBytes w v ++ rest)
       put w v rest b = append-below 256 (leBytes w v) rest (le-bytes-below w v) b
@@ -122,10 +122,10 @@ module _ (x : Parameters) (coords : List ℤ) (ends : List ℕ) (ok : Asked x co
       }
 
   handsets-long : length (handsetPart coords) ≡ handsetBytes * x .n
-  handsets-long = omega (arith, length-packed coordinateBytes (map word32 coords), length-map coords word32, coords-length)
+  handsets-long = omega (arith, length-table-bytes coordinateBytes (map word32 coords), length-map coords word32, coords-length)
 
   edges-long : length (edgePart ends) ≡ edgeBytes * x .m
-  edges-long = omega (arith, length-packed endBytes ends, ends-length)
+  edges-long = omega (arith, length-table-bytes endBytes ends, ends-length)
 
   pub handsets-read : handsetRecords (imageOf x coords ends) ≡ handsetPart coords
   unfolding handsetRecords

@@ -1,31 +1,35 @@
 -- The numbers of a site's two tables in the records that they make. A signed number of 32 bits and the number in its four bytes make each other. Number j of the one
 -- table is coordinate j % coordinateCount of handset j / coordinateCount, and number j of the other an end of edge j / endCount.
 --
---     word-below, signed-word, word-signed     a signed coordinate and the number in its bytes; shifted-word: the same plus 2 ^ 31
+--     word-below, signed-word, word-signed     a signed coordinate and the number in its bytes; shifted-word, shifted-raised: the same plus 2 ^ 31, and back
 --     coordinate-place                         where a coordinate's bytes stand in the part of the handset records
 --     first-place, second-place                where the ends of an edge stand in the part of the edge records
---     coordinate-packed, end-packed            what is read there
---     packed-numbers                           the theorem of specs/Packing
-use Prim.Native.Nat.{ℕ, _+_, _*_, _-_, _<_}
+--     coordinate-written, end-written            what is read there
+--     coordinate-raised, out-of-limits         the same plus 2 ^ 31, and its limits
+--     record-numbers                           the theorem of specs/Layout
+use Prim.Native.Nat.{ℕ, _+_, _*_, _-_, _≤_, _<_}
 use native.Mathlib.Omega.{arith}
 use mathlib.Core.Path.{_≡_, refl, sym, ap, _∙_}
 use mathlib.Core.Logic.{⊎-elim}
+use mathlib.Core.Bool.{not}
 use mathlib.Core.List.{List, map}
 use lib.Dec.{ltb, nltb→le}
 use lib.IntN.{ℤ, pos, negsuc}
 use lib.Signed.{mag}
 use lib.ListN.{length, getD, length-map}
 use borrow.Author.Tests.{lt-ltb, le-ltb}
-use Rattle.sets.proofs.Tests.{decide, T-true, T-false}
+use Rattle.sets.specs.Below.{any}
+use Rattle.sets.proofs.Tests.{decide, T-true, T-false, any-cong}
 use Rattle.bytes.specs.Bytes.{number, Below}
 use Rattle.bytes.proofs.Bytes.{number-part}
-use Rattle.bytes.proofs.Packing.{number-packed}
+use Rattle.bytes.proofs.Writing.{number-table-bytes}
 use Rattle.fields.specs.Fields.{coordinateBytes, coordinateCount, handsetBytes, endBytes, endCount, shifted, inLimits}
 use Rattle.image.specs.Image.{handsetRecord, coordinateOf, endA, endB}
+use Rattle.image.specs.Questions.{outOfLimits}
 use Rattle.image.specs.Signed.{signed32, raised, withinLimits}
 use Rattle.image.proofs.Signed.{limits-raised}
-use Rattle.packing.specs.Packing.{word32, handsetPart, edgePart, Signed32, PackedNumbers}
-use Rattle.packing.proofs.Storing.{getD-word}
+use Rattle.layout.specs.Layout.{word32, handsetPart, edgePart, Signed32, RecordNumbers}
+use Rattle.layout.proofs.Storing.{getD-word}
 
 -- ---- a coordinate
 
@@ -55,6 +59,11 @@ unfolding word32 raised
 shifted-word (pos x) h = omega arith
 shifted-word (negsuc x) h = omega arith
 
+pub shifted-raised : (z : ℤ) → mag z < 2147483648 → shifted (raised z) ≡ word32 z
+unfolding word32 raised
+shifted-raised (pos x) h = omega arith
+shifted-raised (negsuc x) h = omega arith
+
 -- ---- places
 
 module _ (part : List ℕ) where
@@ -73,31 +82,38 @@ module _ (part : List ℕ) where
   unfolding endB
   second-place k = ap (number endBytes part) (omega arith)
 
--- ---- packed tables
+-- ---- tables in bytes
 
-pub coordinate-packed : (coords : List ℤ) → Signed32 coords → (j : ℕ) → j < length coords
+pub coordinate-written : (coords : List ℤ) → Signed32 coords → (j : ℕ) → j < length coords
     → number coordinateBytes (handsetPart coords) (coordinateBytes * j) ≡ word32 (getD coords j (pos 0))
-coordinate-packed coords signed j h =
+coordinate-written coords signed j h =
     let e : word32 (getD coords j (pos 0)) ≡ getD (map word32 coords) j 0 = getD-word coords j in
-    number-packed coordinateBytes (map word32 coords) j (omega (arith, e, word-below (getD coords j (pos 0)) (signed j))) (omega (arith, length-map coords word32))
+    number-table-bytes coordinateBytes (map word32 coords) j (omega (arith, e, word-below (getD coords j (pos 0)) (signed j))) (omega (arith, length-map coords word32))
     ∙ sym e
 
-pub end-packed : (ends : List ℕ) → Below 65536 ends → (j : ℕ) → j < length ends → number endBytes (edgePart ends) (endBytes * j) ≡ getD ends j 0
-end-packed ends low j h = number-packed endBytes ends j (low j) h
+pub end-written : (ends : List ℕ) → Below 65536 ends → (j : ℕ) → j < length ends → number endBytes (edgePart ends) (endBytes * j) ≡ getD ends j 0
+end-written ends low j h = number-table-bytes endBytes ends j (low j) h
 
 coordinate-raised : (coords : List ℤ) → Signed32 coords → (v i : ℕ) → i < coordinateCount → coordinateCount * v + i < length coords
     → coordinateOf (handsetRecord (handsetPart coords) v) i ≡ raised (getD coords (coordinateCount * v + i) (pos 0))
 unfolding coordinateOf
 coordinate-raised coords signed v i l h =
-    ap shifted (coordinate-place (handsetPart coords) v i l ∙ coordinate-packed coords signed (coordinateCount * v + i) h)
+    ap shifted (coordinate-place (handsetPart coords) v i l ∙ coordinate-written coords signed (coordinateCount * v + i) h)
     ∙ shifted-word (getD coords (coordinateCount * v + i) (pos 0)) (signed (coordinateCount * v + i))
 
-pub packed-numbers : PackedNumbers
-packed-numbers = record {
+out-of-limits : (coords : List ℤ) → Signed32 coords → (v : ℕ) → coordinateCount * v + coordinateCount ≤ length coords
+    → outOfLimits (handsetRecord (handsetPart coords) v) ≡ any coordinateCount (λ i. not (withinLimits (getD coords (coordinateCount * v + i) (pos 0))))
+unfolding outOfLimits
+out-of-limits coords signed v h =
+    any-cong coordinateCount _ _
+    (λ i l.
+    ap not (ap inLimits (coordinate-raised coords signed v i l (omega arith))
+    ∙ limits-raised (getD coords (coordinateCount * v + i) (pos 0)) (signed (coordinateCount * v + i))))
+
+pub record-numbers : RecordNumbers
+record-numbers = record {
   coordinates = coordinate-raised;
-  limits = λ coords signed v i l h.
-      ap inLimits (coordinate-raised coords signed v i l h)
-      ∙ limits-raised (getD coords (coordinateCount * v + i) (pos 0)) (signed (coordinateCount * v + i));
-  first-ends = λ ends low k h. first-place (edgePart ends) k ∙ end-packed ends low (endCount * k) h;
-  second-ends = λ ends low k h. second-place (edgePart ends) k ∙ end-packed ends low (endCount * k + 1) h;
+  limits = out-of-limits;
+  first-ends = λ ends low k h. first-place (edgePart ends) k ∙ end-written ends low (endCount * k) h;
+  second-ends = λ ends low k h. second-place (edgePart ends) k ∙ end-written ends low (endCount * k + 1) h;
 }

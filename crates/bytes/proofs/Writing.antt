@@ -9,10 +9,10 @@
 --     le-read                            the bytes of a number that was read are those that stand there
 --     stored-there, stored-none          what a write leaves, by whether the bytes are there; length-stored: as many bytes as before
 --     read-back                          the theorem of specs/Bytes
---     length-packed, packed-below        a packed table has w bytes a number, each less than 256
---     number-packed                      number k of a packed table is the table's
+--     length-table-bytes, table-bytes-below        a table in bytes has w bytes a number, each less than 256
+--     number-table-bytes                      number k of a table in bytes is the table's
 --     table-none, -more, -all            the loop that writes a table: at its start, after one number more, at its end
---     packed-is                          bytes that hold a table's numbers are the packed table
+--     table-bytes-is                          bytes that hold a table's numbers are the table in bytes
 use Prim.Native.Nat.{ℕ, zero, suc, _+_, _*_, _/_, _%_, _^_, _≤_, _<_}
 use native.Mathlib.Omega.{arith}
 use native.Mathlib.Nat.{zero-add, mul-zero, mul-suc, mul-comm, mul-le-mul-left, pow-succ', div-div-eq-div-mul}
@@ -25,7 +25,7 @@ use borrow.Author.Tests.{le-leb, leb-true}
 use lib.ListN.{length, getD, set, take, drop, length-append, take-append-drop, length-drop}
 use lib.Seq.{sets, sets-eq, length-sets, take-suc, take-all, drop-at, drop-cons, drop-drop, getD-drop, length-take-le}
 use Rattle.sets.proofs.Writing.{sets-append, sets-one}
-use Rattle.bytes.specs.Bytes.{le, number, leBytes, stored, packed, Below, ReadBack}
+use Rattle.bytes.specs.Bytes.{le, number, leBytes, stored, tableBytes, Below, ReadBack}
 use Rattle.bytes.proofs.Bytes.{le-cong, number-le}
 
 -- ---- every number of a list
@@ -177,82 +177,82 @@ read-back = record { written-read = written-read; read-written = read-written }
 
 -- ---- tables
 
-pub length-packed : (w : ℕ) (l : List ℕ) → length (packed w l) ≡ w * length l
-unfolding packed
-length-packed w [] = sym (mul-zero w)
-length-packed w (x ∷ l) =
-    length-append (leBytes w x) (packed w l) ∙ omega (arith, length-le-bytes w x, length-packed w l, mul-suc w (length l))
+pub length-table-bytes : (w : ℕ) (l : List ℕ) → length (tableBytes w l) ≡ w * length l
+unfolding tableBytes
+length-table-bytes w [] = sym (mul-zero w)
+length-table-bytes w (x ∷ l) =
+    length-append (leBytes w x) (tableBytes w l) ∙ omega (arith, length-le-bytes w x, length-table-bytes w l, mul-suc w (length l))
 
-drop-packed : (w : ℕ) (l : List ℕ) (k : ℕ) → k ≤ length l → drop (w * k) (packed w l) ≡ packed w (drop k l)
-unfolding packed
-drop-packed w l zero h = ap (λ (x : ℕ). drop x (packed w l)) (mul-zero w)
-drop-packed w [] (suc k) h = absurd (omega arith)
-drop-packed w (x ∷ l) (suc k) h =
+drop-table-bytes : (w : ℕ) (l : List ℕ) (k : ℕ) → k ≤ length l → drop (w * k) (tableBytes w l) ≡ tableBytes w (drop k l)
+unfolding tableBytes
+drop-table-bytes w l zero h = ap (λ (x : ℕ). drop x (tableBytes w l)) (mul-zero w)
+drop-table-bytes w [] (suc k) h = absurd (omega arith)
+drop-table-bytes w (x ∷ l) (suc k) h =
     let e : w * suc k ≡ w + w * k = omega (arith, mul-suc w k) in
-    ap (λ (y : ℕ). drop y (leBytes w x ++ packed w l)) e
-    ∙ sym (drop-drop (w * k) w (leBytes w x ++ packed w l))
-    ∙ ap (drop (w * k)) (drop-at (leBytes w x) (packed w l) w (length-le-bytes w x))
-    ∙ drop-packed w l k (omega arith)
+    ap (λ (y : ℕ). drop y (leBytes w x ++ tableBytes w l)) e
+    ∙ sym (drop-drop (w * k) w (leBytes w x ++ tableBytes w l))
+    ∙ ap (drop (w * k)) (drop-at (leBytes w x) (tableBytes w l) w (length-le-bytes w x))
+    ∙ drop-table-bytes w l k (omega arith)
 
-pub number-packed : (w : ℕ) (l : List ℕ) (k : ℕ) → getD l k 0 < 256 ^ w → k < length l → number w (packed w l) (w * k) ≡ getD l k 0
-unfolding packed
-number-packed w l k small h =
-    number-at w (getD l k 0) (packed w l) (w * k) (packed w (drop (suc k) l)) small
-    (omega (arith, length-packed w l, room))
-    (drop-packed w l k (omega arith) ∙ ap (packed w) (drop-cons l k 0 h))
+pub number-table-bytes : (w : ℕ) (l : List ℕ) (k : ℕ) → getD l k 0 < 256 ^ w → k < length l → number w (tableBytes w l) (w * k) ≡ getD l k 0
+unfolding tableBytes
+number-table-bytes w l k small h =
+    number-at w (getD l k 0) (tableBytes w l) (w * k) (tableBytes w (drop (suc k) l)) small
+    (omega (arith, length-table-bytes w l, room))
+    (drop-table-bytes w l k (omega arith) ∙ ap (tableBytes w) (drop-cons l k 0 h))
   where
     room : w * k + w ≤ w * length l
     room = omega (arith, mul-suc w k, mul-le-mul-left w h)
 
-packed-append : (w : ℕ) (a b : List ℕ) → packed w (a ++ b) ≡ packed w a ++ packed w b
-unfolding packed
-packed-append w [] b = refl
-packed-append w (x ∷ a) b = ap (λ (l : List ℕ). leBytes w x ++ l) (packed-append w a b) ∙ sym (append-assoc (leBytes w x) (packed w a) (packed w b))
+table-bytes-append : (w : ℕ) (a b : List ℕ) → tableBytes w (a ++ b) ≡ tableBytes w a ++ tableBytes w b
+unfolding tableBytes
+table-bytes-append w [] b = refl
+table-bytes-append w (x ∷ a) b = ap (λ (l : List ℕ). leBytes w x ++ l) (table-bytes-append w a b) ∙ sym (append-assoc (leBytes w x) (tableBytes w a) (tableBytes w b))
 
-packed-more : (w : ℕ) (l : List ℕ) (k : ℕ) → k < length l → packed w (take (suc k) l) ≡ packed w (take k l) ++ leBytes w (getD l k 0)
-unfolding packed
-packed-more w l k h =
-    ap (packed w) (take-suc l k 0 h) ∙ packed-append w (take k l) (getD l k 0 ∷ [])
-    ∙ ap (λ (x : List ℕ). packed w (take k l) ++ x) (append-nil (leBytes w (getD l k 0)))
+table-bytes-more : (w : ℕ) (l : List ℕ) (k : ℕ) → k < length l → tableBytes w (take (suc k) l) ≡ tableBytes w (take k l) ++ leBytes w (getD l k 0)
+unfolding tableBytes
+table-bytes-more w l k h =
+    ap (tableBytes w) (take-suc l k 0 h) ∙ table-bytes-append w (take k l) (getD l k 0 ∷ [])
+    ∙ ap (λ (x : List ℕ). tableBytes w (take k l) ++ x) (append-nil (leBytes w (getD l k 0)))
 
 -- the loop that writes a table from a place on, after k numbers
 module _ (w : ℕ) (s : List ℕ) (at : ℕ) (l : List ℕ) where
-  pub table-none : s ≡ sets s at (packed w (take 0 l))
-  unfolding packed
+  pub table-none : s ≡ sets s at (tableBytes w (take 0 l))
+  unfolding tableBytes
   table-none = refl
 
   pub table-more : (k v : ℕ) (s′ s″ : List ℕ) → at + w * length l ≤ length s → k < length l → v ≡ getD l k 0
-      → s′ ≡ sets s at (packed w (take k l)) → s″ ≡ stored w s′ (at + w * k) v → s″ ≡ sets s at (packed w (take (suc k) l))
+      → s′ ≡ sets s at (tableBytes w (take k l)) → s″ ≡ stored w s′ (at + w * k) v → s″ ≡ sets s at (tableBytes w (take (suc k) l))
   table-more k v s′ s″ room h e d f =
-      let before : List ℕ = packed w (take k l) in
-      let long : length before ≡ w * k = length-packed w (take k l) ∙ ap (λ (x : ℕ). w * x) (length-take-le k l (omega arith)) in
+      let before : List ℕ = tableBytes w (take k l) in
+      let long : length before ≡ w * k = length-table-bytes w (take k l) ∙ ap (λ (x : ℕ). w * x) (length-take-le k l (omega arith)) in
       let fits : at + w * k + w ≤ length s′ =
       omega (arith, ap length d, length-sets s at before, mul-suc w k, mul-le-mul-left w h) in
       f ∙ stored-there w s′ (at + w * k) v fits
       ∙ ap₂ (λ (t : List ℕ) (x : ℕ). sets t (at + w * k) (leBytes w x)) d e
       ∙ ap (λ (x : ℕ). sets (sets s at before) (at + x) (leBytes w (getD l k 0))) (sym long)
       ∙ sym (sets-append s at before (leBytes w (getD l k 0)))
-      ∙ ap (sets s at) (sym (packed-more w l k h))
+      ∙ ap (sets s at) (sym (table-bytes-more w l k h))
 
-  pub table-all : (k : ℕ) (s′ : List ℕ) → length l ≤ k → s′ ≡ sets s at (packed w (take k l)) → s′ ≡ sets s at (packed w l)
-  table-all k s′ h e = e ∙ ap (λ (x : List ℕ). sets s at (packed w x)) (take-all k l h)
+  pub table-all : (k : ℕ) (s′ : List ℕ) → length l ≤ k → s′ ≡ sets s at (tableBytes w (take k l)) → s′ ≡ sets s at (tableBytes w l)
+  table-all k s′ h e = e ∙ ap (λ (x : List ℕ). sets s at (tableBytes w x)) (take-all k l h)
 
-pub packed-below : (w : ℕ) (l : List ℕ) → Below 256 (packed w l)
-unfolding packed
-packed-below w [] i = omega arith
-packed-below w (x ∷ l) i = append-below 256 (leBytes w x) (packed w l) (le-bytes-below w x) (packed-below w l) i
+pub table-bytes-below : (w : ℕ) (l : List ℕ) → Below 256 (tableBytes w l)
+unfolding tableBytes
+table-bytes-below w [] i = omega arith
+table-bytes-below w (x ∷ l) i = append-below 256 (leBytes w x) (tableBytes w l) (le-bytes-below w x) (table-bytes-below w l) i
 
-pub packed-is : (w : ℕ) (l part : List ℕ) → Below 256 part → length part ≡ w * length l → ((k : ℕ) → k < length l → number w part (w * k) ≡ getD l k 0)
-    → packed w l ≡ part
-unfolding packed
-packed-is w [] [] small e f = refl
-packed-is w [] (x ∷ part) small e f = absurd (omega (arith, mul-zero w))
-packed-is w (v ∷ l) part small e f =
+pub table-bytes-is : (w : ℕ) (l part : List ℕ) → Below 256 part → length part ≡ w * length l → ((k : ℕ) → k < length l → number w part (w * k) ≡ getD l k 0)
+    → tableBytes w l ≡ part
+unfolding tableBytes
+table-bytes-is w [] [] small e f = refl
+table-bytes-is w [] (x ∷ part) small e f = absurd (omega (arith, mul-zero w))
+table-bytes-is w (v ∷ l) part small e f =
     let long : w ≤ length part = omega (arith, mul-suc w (length l)) in
     let first : leBytes w v ≡ take w part =
     ap (leBytes w) (sym (f 0 (omega arith)) ∙ ap (number w part) (mul-zero w) ∙ number-le w part 0 (omega arith)) ∙ le-read w part 0 small (omega arith) in
-    let rest : packed w l ≡ drop w part =
-    packed-is w l (drop w part) (drop-below 256 w part small) (length-drop w part ∙ omega (arith, mul-suc w (length l)))
+    let rest : tableBytes w l ≡ drop w part =
+    table-bytes-is w l (drop w part) (drop-below 256 w part small) (length-drop w part ∙ omega (arith, mul-suc w (length l)))
     (λ k h. next k h ∙ f (suc k) (omega arith)) in
     ap₂ _++_ first rest ∙ take-append-drop w part
   where

@@ -4,7 +4,7 @@
 --     getD-word        a number of a coordinate table as the word that is written
 --     parts            the two halves of the header and the two tables, written one after the other, are the image
 --     Fitting, fitting what all tests say
---     packs-by         whether the image is written, where the counts fit; packs-yes, -no: what `put_image` does then
+--     writes-by         whether the image is written, where the counts fit; writes-yes, -no: what `put_image` does then
 use Prim.Native.Nat.{ℕ, zero, suc, _+_, _*_, _≤_}
 use native.Mathlib.Omega.{arith}
 use mathlib.Core.Path.{_≡_, refl, sym, ap, ap₂, _∙_, subst}
@@ -17,14 +17,13 @@ use lib.Seq.{sets, length-sets}
 use Rattle.sets.proofs.Tests.{T-true, and-left, and-right}
 use Rattle.sets.proofs.Writing.{sets-append}
 use Rattle.bytes.specs.Bytes.{leBytes, stored}
-use Rattle.bytes.proofs.Packing.{stored-there, length-packed}
-use Rattle.fields.specs.Fields.{coordinateBytes, coordinateCount, endCount}
+use Rattle.bytes.proofs.Writing.{stored-there, length-table-bytes}
+use Rattle.fields.specs.Fields.{coordinateBytes, coordinateCount, endCount, countsFit}
 use Rattle.image.specs.Image.{headerBytes}
-use Rattle.image.specs.Questions.{countsFit}
 use Rattle.image.proofs.Acceptance.{counts-limits}
-use Rattle.packing.specs.Packing.{headerFor, headerPart, word32, handsetPart, edgePart, imageOf, lengthsFit}
-use Rattle.packing.specs.Held.{countsPart, thresholdsPart, packs, Put}
-use Rattle.packing.specs.declared.Parameters.{Parameters}
+use Rattle.layout.specs.Layout.{headerFor, headerPart, word32, handsetPart, edgePart, imageOf, lengthsFit, writes, Put}
+use Rattle.layout.specs.Held.{countsPart, thresholdsPart}
+use Rattle.layout.specs.declared.Parameters.{Parameters}
 
 -- of a list s that is l, of k numbers, and what a write leaves of it
 pub next : {s′ : List ℕ} (s l : List ℕ) (k w at v : ℕ) → s′ ≡ stored w s at v → (s ≡ l) × (length l ≡ k) → at + w ≤ k
@@ -66,7 +65,7 @@ parts x coords ends s s₁ s₂ s₃ s₄ e₁ e₂ e₃ e₄ =
     let from : headerBytes ≡ 0 + length h = omega (arith, header-long x) in
     let handsets : s₃ ≡ sets (sets s 0 h) (0 + length h) (handsetPart coords) = e₃ ∙ ap₂ (λ (t : List ℕ) (k : ℕ). sets t k (handsetPart coords)) front from in
     let past : headerBytes + coordinateBytes * length coords ≡ 0 + length h + length (handsetPart coords) =
-    omega (arith, header-long x, length-packed coordinateBytes (map word32 coords), length-map coords word32) in
+    omega (arith, header-long x, length-table-bytes coordinateBytes (map word32 coords), length-map coords word32) in
     e₄ ∙ ap₂ (λ (t : List ℕ) (k : ℕ). sets t k (edgePart ends)) handsets past
     ∙ sym (sets-append (sets s 0 h) (0 + length h) (handsetPart coords) (edgePart ends))
     ∙ sym (sets-append s 0 h (handsetPart coords ++ edgePart ends))
@@ -94,19 +93,19 @@ fitting x a b room c e =
 
 module _ (x : Parameters) (coords : List ℤ) (ends s : List ℕ) where
   -- of counts that fit, what is left to test
-  pub packs-by : (b : Bool) → T (countsFit (x .n) (x .m)) → (lengthsFit x (length coords) (length ends) && leb (headerFor x .len) (length s)) ≡ b
-      → packs x (length coords) (length ends) (length s) ≡ b
-  packs-by b c e = ap (λ (a : Bool). a && (lengthsFit x (length coords) (length ends) && leb (headerFor x .len) (length s))) (T-true (countsFit (x .n) (x .m)) c) ∙ e
+  pub writes-by : (b : Bool) → T (countsFit (x .n) (x .m)) → (lengthsFit x (length coords) (length ends) && leb (headerFor x .len) (length s)) ≡ b
+      → writes x (length coords) (length ends) (length s) ≡ b
+  writes-by b c e = ap (λ (a : Bool). a && (lengthsFit x (length coords) (length ends) && leb (headerFor x .len) (length s))) (T-true (countsFit (x .n) (x .m)) c) ∙ e
 
-  pub packs-yes : {s′ : List ℕ} {r : ℕ} → packs x (length coords) (length ends) (length s) ≡ true → s′ ≡ sets s 0 (imageOf x coords ends) → r ≡ headerFor x .len
+  pub writes-yes : {s′ : List ℕ} {r : ℕ} → writes x (length coords) (length ends) (length s) ≡ true → s′ ≡ sets s 0 (imageOf x coords ends) → r ≡ headerFor x .len
       → Put x coords ends s r s′
-  packs-yes t e d = record {
-    list = e ∙ ap (λ (b : Bool). cond b (sets s 0 (imageOf x coords ends)) s) (sym t);
-    written = d ∙ ap (λ (b : Bool). cond b (headerFor x .len) 0) (sym t);
+  writes-yes t e d = record {
+    buffer = e ∙ ap (λ (b : Bool). cond b (sets s 0 (imageOf x coords ends)) s) (sym t);
+    size = d ∙ ap (λ (b : Bool). cond b (headerFor x .len) 0) (sym t);
   }
 
-  pub packs-no : packs x (length coords) (length ends) (length s) ≡ false → Put x coords ends s 0 s
-  packs-no f = record {
-    list = ap (λ (b : Bool). cond b (sets s 0 (imageOf x coords ends)) s) (sym f);
-    written = ap (λ (b : Bool). cond b (headerFor x .len) 0) (sym f);
+  pub writes-no : writes x (length coords) (length ends) (length s) ≡ false → Put x coords ends s 0 s
+  writes-no f = record {
+    buffer = ap (λ (b : Bool). cond b (sets s 0 (imageOf x coords ends)) s) (sym f);
+    size = ap (λ (b : Bool). cond b (headerFor x .len) 0) (sym f);
   }
