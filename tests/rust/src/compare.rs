@@ -596,8 +596,8 @@ fn written_again(
         .map_err(|problem| format!("of what was written again: {problem}"))?;
     let lists = lists(found, rng);
     let point = point_inside(rng);
-    let nearest = planner.nearest(&again, point);
-    same(format_args!("nearest to {point:?}, written again"), nearest, planner.nearest(image, point))?;
+    let nearest = |image: &[u8]| planner.nearest(image, point);
+    same(format_args!("nearest to {point:?}, written again"), nearest(&again), nearest(image))?;
     for _ in 0..2 {
         let handset = rng.below(found.site().positions.len() + 1) as u64;
         let role = planner.role(&again, handset);
