@@ -4,12 +4,13 @@
 --     answer-is, buffer-is         the call's answer, and the buffer after it
 --     granted, front, reads-back   what is written is read back
 --     asked-of, records-of         the tables that an image holds pass 3, 5 and 6, and their image has its records
---     image-opening                so the two are both accepted, or refused with the same number and place
+--     image-opening, accepted-image    so the two are both accepted, or refused with the same number and place
 --     writer-too, image-too        a refusal of such an image is the writer's, and one of the writer's is the image's, but for 20
 --     no-longer                    and no longer than it
+--     too-short                    20 where the buffer is
 --     written-again                an accepted image's tables are written, and what is written has the image's outcome
 --     round-trips                  the theorem
-use Prim.Native.Nat.{ℕ, _+_, _*_, _≤_}
+use Prim.Native.Nat.{ℕ, _+_, _*_, _≤_, _<_}
 use native.Mathlib.Omega.{arith}
 use mathlib.Core.Path.{_≡_, refl, sym, ap, _∙_, subst}
 use mathlib.Core.Logic.{_⊎_, inl, inr, ⊎-elim}
@@ -19,7 +20,7 @@ use lib.Dec.{T, leb, eqb, leb→le}
 use lib.IntN.{ℤ}
 use lib.ListN.{length, take, drop}
 use lib.Seq.{take-at, drop-at}
-use borrow.Author.Tests.{le-leb}
+use borrow.Author.Tests.{le-leb, lt-leb}
 use Rattle.sets.proofs.Tests.{and-make, eqb-of}
 use Rattle.bytes.specs.Bytes.{Below}
 use Rattle.fields.specs.Fields.{coordinateCount, handsetBytes, endCount, edgeBytes, countsFit, thresholdsFit}
@@ -132,6 +133,13 @@ module _ (s : List ℕ) (x : Parameters) (coords : List ℤ) (ends : List ℕ) (
   image-opening : SameOpening s (imageOf x coords ends)
   image-opening = same-opening s (imageOf x coords ends) records-of ok (header-accepted x coords ends asked-of)
 
+  accepted-image : Accepted s → openOf (imageOf x coords ends) ≡ O.Site (headerOf (imageOf x coords ends))
+  accepted-image good = go image-opening
+    where
+      go : SameOpening s (imageOf x coords ends) → openOf (imageOf x coords ends) ≡ O.Site (headerOf (imageOf x coords ends))
+      go (inl (_, again)) = again
+      go (inr (p, _, _, here, _)) = no-site (sym (opened s good) ∙ here)
+
   module _ (l : List ℕ) (r : Encoded) (l′ : List ℕ) (call : WriteCall x coords ends l r l′) where
     answer-by : (o : Opened) → openOf (imageOf x coords ends) ≡ o → r ≡ encodedFor o (length l)
     answer-by o e = answer-is x coords ends l r l′ call ∙ ap (λ (a : Opened). encodedFor a (length l)) (by-reader x coords ends asked-of ∙ e)
@@ -152,22 +160,25 @@ module _ (s : List ℕ) (x : Parameters) (coords : List ℤ) (ends : List ℕ) (
     written-again good room =
         let k : ℕ = headerFor x .len in
         let image : List ℕ = imageOf x coords ends in
-        let again : openOf image ≡ O.Site (headerOf image) = go image-opening in
+        let again : openOf image ≡ O.Site (headerOf image) = accepted-image good in
         let answer : r ≡ E.Length k =
         answer-by (O.Site (headerFor x)) (again ∙ ap O.Site (header-read x coords ends asked-of))
         ∙ ap (λ (b : Bool). cond b (E.Length k) (E.Refused (refusal 20))) (le-leb k (length l) room) in
         let wrote : WriteCall x coords ends l (E.Length k) l′ = subst (λ (a : Encoded). WriteCall x coords ends l a l′) answer call in
         let outcome : SameOutcome s image = same-outcome s image records-of good (accepted image (headerOf image) again .0) in
         (answer, subst (SameOutcome s) (sym (front x coords ends l k l′ wrote)) outcome)
-      where
-        go : SameOpening s (imageOf x coords ends) → openOf (imageOf x coords ends) ≡ O.Site (headerOf (imageOf x coords ends))
-        go (inl (_, again)) = again
-        go (inr (p, _, _, here, _)) = no-site (sym (opened s good) ∙ here)
+
+    too-short : Accepted s → length l < headerFor x .len → r ≡ E.Refused (refusal 20)
+    too-short good room =
+        answer-by (O.Site (headerFor x)) (accepted-image good ∙ ap O.Site (header-read x coords ends asked-of))
+        ∙ ap (λ (b : Bool). cond b (E.Length (headerFor x .len)) (E.Refused (refusal 20))) (lt-leb (headerFor x .len) (length l) room)
 
 pub round-trips : RoundTrips
 round-trips = record {
   reads-back = λ x coords ends l k l′ signed low call. reads-back x coords ends l k l′ call signed low;
   written-again = λ s x coords ends l r l′ good small held room call. written-again s x coords ends (good .header) small held l r l′ call good room;
+  too-short = λ s x coords ends l r l′ good small held room call. too-short s x coords ends (good .header) small held l r l′ call good room;
+  kept = λ x coords ends l q l′ call. buffer-is x coords ends l (E.Refused q) l′ call;
   same-refusals = λ s x coords ends l r l′ ok small held call q.
       let o : SameOpening s (imageOf x coords ends) = image-opening s x coords ends ok small held in (
         λ e. let a = writer-too s x coords ends ok small held l r l′ call q o e in (a .0, omega (arith, a .1), omega (arith, a .2)),

@@ -50,6 +50,7 @@ pub record Examples : Type 0 where
   pub longer : bufferAfter (given 0 0 0 1 2 3) [] [] (9 ∷ 9 ∷ 9 ∷ 9 ∷ 9 ∷ 9 ∷ 9 ∷ 9 ∷ 9 ∷ 9 ∷ 9 ∷ 9 ∷ 9 ∷ 9 ∷ 9 ∷ 9 ∷ 9 ∷ 9 ∷ 9 ∷ 9 ∷ 9 ∷ 9 ∷ 9 ∷ 9 ∷ 9 ∷ 9 ∷ 9 ∷ 9 ∷ 9 ∷ 9 ∷ 9 ∷ 9 ∷ 7 ∷ [])
       ≡ 0 ∷ 0 ∷ 0 ∷ 0 ∷ 32 ∷ 0 ∷ 0 ∷ 0 ∷ 32 ∷ 0 ∷ 0 ∷ 0 ∷ 32 ∷ 0 ∷ 0 ∷ 0 ∷ 0 ∷ 0 ∷ 0 ∷ 0 ∷ 0 ∷ 0 ∷ 0 ∷ 0 ∷ 1 ∷ 0 ∷ 2 ∷ 0 ∷ 3 ∷ 0 ∷ 0 ∷ 0 ∷ 7 ∷ []
   pub short : encodedOf (given 7 8 0 1 2 4) zeros14 endsS 119 ≡ Refused (refusal 20)
+  pub no-room : encodedOf (given 0 0 0 1 2 3) [] [] 0 ≡ Refused (refusal 20)
   pub short-kept : bufferAfter (given 0 0 0 1 2 3) [] [] (9 ∷ 8 ∷ []) ≡ 9 ∷ 8 ∷ []
   -- each question with a buffer of no bytes, so that 20 comes last; a fault for each later question besides
   pub many : encodedOf (given 513 0 0 0 2 3) [] [] 0 ≡ Refused (refusal 3)
@@ -57,8 +58,14 @@ pub record Examples : Type 0 where
   pub wide : encodedOf (given 65536 0 0 1 2 3) [] [] 0 ≡ Refused (refusal 3)
   pub over-one : encodedOf (given 1 0 0 3 2 3) [] [] 0 ≡ Refused (refusal 5)
   pub wide-mu : encodedOf (given 0 0 0 1 2 65536) [] [] 0 ≡ Refused (refusal 5)
+  pub limit-past : encodedOf (given 1 0 8000000000001 1 2 3) [] [] 0 ≡ Refused (refusal 5)
+  pub p-zero : encodedOf (given 1 0 0 0 2 3) [] [] 0 ≡ Refused (refusal 5)
+  pub q-past : encodedOf (given 1 0 0 1 1001 3) [] [] 0 ≡ Refused (refusal 5)
+  pub mu-past : encodedOf (given 1 0 0 1 2 513) [] [] 0 ≡ Refused (refusal 5)
   pub one-more : encodedOf (given 1 0 0 1 2 3) (pos 1000001 ∷ pos 0 ∷ pos 0 ∷ []) [] 0 ≡ Refused (refusal 6)
   pub one-fewer : encodedOf (given 2 1 0 1 2 3) (two (pos 0) (pos 0)) (0 ∷ []) 0 ≡ Refused (refusal 6)
+  pub handset-short : encodedOf (given 3 1 0 1 2 3) (two (pos 1000001) (pos 0)) (0 ∷ 1 ∷ []) 0 ≡ Refused (refusal 6)
+  pub edge-more : encodedOf (given 2 1 0 1 2 3) (two (pos 1000001) (pos 0)) (0 ∷ 1 ∷ 0 ∷ 0 ∷ []) 0 ≡ Refused (refusal 6)
   pub far : encodedOf (given 2 1 0 1 2 3) (two (pos 0) (negsuc 1000000)) (0 ∷ 2 ∷ []) 0 ≡ Refused (record { number = 7; place = 1 })
   pub at-the-limit : encodedOf (given 2 1 0 1 2 3) (two (pos 1000000) (negsuc 999999)) (0 ∷ 1 ∷ []) 52 ≡ Length 52
   pub no-such-handset : encodedOf (given 2 2 0 1 2 3) (two (pos 0) (pos 0)) (0 ∷ 0 ∷ 0 ∷ 2 ∷ []) 0 ≡ Refused (record { number = 8; place = 1 })

@@ -11,6 +11,8 @@
 --       reads-back                the reader, lent just the bytes written, accepts them and finds the same numbers in the same order
 --       written-again             an accepted image's numbers are not refused where the buffer is long enough, and what is then written has the same outcome,
 --                                 whatever the gaps and the order of the tables were
+--       too-short                 they are refused with 20 where it is not
+--       kept                      a refusal, whichever it is, keeps every byte of the buffer
 --       same-refusals             tables are refused with 7 to 10 exactly when an image of these numbers is, with the same number and place
 --       no-longer                 an image written again is no longer than the first, so that a buffer of the first one's length is long enough
 --       an-image, its-tables      tables that pass 3, 5 and 6 are those of an image, and every image has its tables
@@ -26,7 +28,7 @@ use Rattle.fields.specs.Fields.{coordinateCount, endCount, countsFit, threshold
 use Rattle.image.specs.Image.{headerOf, edgeRecords, endA, endB}
 use Rattle.image.specs.Signed.{signedCoordinate}
 use Rattle.image.specs.Questions.{openOf, HeaderAccepted, Accepted}
-use Rattle.image.specs.Answers.{openAnswer}
+use Rattle.image.specs.Answers.{openAnswer, refusal}
 use Rattle.image.specs.declared.Header.{Header}
 use Rattle.image.specs.declared.Refusal.{Refusal}
 use Rattle.image.specs.declared.Opened.{Opened}
@@ -82,6 +84,9 @@ pub record RoundTrips : Type 0 where
   pub written-again : (s : List ℕ) (x : Parameters) (coords : List ℤ) (ends l : List ℕ) (r : Encoded) (l′ : List ℕ) → Accepted s → Below 256 s
       → Holds s x coords ends → headerFor x .len ≤ length l → WriteCall x coords ends l r l′
       → (r ≡ E.Length (headerFor x .len)) × SameOutcome s (take (headerFor x .len) l′)
+  pub too-short : (s : List ℕ) (x : Parameters) (coords : List ℤ) (ends l : List ℕ) (r : Encoded) (l′ : List ℕ) → Accepted s → Below 256 s
+      → Holds s x coords ends → length l < headerFor x .len → WriteCall x coords ends l r l′ → r ≡ E.Refused (refusal 20)
+  pub kept : (x : Parameters) (coords : List ℤ) (ends l : List ℕ) (q : Refusal) (l′ : List ℕ) → WriteCall x coords ends l (E.Refused q) l′ → l′ ≡ l
   pub same-refusals : (s : List ℕ) (x : Parameters) (coords : List ℤ) (ends l : List ℕ) (r : Encoded) (l′ : List ℕ) → HeaderAccepted s → Below 256 s
       → Holds s x coords ends → WriteCall x coords ends l r l′
       → (q : Refusal) → (openOf s ≡ O.Refused q) ↔ ((r ≡ E.Refused q) × (7 ≤ q .number) × (q .number ≤ 10))
