@@ -17,7 +17,7 @@ use lib.Dec.{T, leb, ltb, eqb, leb→le, le→leb}
 use lib.IntN.{ℤ}
 use lib.ListN.{length, getD, drop, length-take, length-drop}
 use Rattle.sets.specs.Below.{any, find, count}
-use Rattle.sets.proofs.Tests.{and-left, and-right, or-right, decide, find-law, find-none, not-any}
+use Rattle.sets.proofs.Tests.{or-right, decide, find-law, find-none, not-any}
 use Rattle.sets.proofs.Counting.{bit-le, count-le, sum-le, sum-const}
 use Rattle.fields.specs.Fields.{coordinateCount, countsFit, thresholdsFit}
 use Rattle.image.specs.Image.{headerBytes, headerOf, handsetCount, edgeCount, handsetRecords, edgeRecords, handsetRecord, endA, endB}

@@ -11,7 +11,6 @@
 use Prim.Native.Nat.{ℕ, _+_, _*_, _^_, _≤_, _<_}
 use native.Mathlib.Omega.{arith}
 use mathlib.Core.Path.{_≡_, refl, sym, ap, ap₂, _∙_, subst}
-use mathlib.Core.Bool.{_&&_}
 use mathlib.Core.List.{List, _++_, map}
 use lib.Dec.{T, leb, eqb, le→leb, eqb→eq}
 use lib.IntN.{ℤ}
@@ -19,7 +18,7 @@ use lib.ListN.{length, take, drop, length-append, length-map}
 use lib.Seq.{take-at, take-all, drop-at, drop-drop}
 use borrow.Author.Tests.{le-leb}
 use Rattle.sets.proofs.Tests.{and-left, and-right, eqb-of}
-use Rattle.bytes.specs.Bytes.{number, leBytes, tableBytes, Below}
+use Rattle.bytes.specs.Bytes.{number, leBytes, Below}
 use Rattle.bytes.proofs.Writing.{le-bytes-below, append-below, table-bytes-below, number-at, length-table-bytes}
 use Rattle.fields.specs.Fields.{coordinateBytes, coordinateCount, handsetBytes, endBytes, endCount, edgeBytes, countsFit, thresholdsFit}
 use Rattle.image.specs.Image.{headerBytes, headerOf, handsetRecords, edgeRecords}

@@ -80,7 +80,7 @@ fn put_coordinates(s: &mut [u8], coordinates: &[i32])
     }
 }
 
-// Writes the ends of the edges, one after the other, from a place on.
+// Writes the ends of the edges, one after the other, from a place on, which has 32 bits so that no sum wraps.
 fn put_ends(s: &mut [u8], from: u32, ends: &[u16])
     requires { ⌜ from + endBytes * length (now ends) ≤ length (now s) ⌝ }
     ensures { λ _. ⌜ now (s .exit) ≡ sets (now (s .entry)) from (edgePart (now (ends .entry))) ⌝ }

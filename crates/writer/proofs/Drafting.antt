@@ -11,7 +11,7 @@ use Prim.Native.Nat.{ℕ, _-_, _≤_}
 use native.Mathlib.Omega.{arith}
 use native.Mathlib.Nat.{sub-zero}
 use mathlib.Core.Path.{_≡_, refl, sym, ap, ap₂, _∙_, subst}
-use mathlib.Core.Bool.{Bool, true, false, _&&_, cond}
+use mathlib.Core.Bool.{Bool, true, false, cond}
 use mathlib.Core.List.{List, _++_}
 use lib.Dec.{T, leb, leb→le}
 use lib.IntN.{ℤ}
@@ -22,7 +22,7 @@ use Rattle.sets.proofs.Tests.{T-true, and-right}
 use Rattle.sets.proofs.Writing.{sets-front}
 use Rattle.image.specs.Answers.{refusal}
 use Rattle.fields.specs.Fields.{countsFit, thresholdsFit}
-use Rattle.image.specs.Questions.{ask, askRecords, openOf}
+use Rattle.image.specs.Questions.{openOf}
 use Rattle.image.specs.Rows.{zeros}
 use Rattle.image.specs.declared.Header.{Header}
 use Rattle.image.specs.declared.Refusal.{Refusal}

@@ -1,9 +1,8 @@
 // The writer of site images, for the tool that commissions a site: from the numbers of a site to the bytes that the reader accepts.
 //
-// The definitions are in specs/Writer. The questions of the image are put by the reader itself, to a draft: the caller's buffer gets no byte before all of them,
-// and 20, have a yes. specs of the crate `roundtrips` say what the reader and the other calls make of what is written.
+// The definitions are in specs/Writer. Questions 7 to 10 are put by the reader itself, to a draft: the caller's buffer gets no byte before all questions, and 20,
+// have a yes. What the reader and the other calls make of what is written is said by the crate `roundtrips`.
 ghost use mathlib.Core.Path.{_≡_};
-ghost use lib.ListN.{length};
 ghost use Rattle.writer.specs.Writer.{tablesAnswer, encodedFor, WriteCall};
 use image::Opened;
 use image::Refusal;
@@ -61,7 +60,7 @@ fn ask_room(asked: Opened, room: usize) -> Encoded
     }
 }
 
-// Writes the image of a site at the front of the buffer: x and y of each handset in turn, and two handsets for each edge.
+// Writes the image of a site at the front of the buffer, from the coordinates of each handset in turn and the two ends of each edge in turn.
 pub fn write(x: Parameters, coordinates: &[i32], ends: &[u16], buffer: &mut [u8]) -> Encoded
     ensures { λ r. ⌜ WriteCall x (now (coordinates .entry)) (now (ends .entry)) (now (buffer .entry)) r (now (buffer .exit)) ⌝ }
 {

@@ -1,8 +1,8 @@
 -- `layout::lengths_fit` meets its contract. A length is d times a count exactly when d divides it and the quotient is the count, which no count makes wrap.
-use Prim.Native.Nat.{ℕ, zero, _+_, _*_, _/_, _%_, _<_}
+use Prim.Native.Nat.{ℕ, zero, _*_, _/_, _%_, _<_}
 use native.Mathlib.Omega.{arith}
 use native.Mathlib.Nat.{div-add-mod, mul-mod-right, mul-div-cancel-left}
-use mathlib.Core.Path.{_≡_, sym, ap, ap₂, _∙_}
+use mathlib.Core.Path.{_≡_, ap, ap₂, _∙_}
 use mathlib.Core.Bool.{_&&_}
 use lib.Dec.{eqb, eqb→eq}
 use Rattle.sets.proofs.Tests.{T-ext, and-make, and-left, and-right, eqb-of}
