@@ -1,6 +1,6 @@
 -- Laws of numbers that are written in bytes, each over the width.
 --
---     append-below, take-below, drop-below    a bound of every number of a list is one of a longer list's and of a part's
+--     append-below, take-, drop-below    a bound of every number of two lists is one of both together, and of every number of a list one of a part's
 --     length-le-bytes, le-bytes-below    w bytes, each less than 256
 --     le-bytes-more                      one byte more; write-none, write-more: the loop that writes a number, at its start and after one more
 --     le-written                         a number at the front of a list is read back
@@ -9,10 +9,10 @@
 --     le-read                            the bytes of a number that was read are those that stand there
 --     stored-there, stored-none          what a write leaves, by whether the bytes are there; length-stored: as many bytes as before
 --     read-back                          the theorem of specs/Bytes
---     length-table-bytes, table-bytes-below        a table in bytes has w bytes a number, each less than 256
---     number-table-bytes                      number k of a table in bytes is the table's
+--     length-table-bytes, table-bytes-below    a table in bytes has w bytes a number, each less than 256
+--     number-table-bytes                 number k of a table in bytes is the table's
 --     table-none, -more, -all            the loop that writes a table: at its start, after one number more, at its end
---     table-bytes-is                          bytes that hold a table's numbers are the table in bytes
+--     table-bytes-is                     bytes that hold a table's numbers are the table in bytes
 use Prim.Native.Nat.{ℕ, zero, suc, _+_, _*_, _/_, _%_, _^_, _≤_, _<_}
 use native.Mathlib.Omega.{arith}
 use native.Mathlib.Nat.{zero-add, mul-zero, mul-suc, mul-comm, mul-le-mul-left, pow-succ', div-div-eq-div-mul}

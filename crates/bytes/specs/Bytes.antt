@@ -4,7 +4,7 @@
 --     number w s at      the same, and 0 where fewer than w bytes stand there: what a read gives
 --     leBytes w v        the w bytes of the number v; what they do not hold of it is left out
 --     stored w s at v    s with the w bytes of v from a place on, or as it is where fewer stand there: what a write leaves
---     tableBytes w l         the numbers of a table, w bytes each, one after the other
+--     tableBytes w l     the numbers of a table, w bytes each, one after the other
 --     Below b l          every number of l is less than b, which is above 0
 --     ReadBack           the theorem, over the width: a number that was written is read back, and one that was read and is written to its place changes
 --                        nothing (proved in proofs/Writing)

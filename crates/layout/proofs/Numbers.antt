@@ -1,10 +1,10 @@
--- The numbers of a site's two tables in the records that they make. A signed number of 32 bits and the number in its four bytes make each other. Number j of the one
--- table is coordinate j % coordinateCount of handset j / coordinateCount, and number j of the other an end of edge j / endCount.
+-- The numbers of a site's two tables in the records that they make. A signed number of 32 bits and the number in its four bytes make each other. Number j of the
+-- one table is coordinate j % coordinateCount of handset j / coordinateCount, and number j of the other an end of edge j / endCount.
 --
 --     word-below, signed-word, word-signed     a signed coordinate and the number in its bytes; shifted-word, shifted-raised: the same plus 2 ^ 31, and back
 --     coordinate-place                         where a coordinate's bytes stand in the part of the handset records
 --     first-place, second-place                where the ends of an edge stand in the part of the edge records
---     coordinate-written, end-written            what is read there
+--     coordinate-written, end-written          what is read there
 --     coordinate-raised, out-of-limits         the same plus 2 ^ 31, and its limits
 --     record-numbers                           the theorem of specs/Layout
 use Prim.Native.Nat.{ℕ, _+_, _*_, _-_, _≤_, _<_}

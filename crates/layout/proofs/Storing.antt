@@ -1,10 +1,10 @@
--- Laws for the code that writes an image: a write at a place that is there, counts within their limits, and the parts of an image one after the other.
+-- Laws for the code that writes an image: a write at a place that is there, the tests of `put_image`, and the parts of an image one after the other.
 --
---     next             one write more, into a list whose length is known
---     getD-word        a number of a coordinate table as the word that is written
---     parts            the two halves of the header and the two tables, written one after the other, are the image
---     Fitting, fitting what all tests say
---     writes-by         whether the image is written, where the counts fit; writes-yes, -no: what `put_image` does then
+--     next                one write more, into a list whose length is known
+--     getD-word           a number of a coordinate table as the word that is written
+--     parts               the two halves of the header and the two tables, written one after the other, are the image
+--     Fitting, fitting    what all tests say
+--     writes-by           whether the image is written, where the counts fit; writes-yes, -no: what `put_image` does then
 use Prim.Native.Nat.{ℕ, zero, suc, _+_, _*_, _≤_}
 use native.Mathlib.Omega.{arith}
 use mathlib.Core.Path.{_≡_, refl, sym, ap, ap₂, _∙_, subst}

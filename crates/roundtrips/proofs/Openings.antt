@@ -1,9 +1,9 @@
 -- Two images whose parameters and records are the same get the same answers to questions 7 to 10: these four let every header through, or are one
 -- refusal, whatever header comes after them.
 --
---     SameRecords s t         the images s and t have the same parameters and the same records
+--     SameRecords s t   the images s and t have the same parameters and the same records
 --     SameOpening s t   both images are accepted, or both are refused with the same number, 7 to 10, and place
---     same-opening      that is so where they are same and both headers are accepted
+--     same-opening      that is so where their parameters and records are the same and both headers are accepted
 use Prim.Native.Nat.{ℕ, _≤_}
 use native.Mathlib.Omega.{arith}
 use mathlib.Core.Path.{_≡_, refl, sym, _∙_}

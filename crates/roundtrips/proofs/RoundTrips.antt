@@ -4,11 +4,11 @@
 --     answer-is, buffer-is         the call's answer, and the buffer after it
 --     granted, front, reads-back   what is written is read back
 --     asked-of, records-of         the tables that an image holds pass 3, 5 and 6, and their image has its records
---     image-opening, accepted-image    so the two are both accepted, or refused with the same number and place
+--     image-opening                so the two are both accepted, or refused with the same number and place; accepted-image: the first where one is
 --     writer-too, image-too        a refusal of such an image is the writer's, and one of the writer's is the image's, but for 20
---     no-longer                    and no longer than it
---     too-short                    20 where the buffer is
---     written-again                an accepted image's tables are written, and what is written has the image's outcome
+--     no-longer                    the image written is no longer than one that holds its tables
+--     too-short                    an accepted image's tables are refused with 20 where the buffer is too short
+--     written-again                they are written where it is not, and what is written has the image's outcome
 --     round-trips                  the theorem
 use Prim.Native.Nat.{ℕ, _+_, _*_, _≤_, _<_}
 use native.Mathlib.Omega.{arith}

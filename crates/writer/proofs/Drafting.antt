@@ -5,7 +5,7 @@
 --     Asked                questions 3, 5 and 6 got a yes (layout/proofs/Reading); writes-asked: then the image is written where there is room
 --     put-within           what is written is no longer than the draft; draft-image: and the part of it that is handed to the reader is the image
 --     tables-site          a header as answer: the three questions got a yes, and it is that of the image
---     Granted, encoded-length     a length as answer: the same, it is that of the image, and the buffer has room
+--     Granted              what a length as answer says: the same, it is that of the image, and the buffer has room (encoded-length)
 --     call-no, call-yes    so the call's outcome is as the definition has it
 use Prim.Native.Nat.{ℕ, _-_, _≤_}
 use native.Mathlib.Omega.{arith}
