@@ -46,7 +46,7 @@ drop-below b n l f i = omega (arith, getD-drop n l i 0, f (n + i))
 
 -- ---- the bytes of a number
 
-pub length-le-bytes : (w v : ℕ) → length (leBytes w v) ≡ w
+length-le-bytes : (w v : ℕ) → length (leBytes w v) ≡ w
 unfolding leBytes
 length-le-bytes zero v = refl
 length-le-bytes (suc w) v = ap suc (length-le-bytes w (v / 256))
@@ -91,10 +91,10 @@ module _ (s : List ℕ) (at v : ℕ) where
 -- ---- a number that was written
 
 -- a read at a place is a read at the front of what stands there
-pub le-drop : (w : ℕ) (s : List ℕ) (at : ℕ) → le w s at ≡ le w (drop at s) 0
+le-drop : (w : ℕ) (s : List ℕ) (at : ℕ) → le w s at ≡ le w (drop at s) 0
 le-drop w s at = le-cong w (drop at s) s 0 at (λ i h. sym (ap (λ (x : ℕ). getD (drop at s) x 0) (zero-add i) ∙ getD-drop at s i 0))
 
-pub le-written : (w v : ℕ) (rest : List ℕ) → v < 256 ^ w → le w (leBytes w v ++ rest) 0 ≡ v
+le-written : (w v : ℕ) (rest : List ℕ) → v < 256 ^ w → le w (leBytes w v ++ rest) 0 ≡ v
 unfolding leBytes
 le-written zero v rest h = omega arith
 le-written (suc w) v rest h =
@@ -107,7 +107,7 @@ number-at w v s at rest h l e = number-le w s at l ∙ le-drop w s at ∙ ap (λ
 
 -- ---- a number that was read
 
-pub le-below : (w : ℕ) (s : List ℕ) (at : ℕ) → Below 256 s → le w s at < 256 ^ w
+le-below : (w : ℕ) (s : List ℕ) (at : ℕ) → Below 256 s → le w s at < 256 ^ w
 le-below zero s at small = omega arith
 le-below (suc w) s at small = omega (arith, pow-succ' 256 w, small at, le-below w s (at + 1) small)
 
@@ -119,7 +119,7 @@ number-below w s at small = go (leb (at + w) (length s))
     go true = le-below w s at small
     go false = omega (arith, le-below w s at small)
 
-pub le-read : (w : ℕ) (s : List ℕ) (at : ℕ) → Below 256 s → at + w ≤ length s → leBytes w (le w s at) ≡ take w (drop at s)
+le-read : (w : ℕ) (s : List ℕ) (at : ℕ) → Below 256 s → at + w ≤ length s → leBytes w (le w s at) ≡ take w (drop at s)
 unfolding leBytes
 le-read zero s at small h = refl
 le-read (suc w) s at small h =
@@ -140,7 +140,7 @@ pub stored-none : (w : ℕ) (s : List ℕ) (at v : ℕ) → leb (at + w) (length
 unfolding stored
 stored-none w s at v e = ap (λ (b : Bool). cond b (sets s at (leBytes w v)) s) e
 
-pub length-stored : (w : ℕ) (s : List ℕ) (at v : ℕ) → length (stored w s at v) ≡ length s
+length-stored : (w : ℕ) (s : List ℕ) (at v : ℕ) → length (stored w s at v) ≡ length s
 unfolding stored
 length-stored w s at v = go (leb (at + w) (length s))
   where

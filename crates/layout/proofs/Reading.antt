@@ -37,7 +37,7 @@ module _ (x : Parameters) (coords : List ℤ) (ends : List ℕ) where
   abbrev h : Header
   h = headerFor x
 
-  pub length-image : length image ≡ headerBytes + (coordinateBytes * length coords + endBytes * length ends)
+  length-image : length image ≡ headerBytes + (coordinateBytes * length coords + endBytes * length ends)
   unfolding imageOf headerPart leBytes
   length-image =
       omega (arith, length-append (handsetPart coords) (edgePart ends), length-table-bytes coordinateBytes (map word32 coords), length-table-bytes endBytes ends, length-map coords word32)

@@ -4,15 +4,15 @@
 --     getD-word           a number of a coordinate table as the word that is written
 --     parts               the two halves of the header and the two tables, written one after the other, are the image
 --     Fitting, fitting    what all tests say
---     writes-by           whether the image is written, where the counts fit; writes-yes, -no: what `put_image` does then
-use Prim.Native.Nat.{ℕ, zero, suc, _+_, _*_, _≤_}
+--     writes-by           whether the image is written, where the counts fit; uncounted: it is not where they do not; writes-yes, -no: what `put_image` does then
+use Prim.Native.Nat.{ℕ, _+_, _*_, _≤_}
 use native.Mathlib.Omega.{arith}
 use mathlib.Core.Path.{_≡_, refl, sym, ap, ap₂, _∙_, subst}
 use mathlib.Core.Bool.{Bool, true, false, _&&_, cond}
-use mathlib.Core.List.{List, [], _∷_, _++_, map}
+use mathlib.Core.List.{List, _++_, map}
 use lib.Dec.{T, leb, eqb, leb→le, eqb→eq}
 use lib.IntN.{ℤ, pos}
-use lib.ListN.{length, getD, length-map}
+use lib.ListN.{length, getD, length-map, List·getD-map}
 use lib.Seq.{sets, length-sets}
 use Rattle.sets.proofs.Tests.{T-true, and-left, and-right}
 use Rattle.sets.proofs.Writing.{sets-append}
@@ -35,9 +35,7 @@ next s l k w at v f e h = (
 
 pub getD-word : (coords : List ℤ) (i : ℕ) → word32 (getD coords i (pos 0)) ≡ getD (map word32 coords) i 0
 unfolding word32
-getD-word [] i = refl
-getD-word (z ∷ coords) zero = refl
-getD-word (z ∷ coords) (suc i) = getD-word coords i
+getD-word coords i = sym (List·getD-map word32 coords i (pos 0))
 
 header-parts : (x : Parameters) → countsPart (x .n) (x .m) (headerFor x .edges) (headerFor x .len) ++ thresholdsPart (x .limit) (x .p) (x .q) (x .mu) ≡ headerPart (headerFor x)
 unfolding countsPart thresholdsPart headerPart leBytes
@@ -96,6 +94,10 @@ module _ (x : Parameters) (coords : List ℤ) (ends s : List ℕ) where
   pub writes-by : (b : Bool) → T (countsFit (x .n) (x .m)) → (lengthsFit x (length coords) (length ends) && leb (headerFor x .len) (length s)) ≡ b
       → writes x (length coords) (length ends) (length s) ≡ b
   writes-by b c e = ap (λ (a : Bool). a && (lengthsFit x (length coords) (length ends) && leb (headerFor x .len) (length s))) (T-true (countsFit (x .n) (x .m)) c) ∙ e
+
+  -- of counts that do not
+  pub uncounted : countsFit (x .n) (x .m) ≡ false → writes x (length coords) (length ends) (length s) ≡ false
+  uncounted e = ap (λ (a : Bool). a && (lengthsFit x (length coords) (length ends) && leb (headerFor x .len) (length s))) e
 
   pub writes-yes : {s′ : List ℕ} {r : ℕ} → writes x (length coords) (length ends) (length s) ≡ true → s′ ≡ sets s 0 (imageOf x coords ends) → r ≡ headerFor x .len
       → Put x coords ends s r s′

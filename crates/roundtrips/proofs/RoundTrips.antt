@@ -1,6 +1,7 @@
 -- The theorem of specs/RoundTrips. The writer's questions 7 to 10 are the reader's, of the records that the tables make. So where 3, 5 and 6 get a yes, the
 -- writer's answer is the reader's answer to the image written, but for 20; and that image has the records of every image that holds the tables (proofs/Openings).
 --
+--     Granted, encoded-length      what a length as the answer says
 --     answer-is, buffer-is         the call's answer, and the buffer after it
 --     granted, front, reads-back   what is written is read back
 --     asked-of, records-of         the tables that an image holds pass 3, 5 and 6, and their image has its records
@@ -12,7 +13,7 @@
 --     round-trips                  the theorem
 use Prim.Native.Nat.{ℕ, _+_, _*_, _≤_, _<_}
 use native.Mathlib.Omega.{arith}
-use mathlib.Core.Path.{_≡_, sym, ap, _∙_, subst}
+use mathlib.Core.Path.{_≡_, refl, sym, ap, _∙_, subst}
 use mathlib.Core.Logic.{_⊎_, inl, inr, ⊎-elim}
 use mathlib.Core.Bool.{Bool, true, false, cond}
 use mathlib.Core.List.{List}
@@ -40,7 +41,7 @@ use Rattle.writer.specs.Writer.{tablesAnswer, encodedFor, encodedOf, bufferFor,
 use Rattle.writer.specs.declared.Encoded.{Encoded}
 use Rattle.writer.specs.declared.Encoded.the-variants as E
 use Rattle.writer.proofs.Answers.{encoded-same}
-use Rattle.writer.proofs.Drafting.{by-reader, Granted, encoded-length}
+use Rattle.writer.proofs.Drafting.{by-reader, tables-site}
 use Rattle.roundtrips.specs.RoundTrips.{parametersOf, Holds, ReadsBack, SameOutcome, RoundTrips}
 use Rattle.roundtrips.proofs.Tables.{handsets-are, edges-are, image-holds, tables-of}
 use Rattle.roundtrips.proofs.Openings.{SameRecords, SameOpening, same-opening}
@@ -65,6 +66,33 @@ only-20 q true k e = no-length (sym e)
 only-20 q false k e = ap (λ (p : Refusal). p .number) (same-no e)
 
 -- ---- the writer's answer
+
+-- what a length as the answer says
+pub record Granted (x : Parameters) (coords : List ℤ) (ends : List ℕ) (room k : ℕ) : Type 0 where
+  pub asked : Asked x coords ends
+  pub site : tablesAnswer x coords ends ≡ O.Site (headerFor x)
+  pub size : k ≡ headerFor x .len
+  pub fits : k ≤ room
+
+encoded-length : (x : Parameters) (coords : List ℤ) (ends : List ℕ) (room k : ℕ) → encodedOf x coords ends room ≡ E.Length k → Granted x coords ends room k
+unfolding encodedOf
+encoded-length x coords ends room k e = go (tablesAnswer x coords ends) refl e
+  where
+    fitting : (h : Header) → tablesAnswer x coords ends ≡ O.Site h → (b : Bool) → leb (h .len) room ≡ b → cond b (E.Length (h .len)) (E.Refused (refusal 20)) ≡ E.Length k
+        → Granted x coords ends room k
+    fitting h s true e d =
+        let a = tables-site x coords ends h s in
+        let same : h .len ≡ k = cc in record {
+          asked = a .0;
+          site = s ∙ ap O.Site (a .1);
+          size = sym same ∙ ap (λ (g : Header). g .len) (a .1);
+          fits = subst (λ (j : ℕ). j ≤ room) same (leb→le (h .len) room (subst T (sym e) tt));
+        }
+    fitting h s false e d = let z : _≡_ {A = ℕ} 0 1 = cc in absurd (omega arith)
+
+    go : (o : Opened) → tablesAnswer x coords ends ≡ o → encodedFor o room ≡ E.Length k → Granted x coords ends room k
+    go (O.Site h) s d = fitting h s (leb (h .len) room) refl d
+    go (O.Refused r) s d = let z : _≡_ {A = ℕ} 0 1 = cc in absurd (omega arith)
 
 module _ (x : Parameters) (coords : List ℤ) (ends l : List ℕ) (r : Encoded) (l′ : List ℕ) (call : WriteCall x coords ends l r l′) where
   answer-is : r ≡ encodedFor (tablesAnswer x coords ends) (length l)

@@ -1,13 +1,12 @@
--- Laws for the writer's code: its questions one by one, the draft that it puts 7 to 10 to, and what its answer says of the buffer.
+-- Laws for the writer's code: its questions one by one, the draft that it puts 7 to 10 to, and the call's outcome.
 --
 --     no-3, no-5, no-6     the answer where a question gets a no and those before it a yes
 --     by-reader            where all three get a yes, it is the reader's answer to the image
 --     Asked                questions 3, 5 and 6 got a yes (layout/proofs/Reading); writes-asked: then the image is written where there is room
 --     put-within           what is written is no longer than the draft; draft-image: and the part of it that is handed to the reader is the image
 --     tables-site          a header as answer: the three questions got a yes, and it is that of the image
---     Granted              what a length as answer says: the same, it is that of the image, and the buffer has room (encoded-length)
---     call-no, call-yes    so the call's outcome is as the definition has it
-use Prim.Native.Nat.{ℕ, _-_, _≤_}
+--     call-no, -short, -yes    so the call's outcome is as the definition has it
+use Prim.Native.Nat.{ℕ, _-_, _≤_, _<_}
 use native.Mathlib.Omega.{arith}
 use native.Mathlib.Nat.{sub-zero}
 use mathlib.Core.Path.{_≡_, refl, sym, ap, ap₂, _∙_, subst}
@@ -17,7 +16,7 @@ use lib.Dec.{T, leb, leb→le}
 use lib.IntN.{ℤ}
 use lib.ListN.{length, take, drop, length-replicate}
 use lib.Seq.{sets, length-sets, take-at}
-use borrow.Author.Tests.{le-leb}
+use borrow.Author.Tests.{le-leb, lt-leb}
 use Rattle.sets.proofs.Tests.{T-true, and-right}
 use Rattle.sets.proofs.Writing.{sets-front}
 use Rattle.image.specs.Answers.{refusal}
@@ -110,49 +109,30 @@ module _ (x : Parameters) (coords : List ℤ) (ends : List ℕ) where
       ap (λ (k : ℕ). take k s′) (sub-zero r) ∙ ap₂ (λ (k : ℕ) (l : List ℕ). take k l) (there .1) (there .0)
       ∙ take-at (imageOf x coords ends) (drop (headerFor x .len) (zeros imageMost)) (headerFor x .len) (asked-length x coords ends ok)
 
-  -- ---- the answer
+  -- ---- the call's outcome, by the answer to the tables
 
-  -- what a length as the answer says
-  pub record Granted (room k : ℕ) : Type 0 where
-    pub asked : Asked x coords ends
-    pub site : tablesAnswer x coords ends ≡ O.Site (headerFor x)
-    pub size : k ≡ headerFor x .len
-    pub fits : k ≤ room
+  outcome : (l : List ℕ) (a : Encoded) (l′ : List ℕ) → encodedOf x coords ends (length l) ≡ a → l′ ≡ bufferFor a (imageOf x coords ends) l → WriteCall x coords ends l a l′
+  unfolding bufferAfter
+  outcome l a l′ e d = record { answer = ap encodedAnswer (sym e); buffer = d ∙ sym (ap (λ (b : Encoded). bufferFor b (imageOf x coords ends) l) e) }
 
-  pub encoded-length : (room k : ℕ) → encodedOf x coords ends room ≡ E.Length k → Granted room k
+  pub call-no : (l : List ℕ) (q : Refusal) → tablesAnswer x coords ends ≡ O.Refused q → WriteCall x coords ends l (E.Refused q) l
   unfolding encodedOf
-  encoded-length room k e = go (tablesAnswer x coords ends) refl e
-    where
-      fitting : (h : Header) → tablesAnswer x coords ends ≡ O.Site h → (b : Bool) → leb (h .len) room ≡ b → cond b (E.Length (h .len)) (E.Refused (refusal 20)) ≡ E.Length k
-          → Granted room k
-      fitting h s true e d =
-          let a = tables-site h s in
-          let same : h .len ≡ k = cc in record {
-            asked = a .0;
-            site = s ∙ ap O.Site (a .1);
-            size = sym same ∙ ap (λ (g : Header). g .len) (a .1);
-            fits = subst (λ (j : ℕ). j ≤ room) same (leb→le (h .len) room (subst T (sym e) tt));
-          }
-      fitting h s false e d = let z : _≡_ {A = ℕ} 0 1 = cc in absurd (omega arith)
+  call-no l q e = outcome l (E.Refused q) l (ap (λ (o : Opened). encodedFor o (length l)) e) refl
 
-      go : (o : Opened) → tablesAnswer x coords ends ≡ o → encodedFor o room ≡ E.Length k → Granted room k
-      go (O.Site h) s d = fitting h s (leb (h .len) room) refl d
-      go (O.Refused r) s d = let z : _≡_ {A = ℕ} 0 1 = cc in absurd (omega arith)
+  -- of a header, question 20
+  asked-room : (h : Header) (room : ℕ) (b : Bool) → tablesAnswer x coords ends ≡ O.Site h → leb (h .len) room ≡ b
+      → encodedOf x coords ends room ≡ cond b (E.Length (h .len)) (E.Refused (refusal 20))
+  unfolding encodedOf
+  asked-room h room b e d =
+      ap (λ (o : Opened). encodedFor o room) e ∙ ap (λ (c : Bool). cond c (E.Length (h .len)) (E.Refused (refusal 20))) d
 
-  pub call-no : (l : List ℕ) (r : Encoded) (q : Refusal) → r ≡ encodedOf x coords ends (length l) → r ≡ E.Refused q → WriteCall x coords ends l r l
-  unfolding bufferAfter
-  call-no l r q e d = record {
-    answer = ap encodedAnswer e;
-    buffer = sym (ap (λ (a : Encoded). bufferFor a (imageOf x coords ends) l) (sym e ∙ d));
-  }
+  pub call-short : (l : List ℕ) (h : Header) → tablesAnswer x coords ends ≡ O.Site h → length l < h .len → WriteCall x coords ends l (E.Refused (refusal 20)) l
+  call-short l h e s = outcome l (E.Refused (refusal 20)) l (asked-room h (length l) false e (lt-leb (h .len) (length l) s)) refl
 
-  pub call-yes : (l : List ℕ) (r : Encoded) (k j : ℕ) (l′ : List ℕ) → r ≡ encodedOf x coords ends (length l) → r ≡ E.Length k → Put x coords ends l j l′ → WriteCall x coords ends l r l′
-  unfolding bufferAfter
-  call-yes l r k j l′ e d p =
-      let g = encoded-length (length l) k (sym e ∙ d) in record {
-        answer = ap encodedAnswer e;
-        buffer =
-            put-there (g .asked) l j l′ (omega (arith, g .size, g .fits)) p .0
-            ∙ ap (λ (i : ℕ). imageOf x coords ends ++ drop i l) (sym (g .size))
-            ∙ sym (ap (λ (b : Encoded). bufferFor b (imageOf x coords ends) l) (sym e ∙ d));
-      }
+  pub call-yes : (l : List ℕ) (h : Header) (r : ℕ) (l′ : List ℕ) → tablesAnswer x coords ends ≡ O.Site h → h .len ≤ length l → Put x coords ends l r l′
+      → WriteCall x coords ends l (E.Length (h .len)) l′
+  call-yes l h r l′ e s p =
+      let a = tables-site h e in
+      let len : h .len ≡ headerFor x .len = ap (λ (g : Header). g .len) (a .1) in
+      outcome l (E.Length (h .len)) l′ (asked-room h (length l) true e (le-leb (h .len) (length l) s))
+      (put-there (a .0) l r l′ (omega arith) p .0 ∙ ap (λ (k : ℕ). imageOf x coords ends ++ drop k l) (sym len))

@@ -3,7 +3,7 @@
 // The definitions are in specs/Writer. Questions 7 to 10 are put by the reader itself, to a draft: the caller's buffer gets no byte before all questions, and 20,
 // have a yes. What the reader and the other calls make of what is written is said by the crate `roundtrips`.
 ghost use mathlib.Core.Path.{_≡_};
-ghost use Rattle.writer.specs.Writer.{tablesAnswer, encodedFor, WriteCall};
+ghost use Rattle.writer.specs.Writer.{tablesAnswer, WriteCall};
 use image::Opened;
 use image::Refusal;
 use layout::Parameters;
@@ -41,33 +41,21 @@ fn ask_tables(x: Parameters, coordinates: &[i32], ends: &[u16]) -> Opened
     image::open(&draft[0..len])
 }
 
-// Question 20, of a buffer of room bytes, after the others.
-fn ask_room(asked: Opened, room: usize) -> Encoded
-    ensures { λ r. ⌜ r ≡ encodedFor asked room ⌝ }
-{
-    match asked {
-        Opened::Site(h) => {
-            if room < h.len as usize {
-                Encoded::Refused(Refusal {
-                    number: 20,
-                    place: 0,
-                })
-            } else {
-                Encoded::Length(h.len as usize)
-            }
-        }
-        Opened::Refused(r) => Encoded::Refused(r),
-    }
-}
-
 // Writes the image of a site at the front of the buffer, from the coordinates of each handset in turn and the two ends of each edge in turn.
 pub fn write(x: Parameters, coordinates: &[i32], ends: &[u16], buffer: &mut [u8]) -> Encoded
     ensures { λ r. ⌜ WriteCall x (now (coordinates .entry)) (now (ends .entry)) (now (buffer .entry)) r (now (buffer .exit)) ⌝ }
 {
-    let answer = ask_room(ask_tables(x, coordinates, ends), buffer.len());
-    let Encoded::Length(_) = answer else {
-        return answer;
+    let asked = ask_tables(x, coordinates, ends);
+    let Opened::Site(h) = asked else {
+        return Encoded::Refused(image::refusal_of(asked));
     };
+    let len = h.len as usize;
+    if buffer.len() < len {
+        return Encoded::Refused(Refusal {
+            number: 20,
+            place: 0,
+        });
+    }
     layout::put_image(buffer, x, coordinates, ends);
-    answer
+    Encoded::Length(len)
 }

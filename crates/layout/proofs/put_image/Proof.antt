@@ -1,6 +1,6 @@
 -- `layout::put_image` meets its contract. With counts within their limits no number wraps; where the tables are those of the counts the four parts follow one
 -- another, and stand in a buffer that holds the image.
-use Prim.Native.Nat.{ℕ, _+_, _*_}
+use Prim.Native.Nat.{ℕ, _+_, _*_, _≤_}
 use native.Mathlib.Omega.{arith}
 use mathlib.Core.Path.{_≡_, refl, sym, ap, _∙_, subst}
 use mathlib.Core.Bool.{Bool, true, false, _&&_}
@@ -14,13 +14,16 @@ use Rattle.fields.specs.Fields.{coordinateBytes, countsFit}
 use Rattle.image.specs.Image.{headerBytes}
 use Rattle.image.proofs.Acceptance.{counts-limits}
 use Rattle.layout.specs.Layout.{headerFor, edgePart, lengthsFit}
-use Rattle.layout.proofs.Storing.{parts, Fitting, fitting, writes-by, writes-yes, writes-no}
+use Rattle.layout.proofs.Storing.{parts, Fitting, fitting, writes-by, uncounted, writes-yes, writes-no}
 use Rattle.layout.proofs.put_image.Statement.{statement}
 use Rattle.layout.proofs.put_image.Tie as tie
 
 -- what is known after the tests
 counted : (c : tie.Else1) → (let x = c .before .before .before .before .args .x in T (countsFit (x .n) (x .m)))
 counted c = subst T (sym (sym (c .before .counts-fit .ensures) ∙ not-false _ (c .if1 .left))) tt
+
+few : (c : tie.Else1) → (let x = c .before .before .before .before .args .x in (x .n ≤ 512) × (x .m ≤ 4096))
+few c = let x = c .before .before .before .before .args .x in counts-limits (x .n) (x .m) (counted c)
 
 whole : (c : tie.Else2)
     → (let a = c .before .before .before .before .before .before .args in
@@ -40,21 +43,20 @@ counts-fit-requires c κs = search needs
 returns : tie.Need-returns
 returns c =
     let a = c .before .before .before .before .args in
-    let f = sym (c .before .counts-fit .ensures) ∙ not-true _ (c .if1 .taken) in
     writes-no (a .x) (now (a .coordinates)) (now (a .ends)) (now (a .s))
-    (ap (λ (b : Bool). b && (lengthsFit (a .x) (length (now (a .coordinates))) (length (now (a .ends))) && leb (headerFor (a .x) .len) (length (now (a .s))))) f)
+    (uncounted (a .x) (now (a .coordinates)) (now (a .ends)) (now (a .s)) (sym (c .before .counts-fit .ensures) ∙ not-true _ (c .if1 .taken)))
 
 mul-edges : tie.Need-mul-edges
-mul-edges c = let k = counts-limits (c .before .before .before .before .args .x .n) (c .before .before .before .before .args .x .m) (counted c) in record { fits = omega (arith, k .0, k .1) }
+mul-edges c = let k = few c in record { fits = omega (arith, k .0, k .1) }
 
 add-edges : tie.Need-add-edges
-add-edges c = let k = counts-limits (c .before .before .before .before .args .x .n) (c .before .before .before .before .args .x .m) (counted c) in record { fits = omega (arith, k .0, k .1) }
+add-edges c = let k = few c in record { fits = omega (arith, k .0, k .1) }
 
 mul-len : tie.Need-mul-len
-mul-len c = let k = counts-limits (c .before .before .before .before .args .x .n) (c .before .before .before .before .args .x .m) (counted c) in record { fits = omega (arith, k .0, k .1) }
+mul-len c = let k = few c in record { fits = omega (arith, k .0, k .1) }
 
 add-len : tie.Need-add-len
-add-len c = let k = counts-limits (c .before .before .before .before .args .x .n) (c .before .before .before .before .args .x .m) (counted c) in record { fits = omega (arith, k .0, k .1) }
+add-len c = let k = few c in record { fits = omega (arith, k .0, k .1) }
 
 lengths-fit-requires : tie.Need-lengths-fit-requires
 lengths-fit-requires c κs = search needs
