@@ -13,8 +13,10 @@ use Rattle.sets.specs.Below.{count, select, sum}
 use Rattle.sets.proofs.Tests.{and-make, and-left, and-right, or-left, or-right, or-cases, decide, any-take, eqb-of, T-true, T-false}
 use Rattle.sets.proofs.Selecting.{map-append, select-yes, select-no, length-select}
 use Rattle.sets.proofs.Counting.{count-pairs, count-le, count-false, count-eqb, count-or, count-swap, sum-le, sum-add, sum-const}
-use Rattle.image.specs.Image.{neighbour, adjacent, edgeCount, edgeRecords, handsetCount, joins, endA, endB}
+use Rattle.image.specs.Image.{adjacent, edgeCount, edgeRecords, handsetCount, joins, endA, endB}
+use Rattle.image.specs.Near.{neighbour}
 use Rattle.image.specs.Questions.{Accepted}
+use Rattle.image.proofs.Near.{neighbour-cases}
 use Rattle.community.specs.Network.{Network, similar, meetsEpsilon, commonNeighbours, neighbourhoodSize, isCore, step, Reachable, one, more, reachable, isLeader, leaders, members, communities}
 use Rattle.community.specs.Tables.{memberTable}
 use Rattle.community.specs.Renumbered.{SamePair}
@@ -120,7 +122,7 @@ touches part v k = eqb (endA part k) v || eqb (endB part k) v
 
 -- a neighbour other than v has its edge with v
 others-edges : (s : List ℕ) (v : ℕ) → count (handsetCount s) (others (network s) v) ≤ count (edgeCount s) (touches (edgeRecords s) v)
-unfolding others neighbour adjacent
+unfolding others adjacent
 others-edges s v =
     let part : List ℕ = edgeRecords s in
     count-pairs (handsetCount s) (others (network s) v) (edgeCount s) (touches part v)
@@ -128,8 +130,7 @@ others-edges s v =
       pair = λ w h t.
           let apart : w ≡ v → ⊥ = λ e. T-not (eqb w v) (and-right (neighbour s w v) (not (eqb w v)) t) (eqb-of w v e) in
           let edge : T (adjacent s w v) =
-          ⊎-elim (λ e. absurd (apart (eqb→eq w v e))) (λ x. and-left (adjacent s w v) _ x)
-          (or-cases (eqb w v) _ (and-left (neighbour s w v) (not (eqb w v)) t)) in
+          ⊎-elim (λ e. absurd (apart e)) (λ x. x) (neighbour-cases s w v (and-left (neighbour s w v) (not (eqb w v)) t)) in
           let m = any-take (edgeCount s) (joins part w v) edge in
           let j : SamePair (endA part (m .0)) (endB part (m .0)) w v = joins-take part w v (m .0) (m .2) in (
             m .0,

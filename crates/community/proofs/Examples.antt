@@ -1,13 +1,15 @@
 -- The examples of the papers: the definitions compute to what the papers say.
 use mathlib.Core.Path.{refl}
-use Rattle.image.specs.Image.{headerOf, neighbour, mu}
+use Rattle.image.specs.Image.{headerOf, mu}
+use Rattle.image.specs.Near.{proximity, neighbour}
 use Rattle.image.specs.Questions.{openOf}
 use Rattle.community.specs.Network.{neighbourhoodSize, commonNeighbours, similar, cores, communities, role}
 use Rattle.community.specs.Tables.{startTable}
+use Rattle.community.specs.Reach.{reach}
 use Rattle.community.specs.Examples.{Examples}
 
 pub examples : Examples
-unfolding openOf headerOf neighbour mu neighbourhoodSize commonNeighbours similar cores communities role startTable
+unfolding openOf headerOf proximity neighbour mu neighbourhoodSize commonNeighbours similar cores communities role startTable reach
 examples = record {
   accepted-S = refl;
   cores-mu4 = refl;
@@ -26,13 +28,19 @@ examples = record {
   size-3 = refl;
   similar-577 = refl;
   dissimilar-578 = refl;
-  neighbours-5 = refl;
+  near-5 = refl;
   apart-4 = refl;
-  neighbours-5-negative = refl;
+  near-5-negative = refl;
   apart-4-negative = refl;
   accepted-nobody = refl;
   communities-nobody = refl;
   starts-nobody = refl;
   communities-lone = refl;
   outlier-lone = refl;
+  reach-first = refl;
+  reach-second = refl;
+  reach-5 = refl;
+  reach-4 = refl;
+  reach-one-end = refl;
+  reach-lone = refl;
 }

@@ -22,7 +22,8 @@ use Rattle.sets.proofs.Counting.{to-apart, inverse, count-le, sum-across}
 use Rattle.bytes.specs.Bytes.{number}
 use Rattle.fields.specs.Fields.{handsetBytes, coreSize}
 use Rattle.bytes.proofs.Bytes.{number-cong}
-use Rattle.image.specs.Image.{headerOf, handsetCount, edgeCount, limitSquared, epsilonNum, epsilonDen, mu, handsetRecords, edgeRecords, handsetRecord, distanceSquared, endA, endB, joins, adjacent, within, neighbour}
+use Rattle.image.specs.Image.{headerOf, handsetCount, edgeCount, limitSquared, mu, handsetRecords, edgeRecords, handsetRecord, endA, endB, joins, adjacent}
+use Rattle.image.specs.Near.{proximity, isNear, neighbour}
 use Rattle.image.specs.Questions.{outOfLimits, badEnd, isLoop, repeatsEarlier, HeaderAccepted, Accepted}
 use Rattle.image.specs.declared.Header.{Header}
 use Rattle.image.proofs.Acceptance.{handsets-length, ends-below}
@@ -97,10 +98,6 @@ module _ (s t : List ℕ) (r : Renumbered s t) (ok : Accepted s) where
       (λ i l. let k : i < handsetBytes = omega (arith, long-t, l) in
       record-at (handsetRecords t) to i k ∙ r .records v i h k ∙ sym (record-at (handsetRecords s) v i k))
 
-  within-moved : (u v : ℕ) → u < handsetCount s → v < handsetCount s → within t (r .map .to u) (r .map .to v) ≡ within s u v
-  unfolding within distanceSquared
-  within-moved u v h k = rw (record-moved u h, record-moved v k, same-limit)
-
   -- ---- edges
 
   ends : (k : ℕ) → k < edgeCount s → (endA (edgeRecords s) k < handsetCount s) × (endB (edgeRecords s) k < handsetCount s)
@@ -152,13 +149,20 @@ module _ (s t : List ℕ) (r : Renumbered s t) (ok : Accepted s) where
       (λ x. eqb-of (r .map .to u) (r .map .to v) (ap (r .map .to) (eqb→eq u v x)))
 
   -- ---- the network
+  proximity-moved : (u v : ℕ) → u < handsetCount s → v < handsetCount s → proximity t (r .map .to u) (r .map .to v) ≡ proximity s u v
+  unfolding proximity
+  proximity-moved u v hu hv =
+      rw (
+        eqb-moved u v hu hv,
+        T-ext (adjacent t (r .map .to u) (r .map .to v)) (adjacent s u v) (adjacent-from u v hu hv) (adjacent-to u v),
+        record-moved u hu,
+        record-moved v hv,
+        same-limit,
+      )
+
   pub moved : Moved (network s) (neighbour t) (r .map)
   unfolding neighbour
-  moved u v hu hv =
-      ap₂ _||_ (eqb-moved u v hu hv)
-      (ap₂ _&&_
-      (T-ext (adjacent t (r .map .to u) (r .map .to v)) (adjacent s u v) (adjacent-from u v hu hv) (adjacent-to u v))
-      (within-moved u v hu hv))
+  moved u v hu hv = ap isNear (proximity-moved u v hu hv)
 
   pub network-moved : network t ≡ withNeighbour (network s) (neighbour t)
   unfolding mu

@@ -12,12 +12,15 @@ use Prim.Native.Nat.{ℕ, _/_, _%_}
 use mathlib.Core.Path.{_≡_}
 use mathlib.Core.Bool.{true, false}
 use mathlib.Core.List.{List, [], _∷_}
-use Rattle.image.specs.Image.{headerOf, neighbour}
+use Rattle.image.specs.Image.{headerOf}
+use Rattle.image.specs.Near.{proximity}
 use Rattle.image.specs.Questions.{openOf}
 use Rattle.image.specs.declared.Opened.the-variants.{Site}
+use Rattle.image.specs.declared.Proximity.the-variants.{Near, NotNear}
 use Rattle.community.specs.Network.{neighbourhoodSize, commonNeighbours, similar, cores, communities, role}
 use Rattle.community.specs.Tables.{startTable}
 use Rattle.community.specs.Site.{network}
+use Rattle.community.specs.Reach.{reach}
 use Rattle.community.specs.declared.Role.the-variants.{Border, Outlier}
 
 abbrev pub siteS : ℕ → ℕ → ℕ → List ℕ
@@ -62,10 +65,10 @@ pub record Examples : Type 0 where
   pub similar-577 : similar (network (siteS 577 1000 4)) 2 3 ≡ true
   pub dissimilar-578 : similar (network (siteS 578 1000 4)) 2 3 ≡ false
   -- tied at (0,0) and (1,2): near at G = 5, not at 4; the same at (-1,-1) and (0,1)
-  pub neighbours-5 : neighbour (pair 5) 0 1 ≡ true
-  pub apart-4 : neighbour (pair 4) 0 1 ≡ false
-  pub neighbours-5-negative : neighbour (pairNeg 5) 0 1 ≡ true
-  pub apart-4-negative : neighbour (pairNeg 4) 0 1 ≡ false
+  pub near-5 : proximity (pair 5) 0 1 ≡ Near 5
+  pub apart-4 : proximity (pair 4) 0 1 ≡ NotNear
+  pub near-5-negative : proximity (pairNeg 5) 0 1 ≡ Near 5
+  pub apart-4-negative : proximity (pairNeg 4) 0 1 ≡ NotNear
   -- n = 0: no groups, start table 0
   pub accepted-nobody : openOf nobody ≡ Site (headerOf nobody)
   pub communities-nobody : communities (network nobody) ≡ []
@@ -73,3 +76,10 @@ pub record Examples : Type 0 where
   -- n = 1, mu 1: one group {0}; mu 2: an outlier
   pub communities-lone : communities (network (lone 1)) ≡ (0 ∷ []) ∷ []
   pub outlier-lone : role (network (lone 2)) 0 ≡ Outlier
+  -- paper 02, order 6: both groups of site S have the reach 0; of two handsets the reach is their distance where they are near, and none else; one has none
+  pub reach-first : reach (siteS 1 2 4) (0 ∷ 1 ∷ 2 ∷ 3 ∷ []) ≡ Near 0
+  pub reach-second : reach (siteS 1 2 4) (3 ∷ 4 ∷ 5 ∷ 6 ∷ []) ≡ Near 0
+  pub reach-5 : reach (pair 5) (0 ∷ 1 ∷ []) ≡ Near 5
+  pub reach-4 : reach (pair 4) (0 ∷ 1 ∷ []) ≡ NotNear
+  pub reach-one-end : reach (pair 5) (1 ∷ []) ≡ NotNear
+  pub reach-lone : reach (lone 1) (0 ∷ []) ≡ NotNear

@@ -3,5 +3,7 @@ pub mod Held
 pub mod Tables
 pub mod Scores
 pub mod Site
+pub mod Older
+pub mod Reach
 pub mod Renumbered
 pub mod Examples

@@ -3,7 +3,8 @@
 --     network s    the image's handsets, neighbours, epsilon and mu
 use mathlib.Core.List.{List}
 use Prim.Native.Nat.{ℕ}
-use Rattle.image.specs.Image.{handsetCount, neighbour, epsilonNum, epsilonDen, mu}
+use Rattle.image.specs.Image.{handsetCount, epsilonNum, epsilonDen, mu}
+use Rattle.image.specs.Near.{neighbour}
 use Rattle.community.specs.Network.{Network}
 
 abbrev pub network : List ℕ → Network

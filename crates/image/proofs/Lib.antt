@@ -1,4 +1,5 @@
 pub mod Answers
+pub mod Near
 pub mod Records
 pub mod Acceptance
 pub mod Signed

@@ -3,18 +3,17 @@
 --     part-is           the part from a to a + k is the k bytes from a on
 --     handset-part      the part that a handset's record stands in is its record
 --     ends-part         the ends that the part of an edge's record holds are the edge's ends
---     within-records    two handsets of an image are within its distance just where their records are
-use Prim.Native.Nat.{ℕ, _+_, _*_, _-_, _≤_}
+--     coordinate-at     a coordinate read from the records is that of the handset's record
+use Prim.Native.Nat.{ℕ, _+_, _*_, _-_, _≤_, _<_}
 use native.Mathlib.Omega.{arith}
 use native.Mathlib.Nat.{add-zero, add-sub-cancel-left}
-use mathlib.Core.Path.{_≡_, refl, ap, _∙_}
+use mathlib.Core.Path.{_≡_, sym, ap, _∙_}
 use mathlib.Core.List.{List}
-use lib.Dec.{leb}
 use lib.ListN.{length, take, drop}
 use Rattle.bytes.specs.Bytes.{number}
-use Rattle.fields.specs.Fields.{handsetBytes, edgeBytes, endsOf}
+use Rattle.fields.specs.Fields.{coordinateBytes, coordinateCount, handsetBytes, edgeBytes, shifted, endsOf}
 use Rattle.bytes.proofs.Bytes.{number-part}
-use Rattle.image.specs.Image.{limitSquared, handsetRecords, handsetRecord, distanceBetween, distanceSquared, endA, endB, within}
+use Rattle.image.specs.Image.{handsetRecord, coordinateOf, endA, endB}
 
 pub part-is : (s : List ℕ) (a k : ℕ) → take (a + k - a) (drop a s) ≡ take k (drop a s)
 part-is s a k = ap (λ (x : ℕ). take x (drop a s)) (add-sub-cancel-left a k)
@@ -30,7 +29,8 @@ ends-part part k h =
     ap endsOf (part-is part (edgeBytes * k) edgeBytes)
     ∙ (λ i. record { a = (number-part 2 part (edgeBytes * k) edgeBytes 0 (omega arith) (omega arith) ∙ ap (number 2 part) (add-zero (edgeBytes * k))) i; b = number-part 2 part (edgeBytes * k) edgeBytes 2 (omega arith) (omega arith) i })
 
-pub within-records : (s : List ℕ) (u v : ℕ)
-    → within s u v ≡ leb (distanceBetween (handsetRecord (handsetRecords s) u) (handsetRecord (handsetRecords s) v)) (limitSquared s)
-unfolding within distanceSquared
-within-records s u v = refl
+pub coordinate-at : (part : List ℕ) (v i : ℕ) → i < coordinateCount
+    → shifted (number coordinateBytes part (handsetBytes * v + coordinateBytes * i)) ≡ coordinateOf (handsetRecord part v) i
+unfolding coordinateOf handsetRecord
+coordinate-at part v i h =
+    ap shifted (sym (number-part coordinateBytes part (handsetBytes * v) handsetBytes (coordinateBytes * i) (omega arith) (omega arith)))

@@ -1,21 +1,22 @@
 // The site image: its header and records, and the reader that puts questions 1 to 10 to it.
 //
 // `open` answers the header of an image that is accepted, or the number and place of the first no. `open_rows` also leaves behind what reading the edges
-// makes: a row for each handset, with itself and those that it is adjacent to, and the size of each row. `within` is the one test of whether two handsets are
-// near. Callers read the records themselves, and cite proofs/Answers (`open-same`), proofs/Acceptance (what an accepted image keeps to) and proofs/Records
+// makes: a row for each handset, with itself and those that it is adjacent to, and the size of each row. `proximity_of` is the one near test of two handsets.
+// Callers read the records themselves, and cite proofs/Answers (`open-same`), proofs/Acceptance (what an accepted image keeps to) and proofs/Records
 // (a record is the part of its table that it is read from).
 ghost use mathlib.Core.Path.{_≡_};
 ghost use mathlib.Core.Bool.{_&&_};
 ghost use Prim.Native.Nat.{_+_, _*_, _≤_, _<_};
-ghost use lib.Dec.{leb, ltb, eqb};
+ghost use lib.Dec.{ltb, eqb};
 ghost use lib.ListN.{length, take, drop};
 ghost use Rattle.sets.specs.Below.{find};
 ghost use Rattle.sets.specs.Bits.{cell, withBit};
 ghost use Rattle.sets.specs.Rows.{Table, Counted};
 ghost use Rattle.fields.specs.Fields.{handsetBytes, edgeBytes};
-ghost use Rattle.image.specs.Image.{headerOf, distanceBetween, endA, endB};
+ghost use Rattle.image.specs.Image.{headerOf, handsetRecord, endA, endB};
+ghost use Rattle.image.specs.Near.{proximityOf};
 ghost use Rattle.image.specs.Questions.{tablesFit, outOfLimits, ask, askEdges, askRecords, askHeader, askImage, openOf, refusalOf};
-ghost use Rattle.image.specs.Answers.{openAnswer};
+ghost use Rattle.image.specs.Answers.{openAnswer, proximityAnswer};
 ghost use Rattle.image.specs.Rows.{Room, Cleared, related, Held, Reading};
 ghost use Rattle.image.specs.Scan.{badRecord, Stand, linked, Added};
 
@@ -49,6 +50,12 @@ pub struct Refusal {
 pub enum Opened {
     Site(Header),
     Refused(Refusal),
+}
+
+// What the near test of two handsets answers: near with the squared distance, or not near.
+pub enum Proximity {
+    Near(u64),
+    NotNear,
 }
 
 // The header's numbers as they stand; 0 for one that is not there.
@@ -163,22 +170,31 @@ fn first_bad(question: u32, part: &[u8], count: usize, n: usize) -> usize
     k
 }
 
-// Whether two handsets, by their records, are no farther apart than the limit's root. What is left of the limit wraps only where the answer is a no.
-pub fn within(a: &[u8], b: &[u8], limit: u64) -> bool
-    ensures { λ r. ⌜ r ≡ leb (distanceBetween (now (a .entry)) (now (b .entry))) limit ⌝ }
+// The near test of handsets u and v of the handset records: near with their squared distance where that is at most the limit, else not near. A coordinate
+// that is not there counts as 0. What is left of the limit wraps only where they are not near.
+pub fn proximity_of(handsets: &[u8], u: u16, v: u16, limit: u64) -> Proximity
+    ensures { λ r. ⌜ proximityAnswer r ≡ proximityAnswer (proximityOf (handsetRecord (now (handsets .entry)) u) (handsetRecord (now (handsets .entry)) v) limit) ⌝ }
 {
+    let from = fields::HANDSET_BYTES * (u as usize);
+    let to = fields::HANDSET_BYTES * (v as usize);
     let mut fits = true;
     let mut room = limit;
     let mut i: usize = 0;
     while i < fields::COORDINATES {
         let at = fields::COORDINATE_BYTES * i;
-        let d = fields::squared_gap(fields::coordinate(a, at), fields::coordinate(b, at));
+        let a = fields::coordinate(handsets, from + at);
+        let b = fields::coordinate(handsets, to + at);
+        let d = fields::squared_gap(a, b);
         let covered = d <= room;
         fits = fits & covered;
         room = std::num::wrapping_sub_u64(room, d);
         i += 1;
     }
-    fits
+    if fits {
+        Proximity::Near(limit - room)
+    } else {
+        Proximity::NotNear
+    }
 }
 
 // Whether v is in row u.

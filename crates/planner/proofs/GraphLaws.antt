@@ -9,7 +9,7 @@
 --     edges-ready, short-ready, dissimilar-ready     the edges of the part and of the two sets stand there, and their ends are handsets
 --     told-yes, read-no, read-yes     what the reader tells, and so what is told and left of an image
 --     neighbours-kept, surveyed          the two steps that drop edges; neighbour-sizes: the sizes after the first
-use Prim.Native.Nat.{ℕ, _+_, _*_, _-_, _/_, _≤_, _<_, min}
+use Prim.Native.Nat.{ℕ, _+_, _*_, _-_, _≤_, _<_, min}
 use native.Mathlib.Omega.{arith}
 use native.Mathlib.Nat.{add-sub-cancel-left}
 use mathlib.Core.Path.{_≡_, refl, sym, ap, ap₂, _∙_, subst}
@@ -22,11 +22,12 @@ use lib.Seq.{length-take-le}
 use Rattle.sets.specs.Below.{any, bit, count, sum}
 use Rattle.sets.specs.Bits.{bitAt, cell}
 use Rattle.sets.specs.Rows.{SetOf, Table, Counted}
-use Rattle.sets.proofs.Tests.{and-make, and-left, and-right, or-left, or-right, or-cases, decide, T-true, T-false, T-ext, any-make, any-take, eqb-comm}
+use Rattle.sets.proofs.Tests.{and-make, and-left, and-right, or-left, or-right, or-cases, decide, T-true, T-false, T-ext, any-take, eqb-of, eqb-comm}
 use Rattle.sets.proofs.Counting.{bit-false, count-cong, count-sum, count-wide, count-at, sum-cong}
 use Rattle.fields.specs.Fields.{coreSize, handsetBytes, edgeBytes}
-use Rattle.image.specs.Image.{headerOf, handsetCount, edgeCount, limitSquared, epsilonNum, epsilonDen, mu, handsetRecords, edgeRecords, endA, endB, joins, adjacent, within, neighbour}
-use Rattle.image.specs.Questions.{Accepted, openOf, isLoop}
+use Rattle.image.specs.Image.{headerOf, handsetCount, edgeCount, limitSquared, epsilonNum, epsilonDen, mu, handsetRecords, edgeRecords, endA, endB, joins, adjacent}
+use Rattle.image.specs.Near.{isNear, neighbour}
+use Rattle.image.specs.Questions.{Accepted, openOf}
 use Rattle.image.specs.Answers.{openAnswer}
 use Rattle.image.specs.Rows.{Room, related, Reading}
 use Rattle.image.specs.declared.Header.{Header}
@@ -35,13 +36,14 @@ use Rattle.image.specs.declared.Opened.{Opened}
 use Rattle.image.specs.declared.Opened.the-variants as O
 use Rattle.image.proofs.Acceptance.{Fits, accepted-fits, accepted, length-is, ends-below}
 use Rattle.image.proofs.Answers.{given-refused, open-same}
-use Rattle.image.proofs.Edges.{joins-cases, joins-one}
-use Rattle.image.proofs.Records.{part-is, within-records}
+use Rattle.image.proofs.Edges.{joins-cases}
+use Rattle.image.proofs.Near.{adjacent-comm, neighbour-cases, edge-proximity}
+use Rattle.image.proofs.Records.{part-is}
 use Rattle.image.proofs.Rows.{table-cong}
 use Rattle.community.specs.Network.{Network, neighbourhoodSize, commonNeighbours, meetsEpsilon, similar, isCore}
 use Rattle.community.specs.Site.{network}
 use Rattle.community.proofs.Similarity.{similar-sym, similar-self}
-use Rattle.community.proofs.Site.{adjacent-comm, neighbour-comm, neighbour-self, accepted-sound}
+use Rattle.community.proofs.Site.{neighbour-comm, neighbour-self, accepted-sound}
 use Rattle.search.specs.Communities.{both, similarIn, coreIn, Surveyed}
 use Rattle.planner.specs.Held.{HasEnds, EdgeSet, isShort, Dropped, enough, neighbourIn, Ready, NeighboursRead}
 use Rattle.planner.proofs.Words.{set-passes, passes-set}
@@ -102,13 +104,8 @@ module _ (s : List ℕ) (P R : ℕ → ℕ → Bool) (p : Along s P) (r : Along 
   }
 
 module _ (s : List ℕ) (ok : Accepted s) where
-  neighbour-only : (u v : ℕ) → T (neighbour s u v) → (u ≡ v) ⊎ T (adjacent s u v)
-  unfolding neighbour
-  neighbour-only u v t =
-      ⊎-elim (λ x. inl (eqb→eq u v x)) (λ x. inr (and-left (adjacent s u v) (within s u v) x)) (or-cases (eqb u v) (adjacent s u v && within s u v) t)
-
   neighbour-along : Along s (neighbour s)
-  neighbour-along = record { symmetric = neighbour-comm s; self = neighbour-self s; only = neighbour-only }
+  neighbour-along = record { symmetric = neighbour-comm s; self = neighbour-self s; only = neighbour-cases s }
 
   -- u is v, or they are the ends of an edge
   abbrev selfOrAdjacent : ℕ → ℕ → Bool
@@ -126,20 +123,8 @@ module _ (s : List ℕ) (ok : Accepted s) where
   similar-along = record {
     symmetric = similar-sym (accepted-sound s ok);
     self = λ u. similar-self (accepted-sound s ok) u (neighbour-self s u);
-    only = λ u v t. neighbour-only u v (and-left (neighbour s u v) (meetsEpsilon (network s .p) (network s .q) (commonNeighbours (network s) u v) (neighbourhoodSize (network s) u) (neighbourhoodSize (network s) v)) t);
+    only = λ u v t. neighbour-cases s u v (and-left (neighbour s u v) (meetsEpsilon (network s .p) (network s .q) (commonNeighbours (network s) u v) (neighbourhoodSize (network s) u) (neighbourhoodSize (network s) v)) t);
   }
-
-  -- the ends of an edge are neighbours exactly when they are within gamma
-  edge-short : (k : ℕ) → k < edgeCount s
-      → neighbour s (endA (edgeRecords s) k) (endB (edgeRecords s) k) ≡ within s (endA (edgeRecords s) k) (endB (edgeRecords s) k)
-  unfolding neighbour adjacent isLoop
-  edge-short k h =
-      let a : ℕ = endA (edgeRecords s) k in
-      let b : ℕ = endB (edgeRecords s) k in
-      let j : T (adjacent s a b) = any-make (edgeCount s) (joins (edgeRecords s) a b) k h (joins-one (edgeRecords s) a b k refl refl) in
-      T-ext (neighbour s a b) (within s a b)
-      (λ t. ⊎-elim (λ e. absurd (T-not (eqb a b) (ok .q9 k h) e)) (λ w. and-right (adjacent s a b) (within s a b) w) (or-cases (eqb a b) (adjacent s a b && within s a b) t))
-      (λ w. or-right (eqb a b) (adjacent s a b && within s a b) (and-make (adjacent s a b) (within s a b) j w))
 
   -- the table of all edges
   related-is : (u v : ℕ) → related s u v ≡ (both (network s) u v && selfOrAdjacent u v)
@@ -174,28 +159,28 @@ module _ (s : List ℕ) (ok : Accepted s) where
           and-make (both (network s) u v) (selfOrAdjacent u v)
           (and-make (ltb u (handsetCount s)) (ltb v (handsetCount s)) (lt→ltb u (handsetCount s) hu) (lt→ltb v (handsetCount s) hv)) r
 
-  -- an edge of the image that is too long
+  -- the ends of edge k are neighbours; the edge is too long where it is one of the image's and they are not
+  abbrev pub nearEdge : ℕ → Bool
+  nearEdge k = neighbour s (endA (edgeRecords s) k) (endB (edgeRecords s) k)
+
   abbrev pub tooLong : ℕ → Bool
-  tooLong k = ltb k (edgeCount s) && not (within s (endA (edgeRecords s) k) (endB (edgeRecords s) k))
+  tooLong k = ltb k (edgeCount s) && not (nearEdge k)
 
   -- dropping these leaves the neighbour relation
   pub neighbour-table : {ws after : List ℕ} → Table ws (related s) → Dropped (edgeRecords s) tooLong ws after → Table after (neighbourIn (network s))
-  unfolding neighbourIn neighbour
+  unfolding neighbourIn
   neighbour-table t d =
       dropped-is s selfOrAdjacent (neighbour s) self-or-adjacent-along neighbour-along
-      (λ u v x. ⊎-elim (λ e. or-left (eqb u v) (adjacent s u v) e) (λ w. or-right (eqb u v) (adjacent s u v) (and-left (adjacent s u v) (within s u v) w)) (or-cases (eqb u v) (adjacent s u v && within s u v) x))
+      (λ u v x. ⊎-elim (λ e. or-left (eqb u v) (adjacent s u v) (eqb-of u v e)) (λ w. or-right (eqb u v) (adjacent s u v) w) (neighbour-cases s u v x))
       tooLong
-      (λ k x.
-      let h = ltb→lt k (edgeCount s) (and-left (ltb k (edgeCount s)) (not (within s (endA (edgeRecords s) k) (endB (edgeRecords s) k))) x) in
-      (h, subst (λ (b : Bool). T (not b)) (sym (edge-short k h)) (and-right (ltb k (edgeCount s)) (not (within s (endA (edgeRecords s) k) (endB (edgeRecords s) k))) x)))
-      (λ k h x n.
-      and-make (ltb k (edgeCount s)) (not (within s (endA (edgeRecords s) k) (endB (edgeRecords s) k))) (lt→ltb k (edgeCount s) h) (subst (λ (b : Bool). T (not b)) (edge-short k h) n))
+      (λ k x. (ltb→lt k (edgeCount s) (and-left (ltb k (edgeCount s)) (not (nearEdge k)) x), and-right (ltb k (edgeCount s)) (not (nearEdge k)) x))
+      (λ k h x n. and-make (ltb k (edgeCount s)) (not (nearEdge k)) (lt→ltb k (edgeCount s) h) n)
       d (both (network s)) (table-cong (related s) (λ u v. both (network s) u v && selfOrAdjacent u v) (λ u v hu hv. related-is u v) t)
 
   -- dropping the edges whose ends do not have enough in common leaves the similarity relation
   pub similar-table : {ws after : List ℕ} (gone : ℕ → Bool)
       → ((k : ℕ) → T (gone k) → (k < edgeCount s) × T (not (meets (network s) (endA (edgeRecords s) k) (endB (edgeRecords s) k))))
-      → ((k : ℕ) → k < edgeCount s → T (within s (endA (edgeRecords s) k) (endB (edgeRecords s) k)) → T (not (meets (network s) (endA (edgeRecords s) k) (endB (edgeRecords s) k))) → T (gone k))
+      → ((k : ℕ) → k < edgeCount s → T (nearEdge k) → T (not (meets (network s) (endA (edgeRecords s) k) (endB (edgeRecords s) k))) → T (gone k))
       → Table ws (neighbourIn (network s)) → Dropped (edgeRecords s) gone ws after → Table after (similarIn (network s))
   unfolding neighbourIn similarIn similar
   similar-table gone only each t d =
@@ -209,7 +194,7 @@ module _ (s : List ℕ) (ok : Accepted s) where
       (λ k h y n.
       let a : ℕ = endA (edgeRecords s) k in
       let b : ℕ = endB (edgeRecords s) k in
-      each k h (subst (λ (x : Bool). T x) (edge-short k h) y)
+      each k h y
       (not-T (meets (network s) a b) (λ z. T-not (neighbour s a b && meets (network s) a b) n (and-make (neighbour s a b) (meets (network s) a b) y z))))
       d (both (network s)) t
 
@@ -261,11 +246,6 @@ pub edgePart-length : (s : List ℕ) (h : Header) → Read s h → length (edgeP
 edgePart-length s h r =
     let rest : length (drop (h .edges) s) ≡ length s - h .edges = length-drop (h .edges) s in
     length-take-le (h .edges + edgeBytes * h .m - h .edges) (drop (h .edges) s) (omega (arith, rest, r .length-of, r .fits .edges-to)) ∙ add-sub-cancel-left (h .edges) (edgeBytes * h .m)
-
-pub handsetPart-length : (s : List ℕ) (h : Header) → Read s h → length (handsetPart s h) ≡ handsetBytes * h .n
-handsetPart-length s h r =
-    let rest : length (drop (h .handsets) s) ≡ length s - h .handsets = length-drop (h .handsets) s in
-    length-take-le (h .handsets + handsetBytes * h .n - h .handsets) (drop (h .handsets) s) (omega (arith, rest, r .length-of, r .fits .handsets-to)) ∙ add-sub-cancel-left (h .handsets) (handsetBytes * h .n)
 
 -- ---- the counts of a table are those of the network
 row-count : {ws : List ℕ} (f : ℕ → ℕ → Bool) (u : ℕ) → Table ws f → u < 512 → sum 512 (λ w. cell ws u w) ≡ count 512 (f u)
@@ -372,24 +352,28 @@ module _ (s : List ℕ) (h : Header) (ok : Accepted s) (e : h ≡ headerOf s) wh
   small = omega (arith, read .n-is, read .fits .n-limit)
 
   -- an edge of the part
-  pub edges-ready : (n k : ℕ) → handsetCount s ≤ n → k < h .m → HasEnds (edgePart s h) n k
-  edges-ready n k l q =
+  pub edges-ready : (k : ℕ) → k < h .m → HasEnds (edgePart s h) k
+  edges-ready k q =
       let b = ends-below s ok k (omega (arith, q, read .m-is)) in
       let a : endA (edgePart s h) k ≡ endA (edgeRecords s) k = ap (λ (part : List ℕ). endA part k) (edgePart-is s h e) in
       let a′ : endB (edgePart s h) k ≡ endB (edgeRecords s) k = ap (λ (part : List ℕ). endB part k) (edgePart-is s h e) in
-      (omega (arith, q, read .fits .m-limit), omega (arith, q, edgePart-length s h read), omega (arith, b .0, a, l), omega (arith, b .1, a′, l))
+      (omega (arith, q, read .fits .m-limit), omega (arith, q, edgePart-length s h read), omega (arith, b .0, a, small), omega (arith, b .1, a′, small))
 
-  pub handsets-there : handsetCount s ≤ length (handsetPart s h) / handsetBytes
-  handsets-there = omega (arith, handsetPart-length s h read, read .n-is)
-
-  -- the test of an edge by the parts
-  short-is-within : (k : ℕ) → isShort (handsetPart s h) (edgePart s h) (h .limit) k ≡ within s (endA (edgeRecords s) k) (endB (edgeRecords s) k)
-  short-is-within k =
+  -- the near test of an edge by the parts
+  short-is-near : (k : ℕ) → k < edgeCount s → isShort (handsetPart s h) (edgePart s h) (h .limit) k ≡ nearEdge s ok k
+  unfolding neighbour
+  short-is-near k l =
       ap₂ (λ (hs es : List ℕ). isShort hs es (h .limit) k) (handsetPart-is s h e) (edgePart-is s h e)
-      ∙ ap (λ (x : ℕ). isShort (handsetRecords s) (edgeRecords s) x k) (read .limit-is) ∙ sym (within-records s (endA (edgeRecords s) k) (endB (edgeRecords s) k))
+      ∙ ap (λ (x : ℕ). isShort (handsetRecords s) (edgeRecords s) x k) (read .limit-is) ∙ ap isNear (sym (edge-proximity s ok k l))
 
-  passed-is : (k : ℕ) (b c : Bool) → b ≡ c → (ltb k (h .m) && b) ≡ (ltb k (edgeCount s) && c)
-  passed-is k b c p = ap₂ (λ (m : ℕ) (x : Bool). ltb k m && x) (read .m-is) p
+  passed-is : (f : Bool → Bool) (k : ℕ)
+      → (ltb k (h .m) && f (isShort (handsetPart s h) (edgePart s h) (h .limit) k)) ≡ (ltb k (edgeCount s) && f (nearEdge s ok k))
+  passed-is f k =
+      ap (λ (m : ℕ). ltb k m && f (isShort (handsetPart s h) (edgePart s h) (h .limit) k)) (read .m-is)
+      ∙ ⊎-elim
+      (λ y. ap (λ (b : Bool). ltb k (edgeCount s) && f b) (short-is-near k (ltb→lt k (edgeCount s) y)))
+      (λ n. rw (T-false (ltb k (edgeCount s)) n))
+      (decide (ltb k (edgeCount s)))
 
   pub neighbours-kept : {short ws after sizes : List ℕ} → Table ws (related s)
       → EdgeSet short (λ k. ltb k (h .m) && isShort (handsetPart s h) (edgePart s h) (h .limit) k)
@@ -398,12 +382,12 @@ module _ (s : List ℕ) (h : Header) (ok : Accepted s) (e : h ≡ headerOf s) wh
   neighbours-kept {short} {ws} {after} t set d c = record {
     accepted = ok;
     header = e;
-    short-set = record { size = set .size; bits = λ k l. set .bits k l ∙ ap bit (passed-is k _ _ (short-is-within k)) };
+    short-set = record { size = set .size; bits = λ k l. set .bits k l ∙ ap bit (passed-is (λ b. b) k) };
     table =
         neighbour-table s ok t
         (dropped-cong (λ k. ltb k (h .m) && not (isShort (handsetPart s h) (edgePart s h) (h .limit) k)) (tooLong s ok)
-        (λ k x. subst (λ (b : Bool). T b) (passed-is k _ _ (ap not (short-is-within k))) x)
-        (λ k x. subst (λ (b : Bool). T b) (sym (passed-is k _ _ (ap not (short-is-within k)))) x)
+        (λ k x. subst (λ (b : Bool). T b) (passed-is not k) x)
+        (λ k x. subst (λ (b : Bool). T b) (sym (passed-is not k)) x)
         (subst (λ (part : List ℕ). Dropped part (λ k. ltb k (h .m) && not (isShort (handsetPart s h) (edgePart s h) (h .limit) k)) ws after) (edgePart-is s h e) d));
     counted = c;
   }
@@ -413,16 +397,14 @@ module _ (s : List ℕ) (h : Header) (ok : Accepted s) (e : h ≡ headerOf s) wh
     pub neighbour-sizes : (u : ℕ) → u < network s .n → getD sizes u 0 ≡ neighbourhoodSize (network s) u
     neighbour-sizes u l = kept .counted .rows u (omega (arith, l, small)) ∙ neighbour-size (network s) small u (kept .table) l
 
-    -- an edge of the set is below m, and its ends are within gamma
-    short-in : (k : ℕ) → bitAt short k ≡ 1 → (k < edgeCount s) × T (within s (endA (edgeRecords s) k) (endB (edgeRecords s) k))
-    short-in k x =
-        let y = set-passes (kept .short-set) k x .1 in
-        (ltb→lt k (edgeCount s) (and-left (ltb k (edgeCount s)) (within s (endA (edgeRecords s) k) (endB (edgeRecords s) k)) y), and-right (ltb k (edgeCount s)) (within s (endA (edgeRecords s) k) (endB (edgeRecords s) k)) y)
+    -- an edge of the set is below m
+    short-in : (k : ℕ) → bitAt short k ≡ 1 → k < edgeCount s
+    short-in k x = ltb→lt k (edgeCount s) (and-left (ltb k (edgeCount s)) (nearEdge s ok k) (set-passes (kept .short-set) k x .1))
 
-    pub short-ready : (k : ℕ) → bitAt short k ≡ 1 → (k < h .m) × HasEnds (edgePart s h) 512 k
+    pub short-ready : (k : ℕ) → bitAt short k ≡ 1 → (k < h .m) × HasEnds (edgePart s h) k
     short-ready k x =
-        let l : k < h .m = omega (arith, short-in k x .0, read .m-is) in
-        (l, edges-ready 512 k small l)
+        let l : k < h .m = omega (arith, short-in k x, read .m-is) in
+        (l, edges-ready k l)
 
     module _ {dissimilar : List ℕ} (made : EdgeSet dissimilar (λ k. eqb (bitAt short k) 1 && not (enough ws sizes (h .p) (h .q) (endA (edgePart s h) k) (endB (edgePart s h) k)))) where
       test-is : (k : ℕ) → k < edgeCount s → enough ws sizes (h .p) (h .q) (endA (edgePart s h) k) (endB (edgePart s h) k) ≡ meets (network s) (endA (edgeRecords s) k) (endB (edgeRecords s) k)
@@ -438,7 +420,7 @@ module _ (s : List ℕ) (h : Header) (ok : Accepted s) (e : h ≡ headerOf s) wh
           let t : Bool = not (enough ws sizes (h .p) (h .q) (endA (edgePart s h) k) (endB (edgePart s h) k)) in
           (eqb→eq (bitAt short k) 1 (and-left (eqb (bitAt short k) 1) t y), and-right (eqb (bitAt short k) 1) t y)
 
-      pub dissimilar-ready : (k : ℕ) → bitAt dissimilar k ≡ 1 → (k < h .m) × HasEnds (edgePart s h) 512 k
+      pub dissimilar-ready : (k : ℕ) → bitAt dissimilar k ≡ 1 → (k < h .m) × HasEnds (edgePart s h) k
       dissimilar-ready k x = short-ready k (dissimilar-in k x .0)
 
       pub surveyed : {after sizes′ cores : List ℕ} {least : ℕ} → Dropped (edgePart s h) (λ k. eqb (bitAt dissimilar k) 1) ws after → Counted after sizes′ → least ≡ coreSize (h .mu)
@@ -448,13 +430,13 @@ module _ (s : List ℕ) (h : Header) (ok : Accepted s) (e : h ≡ headerOf s) wh
           similar-table s ok (λ k. eqb (bitAt dissimilar k) 1)
           (λ k x.
           let y = dissimilar-in k (eqb→eq (bitAt dissimilar k) 1 x) in
-          let l = short-in k (y .0) .0 in
+          let l = short-in k (y .0) in
           (l, subst (λ (b : Bool). T (not b)) (test-is k l) (y .1)))
           (λ k l w n.
           let small-edge : k < 4096 = omega (arith, l, read .m-is, read .fits .m-limit) in
           passes-set made k small-edge
           (and-make (eqb (bitAt short k) 1) (not (enough ws sizes (h .p) (h .q) (endA (edgePart s h) k) (endB (edgePart s h) k)))
-          (passes-set (kept .short-set) k small-edge (and-make (ltb k (edgeCount s)) (within s (endA (edgeRecords s) k) (endB (edgeRecords s) k)) (lt→ltb k (edgeCount s) l) w))
+          (passes-set (kept .short-set) k small-edge (and-make (ltb k (edgeCount s)) (nearEdge s ok k) (lt→ltb k (edgeCount s) l) w))
           (subst (λ (b : Bool). T (not b)) (sym (test-is k l)) n)))
           (kept .table)
           (subst (λ (part : List ℕ). Dropped part (λ k. eqb (bitAt dissimilar k) 1) ws after) (edgePart-is s h e) d) in

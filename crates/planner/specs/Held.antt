@@ -1,11 +1,11 @@
 -- These definitions only serve the proofs; a caller need not believe them.
 -- What the planner's working tables hold, for the contracts inside the crate.
 --
---     HasEnds edges n k        edge k stands in the part, and its ends are below n
+--     HasEnds edges k          edge k stands in the part, and its ends are below 512
 --     inWord word base k       edge k is in a word that holds edges from base on, one bit an edge
 --     WordOf w f               a word holds the k below 64 that pass f
 --     EdgeSet ws f             64 words hold the edges that pass f
---     isShort ..               the ends of edge k are no farther apart than the root of the limit
+--     isShort ..               the near test of the ends of edge k answers near
 --     Dropped edges f a b      the table b is the table a without the edges that pass f
 --     enough ..                the test for similarity by a table and its sizes
 --     neighbourIn              the neighbour relation among the handsets of a network
@@ -21,7 +21,8 @@ use Rattle.sets.specs.Below.{bit, sum}
 use Rattle.sets.specs.Bits.{bitOf, bitAt, cell}
 use Rattle.sets.specs.Rows.{Table, Counted}
 use Rattle.fields.specs.Fields.{edgeBytes}
-use Rattle.image.specs.Image.{headerOf, edgeCount, edgeRecords, endA, endB, joins, handsetRecord, distanceBetween, within}
+use Rattle.image.specs.Image.{headerOf, edgeCount, edgeRecords, endA, endB, joins}
+use Rattle.image.specs.Near.{isNear, edgeProximity, neighbour}
 use Rattle.image.specs.Questions.{Accepted, openOf}
 use Rattle.image.specs.Rows.{Room}
 use Rattle.image.specs.declared.Header.{Header}
@@ -31,8 +32,8 @@ use Rattle.community.specs.Network.{Network, meetsEpsilon}
 use Rattle.community.specs.Site.{network}
 use Rattle.search.specs.Communities.{both}
 
-abbrev pub HasEnds : List ℕ → ℕ → ℕ → Type 0
-HasEnds edges n k = (k < 4096) × (edgeBytes * k + edgeBytes ≤ length edges) × (endA edges k < n) × (endB edges k < n)
+abbrev pub HasEnds : List ℕ → ℕ → Type 0
+HasEnds edges k = (k < 4096) × (edgeBytes * k + edgeBytes ≤ length edges) × (endA edges k < 512) × (endB edges k < 512)
 
 unfoldable pub inWord : ℕ → ℕ → ℕ → Bool
 unfolding bitOf
@@ -46,7 +47,7 @@ pub record EdgeSet (ws : List ℕ) (f : ℕ → Bool) : Type 0 where
   pub bits : (k : ℕ) → k < 4096 → bitAt ws k ≡ bit (f k)
 
 abbrev pub isShort : List ℕ → List ℕ → ℕ → ℕ → Bool
-isShort handsets edges limit k = leb (distanceBetween (handsetRecord handsets (endA edges k)) (handsetRecord handsets (endB edges k))) limit
+isShort handsets edges limit k = isNear (edgeProximity handsets edges limit k)
 
 -- no cell is set anew, those of an edge that passes f are cleared, and those of no such edge are as before
 pub record Dropped (edges : List ℕ) (f : ℕ → Bool) (before after : List ℕ) : Type 0 where
@@ -65,7 +66,7 @@ neighbourIn g u v = both g u v && g .neighbour u v
 pub record Ready (s : List ℕ) (h : Header) (short ws sizes : List ℕ) : Type 0 where
   pub accepted : Accepted s
   pub header : h ≡ headerOf s
-  pub short-set : EdgeSet short (λ k. ltb k (edgeCount s) && within s (endA (edgeRecords s) k) (endB (edgeRecords s) k))
+  pub short-set : EdgeSet short (λ k. ltb k (edgeCount s) && neighbour s (endA (edgeRecords s) k) (endB (edgeRecords s) k))
   pub table : Table ws (neighbourIn (network s))
   pub counted : Counted ws sizes
 

@@ -5,14 +5,15 @@
 // of up to 64 edges is made of them, one bit an edge, without a branch on the test, and then the edges of the word are dropped.
 ghost use mathlib.Core.Path.{_≡_};
 ghost use mathlib.Core.Bool.{_&&_, not};
-ghost use Prim.Native.Nat.{ℕ, _+_, _*_, _/_, _≤_, _<_, min};
+ghost use Prim.Native.Nat.{ℕ, _+_, _*_, _≤_, _<_, min};
 ghost use lib.Dec.{T, leb, ltb, eqb};
 ghost use lib.ListN.{length, getD, replicate};
 ghost use Rattle.sets.specs.Below.{sum};
 ghost use Rattle.sets.specs.Bits.{bitOf, bitAt, cell, withoutBit};
 ghost use Rattle.sets.specs.Rows.{SetOf, Counted};
-ghost use Rattle.fields.specs.Fields.{handsetBytes, edgeBytes};
+ghost use Rattle.fields.specs.Fields.{edgeBytes};
 ghost use Rattle.image.specs.Image.{endA, endB};
+ghost use Rattle.image.specs.Near.{edgeProximity};
 ghost use Rattle.image.specs.Rows.{Room};
 ghost use Rattle.community.specs.Network.{meetsEpsilon};
 ghost use Rattle.community.specs.Site.{network};
@@ -21,6 +22,7 @@ ghost use Rattle.planner.specs.Held.{WordOf, HasEnds, inWord, EdgeSet, i
 use fields::Ends;
 use image::Header;
 use image::Opened;
+use image::Proximity;
 
 // Takes v out of row u, if it is in it.
 fn take_out(table: &mut [u64], sizes: &mut [u32], u: usize, v: usize)
@@ -45,33 +47,28 @@ fn ends_at(edges: &[u8], k: usize) -> Ends
     fields::read_ends(&edges[at..past])
 }
 
-// Whether the ends of edge k are no farther apart than the root of the limit.
-fn is_short<'a>(handsets: &'a [u8], edges: &'a [u8], k: usize, limit: u64) -> bool
-    requires { ⌜ (length (now handsets) ≤ handsetBytes * 512) × (HasEnds (now edges) (length (now handsets) / handsetBytes) k) ⌝ }
-    ensures { λ r. ⌜ r ≡ isShort (now (handsets .entry)) (now (edges .entry)) limit k ⌝ }
+// The near test of the ends of edge k.
+fn test_edge<'a>(handsets: &'a [u8], edges: &'a [u8], k: usize, limit: u64) -> Proximity
+    requires { ⌜ HasEnds (now edges) k ⌝ }
+    ensures { λ r. ⌜ r ≡ edgeProximity (now (handsets .entry)) (now (edges .entry)) limit k ⌝ }
 {
     let e = ends_at(edges, k);
-    let a = fields::HANDSET_BYTES * e.a;
-    let a_past = a + fields::HANDSET_BYTES;
-    let b = fields::HANDSET_BYTES * e.b;
-    let b_past = b + fields::HANDSET_BYTES;
-    image::within(&handsets[a..a_past], &handsets[b..b_past], limit)
+    image::proximity_of(handsets, e.a as u16, e.b as u16, limit)
 }
 
-// The edges from `base` on that are no longer than the root of the limit, as a word: of `count` edges, at most 64. It is made from its highest bit
-// down, without a branch on the test.
+// The edges from `base` on whose ends are near, as a word: of `count` edges, at most 64. It is made from its highest bit down, without a branch on the test.
 fn short_word<'a>(handsets: &'a [u8], edges: &'a [u8], base: usize, count: usize, limit: u64) -> u64
-    requires { ⌜ (count ≤ 64) × (base ≤ 4096) × (length (now handsets) ≤ handsetBytes * 512) × ((k : ℕ) → k < count → HasEnds (now edges) (length (now handsets) / handsetBytes) (base + k)) ⌝ }
+    requires { ⌜ (count ≤ 64) × (base ≤ 4096) × ((k : ℕ) → k < count → HasEnds (now edges) (base + k)) ⌝ }
     ensures { λ r. ⌜ WordOf r (λ k. ltb k count && isShort (now (handsets .entry)) (now (edges .entry)) limit (base + k)) ⌝ }
 {
     let mut word: u64 = 0;
     let mut k = count;
     while 0 < k {
         k -= 1;
-        let one = if is_short(handsets, edges, base + k, limit) {
-            1u64
-        } else {
-            0u64
+        let tested = test_edge(handsets, edges, base + k, limit);
+        let one = match tested {
+            Proximity::Near(_) => 1u64,
+            Proximity::NotNear => 0u64,
         };
         word = (word << 1) | one;
     }
@@ -80,7 +77,7 @@ fn short_word<'a>(handsets: &'a [u8], edges: &'a [u8], base: usize, count: usize
 
 // Drops the edges base + k, for each set bit k of the word: takes the ends of each out of each other's rows.
 fn drop_edges(edges: &[u8], word: u64, base: usize, table: &mut [u64], sizes: &mut [u32])
-    requires { ⌜ (base ≤ 4096) × (Room (now table) (now sizes)) × (Counted (now table) (now sizes)) × ((k : ℕ) → T (inWord word base k) → HasEnds (now edges) 512 k) ⌝ }
+    requires { ⌜ (base ≤ 4096) × (Room (now table) (now sizes)) × (Counted (now table) (now sizes)) × ((k : ℕ) → T (inWord word base k) → HasEnds (now edges) k) ⌝ }
     ensures dropped { λ _. ⌜ Dropped (now (edges .entry)) (inWord word base) (now (table .entry)) (now (table .exit)) ⌝ }
     ensures counted { λ _. ⌜ Counted (now (table .exit)) (now (sizes .exit)) ⌝ }
 {
@@ -94,7 +91,7 @@ fn drop_edges(edges: &[u8], word: u64, base: usize, table: &mut [u64], sizes: &m
     }
 }
 
-// Drops those of the first m edges that are too long. The empty set `short` gets the others.
+// Drops those of the first m edges whose ends are not near. The empty set `short` gets the others.
 fn drop_long<'a>(
     handsets: &'a [u8],
     edges: &'a [u8],
@@ -104,7 +101,7 @@ fn drop_long<'a>(
     table: &mut [u64],
     sizes: &mut [u32],
 )
-    requires { ⌜ (m ≤ 4096) × (length (now handsets) ≤ handsetBytes * 512) × (now short ≡ replicate 64 0) × (Room (now table) (now sizes)) × (Counted (now table) (now sizes)) × ((k : ℕ) → k < m → HasEnds (now edges) (length (now handsets) / handsetBytes) k) ⌝ }
+    requires { ⌜ (m ≤ 4096) × (now short ≡ replicate 64 0) × (Room (now table) (now sizes)) × (Counted (now table) (now sizes)) × ((k : ℕ) → k < m → HasEnds (now edges) k) ⌝ }
     ensures kept { λ _. ⌜ EdgeSet (now (short .exit)) (λ k. ltb k m && isShort (now (handsets .entry)) (now (edges .entry)) limit k) ⌝ }
     ensures dropped { λ _. ⌜ Dropped (now (edges .entry)) (λ k. ltb k m && not (isShort (now (handsets .entry)) (now (edges .entry)) limit k)) (now (table .entry)) (now (table .exit)) ⌝ }
     ensures counted { λ _. ⌜ Counted (now (table .exit)) (now (sizes .exit)) ⌝ }
@@ -161,7 +158,7 @@ fn dissimilar_word<'a>(
     p: u16,
     q: u16,
 ) -> u64
-    requires { ⌜ (base ≤ 4096) × (Room (now table) (now sizes)) × (Counted (now table) (now sizes)) × (p ≤ 1000) × (q ≤ 1000) × ((k : ℕ) → T (inWord word base k) → HasEnds (now edges) 512 k) ⌝ }
+    requires { ⌜ (base ≤ 4096) × (Room (now table) (now sizes)) × (Counted (now table) (now sizes)) × (p ≤ 1000) × (q ≤ 1000) × ((k : ℕ) → T (inWord word base k) → HasEnds (now edges) k) ⌝ }
     ensures { λ r. ⌜ WordOf r (λ k. eqb (bitOf word k) 1 && not (enough (now (table .entry)) (now (sizes .entry)) p q (endA (now (edges .entry)) (base + k)) (endB (now (edges .entry)) (base + k)))) ⌝ }
 {
     let mut w = word;
@@ -191,7 +188,7 @@ fn keep_dissimilar<'a>(
     q: u16,
     set: &mut [u64],
 )
-    requires { ⌜ (m ≤ 4096) × (length (now set) ≡ 64) × (Room (now table) (now sizes)) × (Counted (now table) (now sizes)) × (p ≤ 1000) × (q ≤ 1000) × ((k : ℕ) → bitAt (now set) k ≡ 1 → (k < m) × (HasEnds (now edges) 512 k)) ⌝ }
+    requires { ⌜ (m ≤ 4096) × (length (now set) ≡ 64) × (Room (now table) (now sizes)) × (Counted (now table) (now sizes)) × (p ≤ 1000) × (q ≤ 1000) × ((k : ℕ) → bitAt (now set) k ≡ 1 → (k < m) × (HasEnds (now edges) k)) ⌝ }
     ensures { λ _. ⌜ EdgeSet (now (set .exit)) (λ k. eqb (bitAt (now (set .entry)) k) 1 && not (enough (now (table .entry)) (now (sizes .entry)) p q (endA (now (edges .entry)) k) (endB (now (edges .entry)) k))) ⌝ }
 {
     let mut j: usize = 0;
@@ -203,7 +200,7 @@ fn keep_dissimilar<'a>(
 
 // Drops the edges of a set, all below m.
 fn drop_set<'a>(edges: &'a [u8], set: &'a [u64], m: usize, table: &mut [u64], sizes: &mut [u32])
-    requires { ⌜ (m ≤ 4096) × (length (now set) ≡ 64) × (Room (now table) (now sizes)) × (Counted (now table) (now sizes)) × ((k : ℕ) → bitAt (now set) k ≡ 1 → (k < m) × (HasEnds (now edges) 512 k)) ⌝ }
+    requires { ⌜ (m ≤ 4096) × (length (now set) ≡ 64) × (Room (now table) (now sizes)) × (Counted (now table) (now sizes)) × ((k : ℕ) → bitAt (now set) k ≡ 1 → (k < m) × (HasEnds (now edges) k)) ⌝ }
     ensures dropped { λ _. ⌜ Dropped (now (edges .entry)) (λ k. eqb (bitAt (now (set .entry)) k) 1) (now (table .entry)) (now (table .exit)) ⌝ }
     ensures counted { λ _. ⌜ Counted (now (table .exit)) (now (sizes .exit)) ⌝ }
 {

@@ -1,26 +1,30 @@
 -- Two accepted images with the same parameters and records have the same outcome, whatever is asked of them: their networks, tallies and texts are the
 -- same, and each call's answer is made of these.
 --
---     network-is, tally-is, text-is     the network, the tally of a list, and the report's text
---     same-outcome                      so every call has the same outcome (specs/RoundTrips)
+--     network-is, tally-is, reach-is, text-is     the network, the tally and the reach of a list, and the report's text
+--     same-outcome                                so every call has the same outcome (specs/RoundTrips)
 use Prim.Native.Nat.{ℕ, zero, suc}
 use mathlib.Core.Path.{_≡_, refl, sym, ap, ap₂, _∙_}
-use mathlib.Core.Bool.{_&&_, _||_, cond}
+use mathlib.Core.Bool.{_&&_, cond}
 use mathlib.Core.List.{List, [], _++_, map}
-use lib.Dec.{leb, ltb, eqb}
+use lib.Dec.{ltb, eqb}
 use lib.IntN.{ℤ}
 use lib.ListN.{length, getD}
 use Rattle.sets.specs.Below.{any, count}
 use Rattle.fields.specs.Fields.{coreSize}
-use Rattle.image.specs.Image.{headerOf, handsetRecord, distanceBetween, endA, endB, joins, adjacent, within, neighbour, distanceSquared, mu}
+use Rattle.image.specs.Image.{headerOf, handsetRecord, endA, endB, joins, adjacent, mu}
+use Rattle.image.specs.Near.{proximityOf, proximity, isNear, neighbour}
 use Rattle.image.specs.Signed.{raised}
 use Rattle.image.specs.Answers.{Answer, refusal, Injective}
 use Rattle.image.specs.Questions.{openOf, Accepted}
 use Rattle.image.specs.declared.Opened.{Opened}
 use Rattle.image.specs.declared.Opened.the-variants.{Site}
+use Rattle.image.specs.declared.Proximity.{Proximity}
+use Rattle.image.specs.declared.Proximity.the-variants.{Near, NotNear}
 use Rattle.image.proofs.Acceptance.{opened}
 use Rattle.community.specs.Network.{Network, neighbourhoodSize, cores, communities, contains, role}
 use Rattle.community.specs.Scores.{countPairs, pairs, everyEdge, joinedBy, joinedPairs, justOne, leaving}
+use Rattle.community.specs.Reach.{farthest, inside, reach}
 use Rattle.community.specs.Site.{network}
 use Rattle.community.specs.Tables.{startTable, memberTable}
 use Rattle.tables.specs.Plan.{planned, tableAfter}
@@ -56,13 +60,18 @@ textBy x g lines =
     ++ (lines ++ (listLine (bytes "cores:") (cores g) ++ (listLine (bytes "outliers:") (outliers g) ++ totalsLine (totals g))))
 
 module _ (s t : List ℕ) (same : SameRecords s t) where
+  proximity-is : (u v : ℕ) → proximity s u v ≡ proximity t u v
+  unfolding proximity adjacent
+  proximity-is u v = λ i.
+      cond (eqb u v) (Near 0)
+      (cond (any (same .parameters i .m) (joins (same .edges i) u v))
+      (proximityOf (handsetRecord (same .handsets i) u) (handsetRecord (same .handsets i) v) (same .parameters i .limit)) NotNear)
+
   network-is : network s ≡ network t
-  unfolding neighbour adjacent within distanceSquared mu
+  unfolding neighbour mu
   network-is = λ i. record {
     n = same .parameters i .n;
-    neighbour = λ u v.
-        eqb u v || (any (same .parameters i .m) (joins (same .edges i) u v)
-        && leb (distanceBetween (handsetRecord (same .handsets i) u) (handsetRecord (same .handsets i) v)) (same .parameters i .limit));
+    neighbour = λ u v. isNear (proximity-is u v i);
     p = same .parameters i .p;
     q = same .parameters i .q;
     mu = coreSize (same .parameters i .mu);
@@ -77,11 +86,18 @@ module _ (s t : List ℕ) (same : SameRecords s t) where
         (λ k. everyEdge k && justOne (contains (endA (same .edges i) k) l) (contains (endB (same .edges i) k) l));
   }
 
+  reach-is : (l : List ℕ) → reach s l ≡ reach t l
+  unfolding reach inside
+  reach-is l = λ i.
+      farthest (same .parameters i .m)
+      (λ k. cond (contains (endA (same .edges i) k) l && contains (endB (same .edges i) k) l) (proximity-is (endA (same .edges i) k) (endB (same .edges i) k) i) NotNear)
+
   lines-are : (gs : List (List ℕ)) (k : ℕ) → groupLines s gs k ≡ groupLines t gs k
   unfolding groupLines
   lines-are gs zero = refl
   lines-are gs (suc k) =
-      ap₂ (λ (lines : List ℕ) (c : Tally). lines ++ groupLine k (scoresFor c) (getD gs k [])) (lines-are gs k) (tally-is (getD gs k []))
+      ap₂ (λ (lines line : List ℕ). lines ++ line) (lines-are gs k)
+      (ap₂ (λ (c : Tally) (r : Proximity). groupLine k (scoresFor c) r (getD gs k [])) (tally-is (getD gs k [])) (reach-is (getD gs k [])))
 
   text-is : reportText s ≡ reportText t
   unfolding reportText reportWith

@@ -1,6 +1,7 @@
 -- The examples: the definitions compute to these totals.
 use mathlib.Core.Path.{refl}
-use Rattle.image.specs.Image.{headerOf, neighbour, mu}
+use Rattle.image.specs.Image.{headerOf, mu}
+use Rattle.image.specs.Near.{neighbour}
 use Rattle.totals.specs.Totals.{totals}
 use Rattle.totals.specs.Examples.{Examples}
 

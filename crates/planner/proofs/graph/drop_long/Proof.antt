@@ -56,10 +56,10 @@ loop-holds c =
     let a = s .args in
     let f : ℕ → Bool = isShort (a .handsets .now) (a .edges .now) (a .limit) in (
       omega arith,
-      rw (s .pre .2) (filled-none (λ k. ltb k (a .m) && f k)),
+      rw (s .pre .1) (filled-none (λ k. ltb k (a .m) && f k)),
       dropped-start (a .edges .now) (a .table .now) (λ k. ltb k (a .m) && not (f k)),
+      s .pre .2,
       s .pre .3,
-      s .pre .4,
     )
 
 mul-loop : tie.Need-mul-loop Inv-loop μ-loop
@@ -103,7 +103,7 @@ mul-short-word c = search needs
 short-word-requires : tie.Need-short-word-requires Inv-loop μ-loop
 short-word-requires c κs =
     let s = start (loop c) in
-    (last c .1, omega (arith, low (c .before)), s .pre .1, λ k l. s .pre .5 (64 * loop c .loop .j + k) (omega (arith, l, last c .2)))
+    (last c .1, omega (arith, low (c .before)), λ k l. s .pre .4 (64 * loop c .loop .j + k) (omega (arith, l, last c .2)))
 
 sub-all : tie.Need-sub-all Inv-loop μ-loop
 sub-all c = omega (arith, last (counted c) .1)
@@ -145,8 +145,7 @@ drop-edges-requires c κs =
       l .loop .inv .4,
       λ k t.
           let p = word-passes (far m) (l .loop .j) f (far-word m .0) (far-word m .1) k t in
-          let e = s .pre .5 k (ltb→lt k (s .args .m) (and-left (ltb k (s .args .m)) (not (test l k)) (p .2))) in
-          (e .0, e .1, omega (arith, e .2, s .pre .1), omega (arith, e .3, s .pre .1)),
+          s .pre .4 k (ltb→lt k (s .args .m) (and-left (ltb k (s .args .m)) (not (test l k)) (p .2))),
     )
 
 mul-short : tie.Need-mul-short Inv-loop μ-loop
@@ -177,13 +176,13 @@ loop-again c =
     )
 
 same-length : tie.Need-same-length Inv-loop μ-loop
-same-length c = c .before .loop .inv .1 .size ∙ sym (ap length (start (c .before) .pre .2) ∙ length-replicate {A = ℕ} 64 0)
+same-length c = c .before .loop .inv .1 .size ∙ sym (ap length (start (c .before) .pre .1) ∙ length-replicate {A = ℕ} 64 0)
 
 same-length-2 : tie.Need-same-length-2 Inv-loop μ-loop
-same-length-2 c = c .before .loop .inv .3 .0 ∙ sym (start (c .before) .pre .3 .0)
+same-length-2 c = c .before .loop .inv .3 .0 ∙ sym (start (c .before) .pre .2 .0)
 
 same-length-3 : tie.Need-same-length-3 Inv-loop μ-loop
-same-length-3 c = c .before .loop .inv .3 .1 ∙ sym (start (c .before) .pre .3 .1)
+same-length-3 c = c .before .loop .inv .3 .1 ∙ sym (start (c .before) .pre .2 .1)
 
 returns : tie.Need-returns Inv-loop μ-loop
 returns c =

@@ -1,11 +1,11 @@
 -- `planner::graph::open_neighbours` meets its contract. The parts handed on are the records of the image, so the edges dropped are just those whose ends are not
--- within gamma; without them the table of all edges is that of the neighbour relation.
+-- near; without them the table of all edges is that of the neighbour relation.
 use native.Mathlib.Omega.{arith}
 use mathlib.Core.Path.{_≡_, _∙_}
 use borrow.Author.Needs.{needs}
 use Rattle.image.specs.Image.{headerOf}
 use Rattle.image.specs.Questions.{Accepted}
-use Rattle.planner.proofs.GraphLaws.{Read, header-is, handsetPart-length, told-yes, read-no, read-yes, edges-ready, handsets-there, neighbours-kept}
+use Rattle.planner.proofs.GraphLaws.{Read, header-is, told-yes, read-no, read-yes, edges-ready, neighbours-kept}
 use Rattle.planner.proofs.graph.open_neighbours.Statement.{statement}
 use Rattle.planner.proofs.graph.open_neighbours.Tie as tie
 
@@ -93,11 +93,10 @@ drop-long-requires c κs =
     let h = o .opened .given .0 .0 in
     let r = opened o .open-rows .ensures in (
       facts o .fits .m-limit,
-      omega (arith, handsetPart-length s h (facts o), facts o .fits .n-limit),
       start (opened o) .pre,
       r .room,
       r .held .counted h (o .opened .given .1),
-      λ k l. edges-ready s h (yes o .0) (yes o .1) _ k (handsets-there s h (yes o .0) (yes o .1)) l,
+      edges-ready s h (yes o .0) (yes o .1),
     )
 
 same-length : tie.Need-same-length

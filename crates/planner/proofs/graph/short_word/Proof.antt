@@ -13,6 +13,8 @@ use borrow.Author.Tests.{lt-ltb, le-ltb}
 use Rattle.sets.specs.Below.{bit}
 use Rattle.sets.specs.Bits.{bitOf}
 use Rattle.sets.proofs.Bits.{bitOf-none}
+use Rattle.image.specs.Near.{isNear}
+use Rattle.image.specs.declared.Proximity.{Proximity}
 use Rattle.planner.specs.Held.{isShort}
 use Rattle.planner.proofs.Words.{below-lt, below-first, below-rest}
 use Rattle.planner.proofs.graph.short_word.Statement.{statement}
@@ -29,10 +31,10 @@ abbrev μ-loop : tie.MeasureT-loop
 abbrev start : tie.At-loop Inv-loop μ-loop → tie.Start Inv-loop μ-loop
 start c = c .before .before .before
 
-abbrev turn : tie.Joined1 Inv-loop μ-loop → tie.In-loop Inv-loop μ-loop
-turn c = c .before .before
+abbrev turn : tie.After-row-known Inv-loop μ-loop → tie.In-loop Inv-loop μ-loop
+turn c = c .before .before .before
 
--- the test of an edge
+-- whether an edge is near
 abbrev test : tie.At-loop Inv-loop μ-loop → ℕ → Bool
 test c i = let a = start c .args in isShort (a .handsets .now) (a .edges .now) (a .limit) (a .base + i)
 
@@ -49,17 +51,25 @@ loop-holds c =
 sub-k : tie.Need-sub-k Inv-loop μ-loop
 sub-k c = search needs
 
-add-is-short : tie.Need-add-is-short Inv-loop μ-loop
-add-is-short c = search needs
+add-test-edge : tie.Need-add-test-edge Inv-loop μ-loop
+add-test-edge c = search needs
 
-is-short-requires : tie.Need-is-short-requires Inv-loop μ-loop
-is-short-requires c κs = let s = start (c .before) in (s .pre .2, s .pre .3 (c .before .loop .k - 1) (omega (arith, c .loop-test .taken, c .before .loop .inv .0)))
+test-edge-requires : tie.Need-test-edge-requires Inv-loop μ-loop
+test-edge-requires c κs = let s = start (c .before) in s .pre .2 (c .before .loop .k - 1) (omega (arith, c .loop-test .taken, c .before .loop .inv .0))
 
--- the bit is the test of the edge
-told : (c : tie.Joined1 Inv-loop μ-loop) → (let l = turn c .before in c .if1 .one ≡ bit (test l (l .loop .k - 1)))
+enum-told : tie.Need-enum-told Inv-loop μ-loop
+enum-told c = search needs
+
+enum-told-2 : tie.Need-enum-told-2 Inv-loop μ-loop
+enum-told-2 c = search needs
+
+-- the bit is whether the edge is near
+told : (c : tie.After-row-known Inv-loop μ-loop) → (let l = turn c .before in c .before .match .one ≡ bit (test l (l .loop .k - 1)))
+unfolding isNear
 told c =
-    let e = c .before .is-short .ensures in
-    ⊎-elim (λ w. w .1 ∙ ap bit (sym (w .0 .taken) ∙ e)) (λ w. w .1 ∙ ap bit (sym (w .0 .left) ∙ e)) (c .if1 .came)
+    let e = c .before .before .test-edge .ensures in
+    let near : Proximity → ℕ = λ p. bit (isNear p) in
+    ⊎-elim (λ w. w .2 ∙ ap near (sym (w .1 .given .1) ∙ e)) (λ w. w .2 ∙ ap near (sym (w .1 .given .1) ∙ e)) (c .before .match .came)
 
 bit-small : (b : Bool) → bit b < 2
 bit-small true = omega arith
@@ -76,18 +86,18 @@ loop-less c = search needs
 
 loop-again : tie.Need-loop-again Inv-loop μ-loop
 loop-again c =
-    let j = c .before in
-    let m = turn j .before in
+    let one : ℕ = c .before .match .one in
+    let m = turn c .before in
     let l = m .loop in
     let n : ℕ = start m .args .count in
     let held : ℕ → ℕ = λ i. bit (ltb i n && test m i) in
-    let step : n - (l .k - 1) ≡ suc (n - l .k) = omega (arith, turn j .loop-test .taken, l .inv .0) in
-    let room : n - l .k < 64 = omega (arith, turn j .loop-test .taken, l .inv .0, start m .pre .0) in
-    let small : j .if1 .one < 2 = subst (λ (x : ℕ). x < 2) (sym (told j)) (bit-small (test m (l .k - 1))) in (
+    let step : n - (l .k - 1) ≡ suc (n - l .k) = omega (arith, turn c .loop-test .taken, l .inv .0) in
+    let room : n - l .k < 64 = omega (arith, turn c .loop-test .taken, l .inv .0, start m .pre .0) in
+    let small : one < 2 = subst (λ (x : ℕ). x < 2) (sym (told c)) (bit-small (test m (l .k - 1))) in (
       omega (arith, l .inv .0),
-      subst (λ (x : ℕ). bitOr (l .word * 2 ^ 1 % 2 ^ 64) (j .if1 .one) < 2 ^ x) (sym step) (below-lt (n - l .k) (l .word) (j .if1 .one) (l .inv .1) room small),
-      bits (l .word) (j .if1 .one) (l .k) (n - l .k) held (turn j .loop-test .taken) (l .inv .1) room small
-          (told j ∙ sym (ap (λ (b : Bool). bit (b && test m (l .k - 1))) (lt-ltb (l .k - 1) n (omega (arith, turn j .loop-test .taken, l .inv .0))))) (l .inv .2),
+      subst (λ (x : ℕ). bitOr (l .word * 2 ^ 1 % 2 ^ 64) one < 2 ^ x) (sym step) (below-lt (n - l .k) (l .word) one (l .inv .1) room small),
+      bits (l .word) one (l .k) (n - l .k) held (turn c .loop-test .taken) (l .inv .1) room small
+          (told c ∙ sym (ap (λ (b : Bool). bit (b && test m (l .k - 1))) (lt-ltb (l .k - 1) n (omega (arith, turn c .loop-test .taken, l .inv .0))))) (l .inv .2),
     )
 
 returns : tie.Need-returns Inv-loop μ-loop
@@ -105,8 +115,10 @@ short-word-spec =
     μ-loop
     loop-holds
     sub-k
-    add-is-short
-    is-short-requires
+    add-test-edge
+    test-edge-requires
+    enum-told
+    enum-told-2
     loop-less
     loop-again
     returns)

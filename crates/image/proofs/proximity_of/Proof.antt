@@ -1,0 +1,166 @@
+-- `image::proximity_of` meets its contract. While the squares so far fit, what is left of the limit and their sum make the limit, so the next square fits in
+-- what is left just where the sum with it keeps the limit, and a sum past the limit stays past it; in the end the sum is what is gone of the limit. The
+-- measure is what is left of the coordinates.
+use Prim.Native.Nat.{ℕ, _+_, _*_, _-_, _%_, _^_, _≤_, _<_}
+use native.Mathlib.Omega.{arith}
+use native.Mathlib.Numerals.{add-one}
+use mathlib.Core.Path.{_≡_, sym, ap, ap₂, _∙_, subst}
+use mathlib.Core.Bool.{Bool, true, false, _&&_, cond}
+use mathlib.Core.List.{List}
+use lib.Dec.{T, leb, leb→le, le→leb}
+use borrow.Author.Needs.{needs}
+use Rattle.sets.specs.Below.{sum}
+use Rattle.sets.proofs.Tests.{T-true, T-ext, and-make, and-left, and-right}
+use Rattle.fields.specs.Fields.{coordinateCount, gap}
+use Rattle.image.specs.Image.{handsetRecord, coordinateOf, gapSquared, distanceBetween}
+use Rattle.image.specs.Near.{proximityOf}
+use Rattle.image.specs.Answers.{proximityAnswer}
+use Rattle.image.specs.declared.Proximity.{Proximity}
+use Rattle.image.specs.declared.Proximity.the-variants.{Near, NotNear}
+use Rattle.image.proofs.Records.{coordinate-at}
+use Rattle.image.proofs.proximity_of.Statement.{statement}
+use Rattle.image.proofs.proximity_of.Tie as tie
+
+-- whether a sum of squares keeps the limit, and what is left of it
+pub record Left (total limit : ℕ) (fits : Bool) (room : ℕ) : Type 0 where
+  pub answer : fits ≡ leb total limit
+  pub rest : T fits → room + total ≡ limit
+
+left-none : (limit : ℕ) → Left 0 limit true limit
+left-none limit = record { answer = sym (T-true (leb 0 limit) (le→leb 0 limit (omega arith))); rest = λ t. omega arith }
+
+-- d is the square that the code has, x the definition's
+left-more : (total limit room d x next : ℕ) (fits : Bool) → Left total limit fits room → d ≡ x → d < 2 ^ 64 → next < 2 ^ 64 → (next + d) % 2 ^ 64 ≡ room
+    → Left (x + total) limit (fits && leb d room) next
+left-more total limit room d x next fits l h hd hn e = record {
+  answer = T-ext (fits && leb d room) (leb (x + total) limit)
+      (λ t. le→leb (x + total) limit (omega (arith, l .rest (and-left fits (leb d room) t), leb→le d room (and-right fits (leb d room) t))))
+      (λ t. let f : T fits = subst T (sym (l .answer)) (le→leb total limit (omega (arith, leb→le (x + total) limit t))) in
+      and-make fits (leb d room) f (le→leb d room (omega (arith, l .rest f, leb→le (x + total) limit t))));
+  rest = λ t. omega (arith, l .rest (and-left fits (leb d room) t), leb→le d room (and-right fits (leb d room) t), e);
+}
+
+left-near : (a b : List ℕ) (limit room : ℕ) (fits : Bool) → Left (distanceBetween a b) limit fits room → fits ≡ true → Near (limit - room) ≡ proximityOf a b limit
+unfolding proximityOf
+left-near a b limit room fits l e =
+    let all : room + distanceBetween a b ≡ limit = l .rest (subst T (sym e) tt) in
+    ap Near (let q : limit - room ≡ distanceBetween a b = omega arith in q) ∙ ap (λ (t : Bool). cond t (Near (distanceBetween a b)) NotNear) (sym e ∙ l .answer)
+
+left-far : (a b : List ℕ) (limit room : ℕ) (fits : Bool) → Left (distanceBetween a b) limit fits room → fits ≡ false → NotNear ≡ proximityOf a b limit
+unfolding proximityOf
+left-far a b limit room fits l e = ap (λ (t : Bool). cond t (Near (distanceBetween a b)) NotNear) (sym e ∙ l .answer)
+
+abbrev Inv-loop : tie.InvT-loop
+Inv-loop handsets u v limit from to fits₀ room₀ i₀ fits room i =
+    (i ≤ coordinateCount) × Left (sum i (gapSquared (coordinateOf (handsetRecord handsets u)) (coordinateOf (handsetRecord handsets v)))) limit fits room
+
+abbrev μ-loop : tie.MeasureT-loop
+μ-loop handsets u v limit from to fits₀ room₀ i₀ fits room i = coordinateCount - i
+
+-- the places that the answers speak of
+abbrev start : tie.At-loop Inv-loop μ-loop → tie.Start Inv-loop μ-loop
+start c = c .before .before
+
+abbrev loop : tie.After-squared-gap Inv-loop μ-loop → tie.At-loop Inv-loop μ-loop
+loop c = c .before .before .before .before
+
+-- the record of a handset, where the loop stands
+abbrev record-of : tie.At-loop Inv-loop μ-loop → ℕ → List ℕ
+record-of c v = handsetRecord (start c .args .handsets .now) v
+
+square-is : (c : tie.After-squared-gap Inv-loop μ-loop)
+    → (let l = loop c in let a = start l .args in c .squared-gap .result ≡ gapSquared (coordinateOf (record-of l (a .u))) (coordinateOf (record-of l (a .v))) (l .loop .i))
+square-is c =
+    let l = loop c in
+    let a = start l .args in
+    let turn : l .loop .i < coordinateCount = omega (arith, c .before .before .before .loop-test .taken) in
+    c .squared-gap .ensures
+    ∙ ap₂ (λ (x y : ℕ). gap x y * gap x y)
+    (c .before .before .coordinate .ensures ∙ coordinate-at (a .handsets .now) (a .u) (l .loop .i) turn)
+    (c .before .coordinate2 .ensures ∙ coordinate-at (a .handsets .now) (a .v) (l .loop .i) turn)
+
+-- after the loop the sum is the squared distance
+told : (c : tie.After-loop Inv-loop μ-loop)
+    → (let l = c .before in let a = start l .args in Left (distanceBetween (record-of l (a .u)) (record-of l (a .v))) (a .limit) (l .loop .fits) (l .loop .room))
+unfolding distanceBetween
+told c =
+    let l = c .before in
+    let a = start l .args in
+    let e : l .loop .i ≡ coordinateCount = omega (arith, l .loop .inv .0, c .loop-test .left) in
+    subst (λ (n : ℕ). Left (sum n (gapSquared (coordinateOf (record-of l (a .u))) (coordinateOf (record-of l (a .v))))) (a .limit) (l .loop .fits) (l .loop .room)) e (l .loop .inv .1)
+
+mul-from : tie.Need-mul-from Inv-loop μ-loop
+mul-from c = search needs
+
+mul-to : tie.Need-mul-to Inv-loop μ-loop
+mul-to c = search needs
+
+loop-holds : tie.Need-loop-holds Inv-loop μ-loop
+unfolding sum
+loop-holds c = (omega arith, left-none _)
+
+mul-at : tie.Need-mul-at Inv-loop μ-loop
+mul-at c = search needs
+
+add-coordinate : tie.Need-add-coordinate Inv-loop μ-loop
+add-coordinate c = search needs
+
+coordinate-requires : tie.Need-coordinate-requires Inv-loop μ-loop
+coordinate-requires c κs = search needs
+
+add-coordinate-2 : tie.Need-add-coordinate-2 Inv-loop μ-loop
+add-coordinate-2 c = search needs
+
+coordinate-requires-2 : tie.Need-coordinate-requires-2 Inv-loop μ-loop
+coordinate-requires-2 c κs = search needs
+
+squared-gap-requires : tie.Need-squared-gap-requires Inv-loop μ-loop
+squared-gap-requires c κs = search needs
+
+wrapping-sub-u64-requires : tie.Need-wrapping-sub-u64-requires Inv-loop μ-loop
+wrapping-sub-u64-requires c κs = search needs
+
+add-i : tie.Need-add-i Inv-loop μ-loop
+add-i c = search needs
+
+loop-less : tie.Need-loop-less Inv-loop μ-loop
+loop-less c = search needs
+
+loop-again : tie.Need-loop-again Inv-loop μ-loop
+unfolding sum
+loop-again c =
+    let g = c .before in
+    let l = loop g .loop in
+    (omega arith, rw (add-one (l .i)) (left-more _ _ (l .room) _ _ _ (l .fits) (l .inv .1) (square-is g) (g .squared-gap .ok) (c .wrapping-sub-u64 .ok) (c .wrapping-sub-u64 .ensures)))
+
+sub-t20 : tie.Need-sub-t20 Inv-loop μ-loop
+sub-t20 c = omega (arith, told (c .before) .rest (subst T (sym (c .if1 .taken)) tt))
+
+returns : tie.Need-returns Inv-loop μ-loop
+returns c = ap proximityAnswer (left-near _ _ _ _ _ (told (c .before)) (c .if1 .taken))
+
+returns-2 : tie.Need-returns-2 Inv-loop μ-loop
+returns-2 c = ap proximityAnswer (left-far _ _ _ _ _ (told (c .before)) (c .if1 .left))
+
+pub proximity-of-spec : {M : Type 1} → statement M
+proximity-of-spec =
+    tie.close
+    (tie.spec
+    Inv-loop
+    μ-loop
+    mul-from
+    mul-to
+    loop-holds
+    mul-at
+    add-coordinate
+    coordinate-requires
+    add-coordinate-2
+    coordinate-requires-2
+    squared-gap-requires
+    wrapping-sub-u64-requires
+    add-i
+    loop-less
+    loop-again
+    sub-t20
+    returns
+    returns-2)
