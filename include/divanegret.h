@@ -1,8 +1,8 @@
 /* divanegret: the talk-group planner of a site controller, for firmware written in C.
  *
  * docs/SITE-IMAGE.md has the site image byte by byte, the meaning of near, core, group, role,
- * score, nearest group and the plan for a time, how an image is written, and every refusal; this
- * file says how C calls the planner.
+ * score, reach, nearest group and the plan for a time, the text of the report line by line, how an
+ * image is written, and every refusal; this file says how C calls the planner.
  *
  * Every function here is a thin, proved wrapper around the planner's library; its outcome is
  * fixed for every input, byte by byte. The functions
@@ -87,7 +87,9 @@ extern "C" {
  * 32 + 8 n + 4 m do. */
 #define DVG_IMAGE 20512
 
-/* The text of the report: its length, or the refusal's number (1 to 10, 16) made negative. */
+/* The text of the report: its length, or the refusal's number (1 to 10, 16) made negative. A group's
+ * line tells its scores, its reach (the largest squared distance of a near tie between two members, or
+ * - where there is none) and its members. */
 int64_t dvg_report(const uint8_t *image, size_t image_len, uint8_t *text, size_t text_len);
 
 /* Puts questions 1 to 10 to an image. Accepted: n + 65536 * m. */

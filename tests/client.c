@@ -13,8 +13,8 @@
 #define LENGTH (TIES_AT + 4 * TIES)
 
 static const char report_of_s[] = "handsets 7 ties 8 groups 2 memberships 8\n"
-                                  "group 0 density 2/6 conductance 1/9: 0 1 2 3\n"
-                                  "group 1 density 2/6 conductance 1/9: 3 4 5 6\n"
+                                  "group 0 density 2/6 conductance 1/9 reach 0: 0 1 2 3\n"
+                                  "group 1 density 2/6 conductance 1/9 reach 0: 3 4 5 6\n"
                                   "cores: 2 4\n"
                                   "outliers:\n"
                                   "cores 2 borders 5 outliers 0 multiple 1\n";
@@ -99,6 +99,44 @@ static void check_report(const uint8_t *image)
     length = dvg_report(image, LENGTH, text, REPORT_LENGTH - 1);
     check("report refuses a buffer one byte short", length == -DVG_TEXT_SHORT);
     check("report leaves a short buffer as it was", untouched(text, sizeof text, 0xa5));
+}
+
+/* The reach of a group: the squared distance of its longest near tie. */
+static void check_reach(const uint8_t *image)
+{
+    static const char stretched[] = "handsets 7 ties 8 groups 2 memberships 8\n"
+                                    "group 0 density 2/6 conductance 1/9 reach 25: 0 1 2 3\n"
+                                    "group 1 density 2/6 conductance 1/9 reach 5: 3 4 5 6\n"
+                                    "cores: 2 4\n"
+                                    "outliers:\n"
+                                    "cores 2 borders 5 outliers 0 multiple 1\n";
+    static const char alone[] = "handsets 1 ties 0 groups 1 memberships 1\n"
+                                "group 0 density - conductance - reach -: 0\n"
+                                "cores: 0\n"
+                                "outliers:\n"
+                                "cores 1 borders 0 outliers 0 multiple 0\n";
+    uint8_t other[LENGTH];
+    uint8_t text[256];
+    memcpy(other, image, LENGTH);
+    put(other + HANDSETS_AT, 4, 3); /* handset 0 at (3, -4) */
+    put(other + HANDSETS_AT + 4, 4, 0xfffffffc);
+    put(other + HANDSETS_AT + 8 * 6, 4, 0xffffffff); /* handset 6 at (-1, 2) */
+    put(other + HANDSETS_AT + 8 * 6 + 4, 4, 2);
+    put(other + 16, 8, 25);
+    check("report tells the reach of each group",
+          dvg_report(other, LENGTH, text, sizeof text) == (int64_t)(sizeof stretched - 1) &&
+              memcmp(text, stretched, sizeof stretched - 1) == 0);
+    memset(other, 0, 40); /* one handset, mu 1: a header and a handset record */
+    put(other, 2, 1);
+    put(other + 4, 4, 32);
+    put(other + 8, 4, 40);
+    put(other + 12, 4, 40);
+    put(other + 24, 2, 1);
+    put(other + 26, 2, 2);
+    put(other + 28, 2, 1);
+    check("report tells no reach of a group of one",
+          dvg_report(other, 40, text, sizeof text) == (int64_t)(sizeof alone - 1) &&
+              memcmp(text, alone, sizeof alone - 1) == 0);
 }
 
 static void check_refused(const uint8_t *image)
@@ -483,6 +521,7 @@ int main(void)
     memcpy(before, image, LENGTH);
     check_open(image);
     check_report(image);
+    check_reach(image);
     check_refused(image);
     check_plan(image);
     check_roles(image);

@@ -30,7 +30,7 @@ pub const HANDSETS_MOST: usize = 512;
 pub const EDGES_MOST: usize = 4096;
 
 // The most that G, the square of the near distance, may be.
-const LIMIT_SQUARED_MOST: u64 = 8000000000000;
+pub const LIMIT_SQUARED_MOST: u64 = 8000000000000;
 
 // What a blank mu, 0, means.
 const BLANK_MU: u16 = 4;

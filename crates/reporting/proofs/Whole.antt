@@ -3,12 +3,12 @@
 --
 --     groups-few                 an accepted image has at most 512 communities
 --     text-is                    the text from the tables is the report's
---     edges-fit, members-fit     the bounds that the parts of the report ask for
+--     edges-fit, handsets-fit, members-fit     the bounds that the parts of the report ask for
 --     text-held                  the text from the tables as the report's functions leave them
-use Prim.Native.Nat.{ℕ, zero, suc, _+_, _*_, _-_, _≤_, _<_}
+use Prim.Native.Nat.{ℕ, zero, suc, _+_, _*_, _-_, _≤_, _<_, min}
 use native.Mathlib.Omega.{arith}
 use mathlib.Core.Path.{_≡_, refl, sym, ap, ap₂, _∙_, subst, subst₂}
-use mathlib.Core.Bool.{Bool, _&&_}
+use mathlib.Core.Bool.{Bool, _&&_, cond}
 use mathlib.Core.List.{List, [], _++_}
 use borrow.Author.Tests.{lt-ltb}
 use lib.ListN.{length, getD, take, drop, replicate, length-append}
@@ -16,30 +16,36 @@ use lib.Seq.{take-at, take-all}
 use Rattle.sets.specs.Below.{select}
 use Rattle.sets.proofs.Counting.{count-le, count-cong, count-at}
 use Rattle.sets.proofs.Selecting.{length-select}
-use Rattle.fields.specs.Fields.{edgeBytes}
-use Rattle.image.specs.Image.{headerOf, handsetCount, edgeCount, edgeRecords, endA, endB}
+use Rattle.fields.specs.Fields.{handsetBytes, edgeBytes, limitSquaredMost}
+use Rattle.image.specs.Image.{handsetCount, edgeCount, limitSquared, handsetRecords, edgeRecords, endA, endB}
+use Rattle.image.specs.Near.{edgeProximity}
 use Rattle.image.specs.declared.Header.{Header}
+use Rattle.image.specs.declared.Proximity.{Proximity}
+use Rattle.image.specs.declared.Proximity.the-variants.{Near, NotNear}
 use Rattle.image.proofs.Acceptance.{accepted-fits, length-is, edges-length, ends-below}
+use Rattle.image.proofs.Near.{edge-proximity}
 use Rattle.image.proofs.Records as records
 use Rattle.community.specs.Network.{Network, isCore, members, reachable, communities, cores, contains, role}
 use Rattle.community.specs.Scores.{pairs, everyEdge, joinedPairs, justOne, leaving}
+use Rattle.community.specs.Reach.{farthest, inside, reach}
 use Rattle.community.specs.Site.{network}
 use Rattle.community.specs.Tables.{startTable, memberTable}
 use Rattle.community.proofs.Communities.{leader, communities-few, community-at}
 use Rattle.community.proofs.Bound.{memberships-bound}
+use Rattle.community.proofs.Reach.{farthest-cong}
 use Rattle.community.proofs.Multiplicities.{community-apart}
 use Rattle.lookup.specs.Lookup.{membersOf}
 use Rattle.scores.specs.Scored.{tallyOf}
 use Rattle.scores.proofs.Tallying.{joined-once}
 use Rattle.text.specs.Text.{bytes}
 use Rattle.text.specs.Text as X
-use Rattle.tallies.specs.Tallies.{edgesIn, isMember, GroupsCounted}
+use Rattle.tallies.specs.Tallies.{edgesIn, isMember, GroupsCounted, reachEntry, GroupsReach}
 use Rattle.demands.proofs.Lookup.{table-part}
 use Rattle.totals.specs.declared.Totals.{Totals}
 use Rattle.totals.specs.Totals.{isOutlier, RolesCounted}
 use Rattle.totals.proofs.Plan.{plan-totals, plan-outliers}
 use Rattle.reporting.specs.Report.{headLine, groupLines, listLine, totalsLine, outliers, reportWith, reportText}
-use Rattle.reporting.specs.Held.{groupTally, tableLines, tableText, PlanHeld}
+use Rattle.reporting.specs.Held.{groupTally, reachOf, groupReach, tableLines, tableText, PlanHeld}
 use Rattle.reporting.specs.declared.Head.{Head}
 use Rattle.reporting.proofs.Elements.{held-members}
 
@@ -52,15 +58,20 @@ module _ (g : Network) where
   community-few k h = rw (community-at g k h) (members-few (leader g k))
 
 -- the lines from tables whose parts and tallies are those of the communities
-lines-are : (s : List ℕ) (gs : List (List ℕ)) (starts table ts : List ℕ) (k : ℕ)
+lines-are : (s : List ℕ) (gs : List (List ℕ)) (starts table ts rs : List ℕ) (k : ℕ)
     → ((j : ℕ) → j < k → membersOf starts table j ≡ getD gs j []) → ((j : ℕ) → j < k → groupTally ts j (getD gs j []) ≡ tallyOf s (getD gs j []))
-    → tableLines starts table ts k ≡ groupLines s gs k
+    → ((j : ℕ) → j < k → groupReach rs j ≡ reach s (getD gs j [])) → tableLines starts table ts rs k ≡ groupLines s gs k
 unfolding tableLines groupLines
-lines-are s gs starts table ts zero p q = refl
-lines-are s gs starts table ts (suc k) p q =
+lines-are s gs starts table ts rs zero p q r = refl
+lines-are s gs starts table ts rs (suc k) p q r =
     ap₂ (λ (a b : List ℕ). a ++ b)
-    (lines-are s gs starts table ts k (λ j h. p j (omega arith)) (λ j h. q j (omega arith)))
-    (rw (p k (omega arith), q k (omega arith)))
+    (lines-are s gs starts table ts rs k (λ j h. p j (omega arith)) (λ j h. q j (omega arith)) (λ j h. r j (omega arith)))
+    (rw (p k (omega arith), q k (omega arith), r k (omega arith)))
+
+-- a table's number stands for the reach that it was made of
+entry-back : (r : Proximity) → reachOf (reachEntry r) ≡ r
+entry-back (Near d) = refl
+entry-back NotNear = refl
 
 module _ {s : List ℕ} {h : Header} {head : Head} {starts table cores-set : List ℕ} (held : PlanHeld s h head starts table cores-set) where
   groups-are : head .counts .groups ≡ length (communities (network s))
@@ -109,15 +120,35 @@ module _ {s : List ℕ} {h : Header} {head : Head} {starts table cores-set : Lis
       ∙ count-cong (edgeCount s) _ (λ e. justOne (contains (endA edges e) list) (contains (endB edges e) list)) (both justOne) in
       λ i. record { pairs = p i; joined = t i; leaving = o i }
 
+  -- and its reach is the community's
+  reach-held : (rs : List ℕ) → GroupsReach (handsetRecords s) (edgeRecords s) (limitSquared s) starts table (head .counts .groups) rs
+      → (k : ℕ) → k < head .counts .groups → groupReach rs k ≡ reach s (getD (communities (network s)) k [])
+  unfolding groupReach reach inside
+  reach-held rs c k l =
+      let list : List ℕ = getD (communities (network s)) k [] in
+      let edges : List ℕ = edgeRecords s in
+      let here : ℕ → Bool = isMember starts table (head .counts .groups) k in
+      let limit : min (limitSquared s) limitSquaredMost ≡ limitSquared s = omega (arith, accepted-fits s (held .accepted) .square-limit) in
+      let part : ℕ → ℕ → Proximity = λ x e. cond (here (endA edges e) && here (endB edges e)) (edgeProximity (handsetRecords s) edges x e) NotNear in
+      ap reachOf (c .reaches k (omega (arith, groups-few)))
+      ∙ entry-back (farthest (edgesIn edges) (part (min (limitSquared s) limitSquaredMost)))
+      ∙ ap₂ (λ (n x : ℕ). farthest n (part x)) all-edges limit
+      ∙ farthest-cong (edgeCount s) (part (limitSquared s)) _
+      (λ e q.
+      let b = ends-below s (held .accepted) e q in
+      ap₂ (λ (x y : Bool). cond (x && y) (edgeProximity (handsetRecords s) edges (limitSquared s) e) NotNear) (member-is k (endA edges e) l (b .0)) (member-is k (endB edges e) l (b .1))
+      ∙ ap (λ (p : Proximity). cond (contains (endA edges e) list && contains (endB edges e) list) p NotNear) (sym (edge-proximity s (held .accepted) e q)))
+
   -- the member table is short enough that every entry is counted
   table-short : length (memberTable (communities (network s))) ≤ 65535
   table-short = let f = accepted-fits s (held .accepted) in omega (arith, memberships-bound s (held .accepted), f .n-limit, f .m-limit)
 
-  pub text-is : (t : Totals) (ts outlier-set : List ℕ) → GroupsCounted (edgeRecords s) starts table (head .counts .groups) ts
+  pub text-is : (t : Totals) (ts rs outlier-set : List ℕ) → GroupsCounted (edgeRecords s) starts table (head .counts .groups) ts
+      → GroupsReach (handsetRecords s) (edgeRecords s) (limitSquared s) starts table (head .counts .groups) rs
       → RolesCounted (memberTable (communities (network s))) cores-set (handsetCount s) t outlier-set
-      → tableText (record { head = head; totals = t }) starts table ts cores-set outlier-set ≡ reportText s
+      → tableText (record { head = head; totals = t }) starts table ts rs cores-set outlier-set ≡ reportText s
   unfolding tableText reportText reportWith cores outliers
-  text-is t ts outlier-set e o =
+  text-is t ts rs outlier-set e r o =
       let n : ℕ = handsetCount s in
       let g : Network = network s in
       let few : n ≤ 512 = omega (arith, accepted-fits s (held .accepted) .n-limit) in
@@ -127,18 +158,19 @@ module _ {s : List ℕ} {h : Header} {head : Head} {starts table cores-set : Lis
       ap₂ (λ (a b : List ℕ). a ++ b)
       (ap headLine (held .head-is))
       (ap₂ (λ (a b : List ℕ). a ++ b)
-      (lines-are s (communities g) starts table ts (head .counts .groups) part-at (tally-held ts e) ∙ ap (groupLines s (communities g)) groups-are)
+      (lines-are s (communities g) starts table ts rs (head .counts .groups) part-at (tally-held ts e) (reach-held rs r) ∙ ap (groupLines s (communities g)) groups-are)
       (ap₂ (λ (a b : List ℕ). a ++ b)
       (ap (listLine (bytes "cores:")) core-list)
       (ap₂ (λ (a b : List ℕ). a ++ b)
       (ap (listLine (bytes "outliers:")) outlier-list)
       (ap totalsLine (plan-totals g cores-set few table-short (held .cores-are) o)))))
 
-  header-fits : headerOf s .edges + edgeBytes * headerOf s .m ≤ length s
-  header-fits = omega (arith, accepted-fits s (held .accepted) .edges-to, length-is s (held .accepted))
-
+  -- both tables of records stand in the image
   pub edges-fit : h .edges + edgeBytes * h .m ≤ length s
-  edges-fit = rw (held .header) header-fits
+  edges-fit = rw (held .header) (omega (arith, accepted-fits s (held .accepted) .edges-to, length-is s (held .accepted)))
+
+  pub handsets-fit : h .handsets + handsetBytes * h .n ≤ length s
+  handsets-fit = rw (held .header) (omega (arith, accepted-fits s (held .accepted) .handsets-to, length-is s (held .accepted)))
 
   pub members-fit : head .counts .memberships ≤ length table
   members-fit =
@@ -153,18 +185,23 @@ module _ {s : List ℕ} {h : Header} {head : Head} {starts table cores-set : Lis
       ∙ ap (take (head .counts .memberships)) (held .members-are)
       ∙ take-at (memberTable gs) (drop (length (memberTable gs)) (replicate 8704 0)) (head .counts .memberships) (sym memberships-are)
 
-  -- the part of the image that the edge records stand in
-  edges-part : take ((headerOf s .edges + edgeBytes * headerOf s .m) - headerOf s .edges) (drop (headerOf s .edges) s) ≡ edgeRecords s
+  -- the parts of the image that the records stand in
+  edges-part : take ((h .edges + edgeBytes * h .m) - h .edges) (drop (h .edges) s) ≡ edgeRecords s
   unfolding edgeRecords
-  edges-part = records.part-is s (headerOf s .edges) (edgeBytes * edgeCount s)
+  edges-part = records.part-is s (h .edges) (edgeBytes * h .m) ∙ ap (λ (x : Header). take (edgeBytes * x .m) (drop (x .edges) s)) (held .header)
 
-  pub text-held : (t : Totals) (ts outlier-set : List ℕ)
+  handsets-part : take ((h .handsets + handsetBytes * h .n) - h .handsets) (drop (h .handsets) s) ≡ handsetRecords s
+  unfolding handsetRecords
+  handsets-part = records.part-is s (h .handsets) (handsetBytes * h .n) ∙ ap (λ (x : Header). take (handsetBytes * x .n) (drop (x .handsets) s)) (held .header)
+
+  pub text-held : (t : Totals) (ts rs outlier-set : List ℕ)
       → GroupsCounted (take ((h .edges + edgeBytes * h .m) - h .edges) (drop (h .edges) s)) starts table (head .counts .groups) ts
+      → GroupsReach (take ((h .handsets + handsetBytes * h .n) - h .handsets) (drop (h .handsets) s)) (take ((h .edges + edgeBytes * h .m) - h .edges) (drop (h .edges) s)) (h .limit) starts table (head .counts .groups) rs
       → RolesCounted (take (head .counts .memberships - 0) (drop 0 table)) cores-set (h .n) t outlier-set
-      → tableText (record { head = head; totals = t }) starts table ts cores-set outlier-set ≡ reportText s
-  text-held t ts outlier-set e o =
-      let counted : GroupsCounted (take ((headerOf s .edges + edgeBytes * headerOf s .m) - headerOf s .edges) (drop (headerOf s .edges) s)) starts table (head .counts .groups) ts =
-      subst (λ (x : Header). GroupsCounted (take ((x .edges + edgeBytes * x .m) - x .edges) (drop (x .edges) s)) starts table (head .counts .groups) ts) (held .header) e in
-      text-is t ts outlier-set
-      (subst (λ (part : List ℕ). GroupsCounted part starts table (head .counts .groups) ts) edges-part counted)
+      → tableText (record { head = head; totals = t }) starts table ts rs cores-set outlier-set ≡ reportText s
+  text-held t ts rs outlier-set e r o =
+      text-is t ts rs outlier-set
+      (subst (λ (part : List ℕ). GroupsCounted part starts table (head .counts .groups) ts) edges-part e)
+      (subst (λ (limit : ℕ). GroupsReach (handsetRecords s) (edgeRecords s) limit starts table (head .counts .groups) rs) (ap (λ (x : Header). x .limit) (held .header))
+      (subst₂ (λ (hs es : List ℕ). GroupsReach hs es (h .limit) starts table (head .counts .groups) rs) handsets-part edges-part r))
       (subst₂ (λ (part : List ℕ) (x : Header). RolesCounted part cores-set (x .n) t outlier-set) written-part (held .header) o)

@@ -3,7 +3,9 @@
 --
 --     fourLine w x y z f             a line of four words, each with its number
 --     groupTally ts k l              the tally of group k with the members l, from a table that holds the edges inside it at k and its leaving edges at 512 + k
---     tableLines ..                  the lines of the first k groups, from the plan's two tables and the tallies
+--     reachOf x                      the reach that a table's number x stands for (tallies/specs/Tallies: reachEntry)
+--     groupReach rs k                the reach of group k, from a table of reaches
+--     tableLines ..                  the lines of the first k groups, from the plan's two tables, the tallies and the reaches
 --     tableText ..                   the whole text from the numbers of the first and last line, the tables and the two sets
 --     Filled t l r l′                a text t was written into the buffer l where it fits: the answer r, and the buffer after
 --     PlanHeld s ..                  an accepted image's header, the numbers of line one, the plan in the two tables, and the set of cores
@@ -17,6 +19,8 @@ use Rattle.sets.specs.Rows.{SetOf}
 use Rattle.image.specs.Image.{headerOf, handsetCount}
 use Rattle.image.specs.Questions.{Accepted}
 use Rattle.image.specs.declared.Header.{Header}
+use Rattle.image.specs.declared.Proximity.{Proximity}
+use Rattle.image.specs.declared.Proximity.the-variants.{Near, NotNear}
 use Rattle.community.specs.Network.{isCore, communities}
 use Rattle.community.specs.Scores.{pairs}
 use Rattle.community.specs.Site.{network}
@@ -41,16 +45,24 @@ unfoldable pub groupTally : List ℕ → ℕ → List ℕ → Tally
 unfolding pairs
 groupTally ts k l = record { pairs = pairs (take 512 l); joined = getD ts k 0; leaving = getD ts (512 + k) 0 }
 
+abbrev pub reachOf : ℕ → Proximity
+reachOf zero = NotNear
+reachOf (suc d) = Near d
+
+unfoldable pub groupReach : List ℕ → ℕ → Proximity
+groupReach rs k = reachOf (getD rs k 0)
+
 -- ---- the text from the tables
 
-unfoldable pub tableLines : List ℕ → List ℕ → List ℕ → ℕ → List ℕ
-tableLines starts members ts zero = []
-tableLines starts members ts (suc k) = tableLines starts members ts k ++ groupLine k (scoresFor (groupTally ts k (membersOf starts members k))) (membersOf starts members k)
+unfoldable pub tableLines : List ℕ → List ℕ → List ℕ → List ℕ → ℕ → List ℕ
+tableLines starts members ts rs zero = []
+tableLines starts members ts rs (suc k) =
+    tableLines starts members ts rs k ++ groupLine k (scoresFor (groupTally ts k (membersOf starts members k))) (groupReach rs k) (membersOf starts members k)
 
-unfoldable pub tableText : Numbers → List ℕ → List ℕ → List ℕ → List ℕ → List ℕ → List ℕ
-tableText numbers starts members ts cores outliers =
+unfoldable pub tableText : Numbers → List ℕ → List ℕ → List ℕ → List ℕ → List ℕ → List ℕ → List ℕ
+tableText numbers starts members ts rs cores outliers =
     headLine (numbers .head)
-    ++ (tableLines starts members ts (numbers .head .counts .groups) ++ (listLine (bytes "cores:") (T.elementsOf cores) ++ (listLine (bytes "outliers:") (T.elementsOf outliers)
+    ++ (tableLines starts members ts rs (numbers .head .counts .groups) ++ (listLine (bytes "cores:") (T.elementsOf cores) ++ (listLine (bytes "outliers:") (T.elementsOf outliers)
     ++ totalsLine (numbers .totals))))
 
 pub record Filled (t l : List ℕ) (r : Reported) (l′ : List ℕ) : Type 0 where

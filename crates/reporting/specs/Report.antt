@@ -1,10 +1,11 @@
--- The text of a report, and the answers of the calls that write it (paper 01, "Scores, lookup, report"; paper 02, order 1).
+-- The text of a report, and the answers of the calls that write it (paper 01, "Scores, lookup, report"; paper 02, orders 1 and 6).
 --
 --     newline                byte 10, which ends each line
 --     headLine h             line one: n, m, and the plan's two counts
 --     scoreText c            a score: two numbers with a slash between, not reduced; a hyphen for no score
---     scoresPart k c         what stands before the colon in the line of group k: its number and its scores
---     groupLine k c l        the line of group k: those, a colon, the group's members
+--     scoresPart k c         how the line of group k begins: its number and its scores
+--     reachText r            a reach: its squared distance; a hyphen for none
+--     groupLine k c r l      the line of group k: those, its reach, a colon, the group's members
 --     listLine word l        a line of a word and the numbers of a list
 --     totalsLine t           the last line: how many handsets have each role, and how many borders are in two communities or more
 --     groupLines s gs k      the lines of the first k groups
@@ -38,8 +39,11 @@ use Rattle.image.specs.Answers.{Answer, refused, refusal, given, Injective}
 use Rattle.image.specs.declared.Refusal.{Refusal}
 use Rattle.image.specs.declared.Opened.{Opened}
 use Rattle.image.specs.declared.Opened.the-variants as O
+use Rattle.image.specs.declared.Proximity.{Proximity}
+use Rattle.image.specs.declared.Proximity.the-variants.{Near, NotNear}
 use Rattle.community.specs.Network.{Network, communities, cores, role}
 use Rattle.community.specs.Tables.{memberTable}
+use Rattle.community.specs.Reach.{reach}
 use Rattle.community.specs.Site.{network}
 use Rattle.tables.specs.Plan.{over}
 use Rattle.scores.specs.declared.Score.{Score}
@@ -70,8 +74,12 @@ scoreText Nothing = bytes "-"
 unfoldable pub scoresPart : ℕ → Scores → List ℕ
 scoresPart k c = bytes "group " ++ (decimal k ++ (bytes " density " ++ (scoreText (c .density) ++ (bytes " conductance " ++ scoreText (c .conductance)))))
 
-unfoldable pub groupLine : ℕ → Scores → List ℕ → List ℕ
-groupLine k c l = scoresPart k c ++ (bytes ":" ++ (numbers l ++ newline))
+unfoldable pub reachText : Proximity → List ℕ
+reachText (Near d) = decimal d
+reachText NotNear = bytes "-"
+
+unfoldable pub groupLine : ℕ → Scores → Proximity → List ℕ → List ℕ
+groupLine k c r l = scoresPart k c ++ (bytes " reach " ++ (reachText r ++ (bytes ":" ++ (numbers l ++ newline))))
 
 unfoldable pub listLine : List ℕ → List ℕ → List ℕ
 listLine word l = word ++ (numbers l ++ newline)
@@ -85,7 +93,7 @@ totalsLine t =
 
 unfoldable pub groupLines : List ℕ → List (List ℕ) → ℕ → List ℕ
 groupLines s gs zero = []
-groupLines s gs (suc k) = groupLines s gs k ++ groupLine k (scoresFor (tallyOf s (getD gs k []))) (getD gs k [])
+groupLines s gs (suc k) = groupLines s gs k ++ groupLine k (scoresFor (tallyOf s (getD gs k []))) (reach s (getD gs k [])) (getD gs k [])
 
 unfoldable pub outliers : Network → List ℕ
 outliers g = select (g .n) (λ v. isOutlier (role g v))

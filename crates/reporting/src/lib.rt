@@ -1,6 +1,7 @@
 // The report: the text of a site's plan, written into a lent buffer, and the text that the report program prints.
 use image::Header;
 use image::Opened;
+use image::Proximity;
 use image::Refusal;
 use scores::Score;
 use scores::Tally;
@@ -15,8 +16,8 @@ ghost use Rattle.image.specs.Image.{headerOf};
 ghost use Rattle.image.specs.Questions.{Accepted};
 ghost use Rattle.scores.specs.Scored.{scoresFor};
 ghost use Rattle.text.specs.Text.{Wrote, decimal, elementsOf};
-ghost use Rattle.reporting.specs.Report.{headLine, scoreText, scoresPart, groupLine, listLine, totalsLine, reportText, ReportCall, refusedText, programText};
-ghost use Rattle.reporting.specs.Held.{fourLine, groupTally, tableText, Filled, PlanHeld};
+ghost use Rattle.reporting.specs.Report.{headLine, scoreText, scoresPart, reachText, groupLine, listLine, totalsLine, reportText, ReportCall, refusedText, programText};
+ghost use Rattle.reporting.specs.Held.{fourLine, groupTally, groupReach, tableText, Filled, PlanHeld};
 
 // What a call for a report answers: the text's length, or the refusal.
 pub enum Reported {
@@ -141,14 +142,33 @@ fn put_scores(text: &mut [u8], at: usize, k: usize, tally: Tally) -> usize
     put_score(text, p4, conductance)
 }
 
+// Writes a reach: its squared distance, or a hyphen where there is none.
+fn put_reach(text: &mut [u8], at: usize, reach: Proximity) -> usize
+    ensures { λ r. ⌜ Wrote (now (text .entry)) at (reachText reach) (now (text .exit)) r ⌝ }
+{
+    match reach {
+        Proximity::Near(d) => text::put_decimal(text, at, d),
+        Proximity::NotNear => text::put(text, at, 45),
+    }
+}
+
 // Writes the line of group k.
-fn put_group(text: &mut [u8], at: usize, k: usize, tally: Tally, members: &[u16]) -> usize
-    ensures { λ r. ⌜ Wrote (now (text .entry)) at (groupLine k (scoresFor tally) (now (members .entry))) (now (text .exit)) r ⌝ }
+fn put_group(
+    text: &mut [u8],
+    at: usize,
+    k: usize,
+    tally: Tally,
+    reach: Proximity,
+    members: &[u16],
+) -> usize
+    ensures { λ r. ⌜ Wrote (now (text .entry)) at (groupLine k (scoresFor tally) reach (now (members .entry))) (now (text .exit)) r ⌝ }
 {
     let p1 = put_scores(text, at, k, tally);
-    let p2 = text::put(text, p1, 58);
-    let p3 = text::put_numbers(text, p2, members);
-    text::put(text, p3, 10)
+    let p2 = text::put_all(text, p1, b" reach ");
+    let p3 = put_reach(text, p2, reach);
+    let p4 = text::put(text, p3, 58);
+    let p5 = text::put_numbers(text, p4, members);
+    text::put(text, p5, 10)
 }
 
 // The tally of group k, from the table of tallies and the group's members; 0 for a place past the table's end.
@@ -161,6 +181,20 @@ fn group_tally(tallies: &[u32], k: usize, members: &[u16]) -> Tally
         joined: at_or_zero(tallies, k),
         leaving: at_or_zero(tallies, 512 + k),
     }
+}
+
+// The reach of group k, from the table of reaches; none past the table's end.
+fn group_reach(reaches: &[u64], k: usize) -> Proximity
+    ensures { λ r. ⌜ r ≡ groupReach (now (reaches .entry)) k ⌝ }
+{
+    if reaches.len() <= k {
+        return Proximity::NotNear;
+    }
+    let entry = reaches[k];
+    if entry == 0 {
+        return Proximity::NotNear;
+    }
+    Proximity::Near(entry - 1)
 }
 
 // What stands at a place of a table; 0 past its end.
@@ -179,25 +213,27 @@ fn put_set(text: &mut [u8], at: usize, word: &[u8], set: &[u64]) -> usize
     text::put(text, p2, 10)
 }
 
-// Writes the whole report from the numbers of its first and last line, the plan's tables, the tallies, and the sets of cores and of outliers.
+// Writes the whole report from the numbers of its first and last line, the plan's tables, the tallies and reaches, and the sets of cores and of outliers.
 fn put_report<'a>(
     text: &mut [u8],
     numbers: Numbers,
     starts: &'a [u32],
     members: &'a [u16],
     tallies: &'a [u32],
+    reaches: &'a [u64],
     cores: &'a [u64],
     outliers: &'a [u64],
 ) -> usize
     requires { ⌜ numbers .head .counts .groups ≤ 512 ⌝ }
-    ensures { λ r. ⌜ Wrote (now (text .entry)) 0 (tableText numbers (now (starts .entry)) (now (members .entry)) (now (tallies .entry)) (now (cores .entry)) (now (outliers .entry))) (now (text .exit)) r ⌝ }
+    ensures { λ r. ⌜ Wrote (now (text .entry)) 0 (tableText numbers (now (starts .entry)) (now (members .entry)) (now (tallies .entry)) (now (reaches .entry)) (now (cores .entry)) (now (outliers .entry))) (now (text .exit)) r ⌝ }
 {
     let groups = numbers.head.counts.groups;
     let mut next = put_head(text, 0, numbers.head);
     let mut k: usize = 0;
     while k < groups {
         let list = lookup::members(starts, members, k);
-        next = put_group(text, next, k, group_tally(tallies, k, list), list);
+        let tally = group_tally(tallies, k, list);
+        next = put_group(text, next, k, tally, group_reach(reaches, k), list);
         k += 1;
     }
     let p1 = put_set(text, next, b"cores:", cores);
@@ -219,12 +255,24 @@ fn report_plan<'a>(
     requires { ⌜ PlanHeld (now image) h head (now starts) (now members) (now cores) ⌝ }
     ensures { λ r. ⌜ Filled (reportText (now (image .entry))) (now (text .entry)) r (now (text .exit)) ⌝ }
 {
+    let from = h.handsets as usize;
+    let to = from + fields::HANDSET_BYTES * (h.n as usize);
     let a = h.edges as usize;
     let b = a + fields::EDGE_BYTES * (h.m as usize);
     let groups = head.counts.groups;
     let memberships = head.counts.memberships;
     let mut tallies = [0u32; 1024];
-    tallies::count_groups(&image[a..b], starts, members, groups, &mut tallies);
+    let mut reaches = [0u64; 512];
+    tallies::count_groups(
+        &image[from..to],
+        &image[a..b],
+        h.limit,
+        starts,
+        members,
+        groups,
+        &mut tallies,
+        &mut reaches,
+    );
     let mut outliers = [0u64; 8];
     let totals = totals::count_roles(&members[0..memberships], cores, h.n as usize, &mut outliers);
     let numbers = Numbers { head, totals };
@@ -235,11 +283,21 @@ fn report_plan<'a>(
         starts,
         members,
         &tallies,
+        &reaches,
         cores,
         &outliers,
     );
     if need <= text.len() {
-        let length = put_report(text, numbers, starts, members, &tallies, cores, &outliers);
+        let length = put_report(
+            text,
+            numbers,
+            starts,
+            members,
+            &tallies,
+            &reaches,
+            cores,
+            &outliers,
+        );
         return Reported::Written(length);
     }
     Reported::Refused(Refusal {

@@ -4,6 +4,8 @@
 --     joined-none, joined-more      the rows with the first handsets of a list added to a group: none, and one more
 --     rows-none, rows-more          the rows of the first groups: of none, and of one more
 --     raised-more, raised-done      a table where the bits of a word are added one by one, the lowest first; raised-le: none is raised by more than 1
+--     bitFor-cleared                without its lowest bit, a word has the other bits that it had
+--     word-more                     the groups of the first words that pass, with one word more; words-all: all words that begin below a bound
 --     edge-none, edge-more          one edge, for the groups of the first words: of none, and of one more; edge-done: of all that begin below a bound
 --     edge-room                     one edge makes no count too large
 --     edges-none, edges-more        the first edges: none, and one more; edges-room: the next edge has room
@@ -137,7 +139,7 @@ bitFor-at base w k h =
     ap₂ (λ (a b : Bool). cond (a && b) (bitOf w ((base + k) - base)) 0) (le-leb base (base + k) (omega arith)) (lt-ltb (base + k) (base + 64) (omega arith))
     ∙ ap (bitOf w) (let e : (base + k) - base ≡ k = omega arith in e)
 
-bitFor-of : (base w i k : ℕ) → k < 64 → i ≡ base + k → bitFor base w i ≡ bitOf w k
+pub bitFor-of : (base w i k : ℕ) → k < 64 → i ≡ base + k → bitFor base w i ≡ bitOf w k
 bitFor-of base w i k h e = ap (bitFor base w) e ∙ bitFor-at base w k h
 
 pub bitFor-le : (base w i : ℕ) → bitFor base w i ≤ 1
@@ -150,25 +152,25 @@ bitFor-le base w i =
 pub raised-le : {ts ts′ : List ℕ} {base w : ℕ} → Raised ts base w ts′ → (i : ℕ) → getD ts′ i 0 ≤ getD ts i 0 + 1
 raised-le {ts} {ts′} {base} {w} r i = omega (arith, r .counts i, bitFor-le base w i)
 
+pub bitFor-cleared : (base w t i : ℕ) → Lowest w t → (i ≡ base + t → ⊥) → bitFor base (cleared w) i ≡ bitFor base w i
+bitFor-cleared base w t i low n =
+    ⊎-elim (λ l. bitFor-before base (cleared w) i l ∙ sym (bitFor-before base w i l))
+    (⊎-elim
+    (λ p. bitFor-of base (cleared w) i (p .0) (p .1) (p .2) ∙ cleared-other w t low (p .0) (λ e. n (omega (arith, p .2))) ∙ sym (bitFor-of base w i (p .0) (p .1) (p .2)))
+    (λ l. bitFor-past base (cleared w) i l ∙ sym (bitFor-past base w i l)))
+    (where-is base i)
+
 pub raised-more : (ts : List ℕ) (base w t : ℕ) → t < 64 → Lowest w t → base + t < length ts
     → (i : ℕ) → getD (set ts (base + t) (getD ts (base + t) 0 + 1)) i 0 + bitFor base (cleared w) i ≡ getD ts i 0 + bitFor base w i
 raised-more ts base w t h low room i = pick (ℕ-discrete i (base + t))
   where
-    same : (i ≡ base + t → ⊥) → bitFor base (cleared w) i ≡ bitFor base w i
-    same n =
-        ⊎-elim (λ l. bitFor-before base (cleared w) i l ∙ sym (bitFor-before base w i l))
-        (⊎-elim
-        (λ p. bitFor-of base (cleared w) i (p .0) (p .1) (p .2) ∙ cleared-other w t low (p .0) (λ e. n (omega (arith, p .2))) ∙ sym (bitFor-of base w i (p .0) (p .1) (p .2)))
-        (λ l. bitFor-past base (cleared w) i l ∙ sym (bitFor-past base w i l)))
-        (where-is base i)
-
     pick : Dec (i ≡ base + t) → getD (set ts (base + t) (getD ts (base + t) 0 + 1)) i 0 + bitFor base (cleared w) i ≡ getD ts i 0 + bitFor base w i
     pick (yes e) =
         let set-here : getD (set ts (base + t) (getD ts (base + t) 0 + 1)) i 0 ≡ getD ts i 0 + 1 =
         ap (λ (x : ℕ). getD (set ts (base + t) (getD ts (base + t) 0 + 1)) x 0) e ∙ getD-set-same ts (base + t) (getD ts (base + t) 0 + 1) 0 room
         ∙ ap (λ (x : ℕ). getD ts x 0 + 1) (sym e) in
         omega (arith, set-here, bitFor-of base (cleared w) i t h e, cleared-same w t low, bitFor-of base w i t h e, low .here)
-    pick (no n) = ap₂ _+_ (getD-set-other ts (base + t) i (getD ts (base + t) 0 + 1) 0 n) (same n)
+    pick (no n) = ap₂ _+_ (getD-set-other ts (base + t) i (getD ts (base + t) 0 + 1) 0 n) (bitFor-cleared base w t i low n)
 
 pub raised-done : (base i : ℕ) → bitFor base 0 i ≡ 0
 raised-done base i =
@@ -179,7 +181,7 @@ raised-done base i =
 -- ---- one edge
 
 -- one word more: the groups of the first j words that pass, and the bits of the next word
-word-more : (f : ℕ → Bool) (j w k : ℕ) → ((r : ℕ) → r < 64 → bitOf w r ≡ bit (f (64 * j + r)))
+pub word-more : (f : ℕ → Bool) (j w k : ℕ) → ((r : ℕ) → r < 64 → bitOf w r ≡ bit (f (64 * j + r)))
     → bit (ltb (64 * (k / 64)) (64 * (j + 1)) && f k) ≡ bit (ltb (64 * (k / 64)) (64 * j) && f k) + bitFor (64 * j) w k
 word-more f j w k e =
     ⊎-elim
@@ -244,7 +246,7 @@ module _ (rows : List ℕ) (u v j : ℕ) where
       sym (test-bit (cell rows x (64 * j + r)) (bitAt-lt rows (x * 512 + (64 * j + r)))
       ∙ ap (cell rows x) (let e : 64 * j + r ≡ j * 64 + r = omega arith in e) ∙ cell-word rows x j r h)
 
-  joined-bit : (r : ℕ) → r < 64 → bitOf (bitAnd here there) r ≡ bit (inGroup rows u (64 * j + r) && inGroup rows v (64 * j + r))
+  pub joined-bit : (r : ℕ) → r < 64 → bitOf (bitAnd here there) r ≡ bit (inGroup rows u (64 * j + r) && inGroup rows v (64 * j + r))
   joined-bit r h = bitOf-and here there r ∙ ap₂ min (in-word u r h) (in-word v r h) ∙ both-bits (inGroup rows u (64 * j + r)) (inGroup rows v (64 * j + r))
 
   leaving-bit : (r : ℕ) → r < 64 → bitOf (bitXor here there) r ≡ bit (justOne (inGroup rows u (64 * j + r)) (inGroup rows v (64 * j + r)))
@@ -278,21 +280,21 @@ module _ (rows : List ℕ) (u v j : ℕ) where
       }
 
 -- the first j words are those that begin below `groups`
+pub words-all : (j groups k : ℕ) → groups ≤ 64 * j → 64 * j < groups + 64 → ltb (64 * (k / 64)) (64 * j) ≡ ltb (64 * (k / 64)) groups
+words-all j groups k h l = pick (decLt (64 * (k / 64)) groups)
+  where
+    pick : Dec (64 * (k / 64) < groups) → ltb (64 * (k / 64)) (64 * j) ≡ ltb (64 * (k / 64)) groups
+    pick (yes q) = lt-ltb (64 * (k / 64)) (64 * j) (omega arith) ∙ sym (lt-ltb (64 * (k / 64)) groups q)
+    pick (no q) = le-ltb (64 * (k / 64)) (64 * j) (omega arith) ∙ sym (le-ltb (64 * (k / 64)) groups (omega arith))
+
 pub edge-done : (rows : List ℕ) (u v j groups : ℕ) (ts₀ ts : List ℕ) → groups ≤ 64 * j → 64 * j < groups + 64
     → EdgeCounted rows u v (64 * j) ts₀ ts → EdgeCounted rows u v groups ts₀ ts
 unfolding joinedIn leavesIn
 edge-done rows u v j groups ts₀ ts h l c = record {
   size = c .size;
-  joined = λ k q. rw (← same k) (c .joined k q);
-  leaving = λ k q. rw (← same k) (c .leaving k q);
+  joined = λ k q. rw (← words-all j groups k h l) (c .joined k q);
+  leaving = λ k q. rw (← words-all j groups k h l) (c .leaving k q);
 }
-  where
-    same : (k : ℕ) → ltb (64 * (k / 64)) (64 * j) ≡ ltb (64 * (k / 64)) groups
-    same k = pick (decLt (64 * (k / 64)) groups)
-      where
-        pick : Dec (64 * (k / 64) < groups) → ltb (64 * (k / 64)) (64 * j) ≡ ltb (64 * (k / 64)) groups
-        pick (yes q) = lt-ltb (64 * (k / 64)) (64 * j) (omega arith) ∙ sym (lt-ltb (64 * (k / 64)) groups q)
-        pick (no q) = le-ltb (64 * (k / 64)) (64 * j) (omega arith) ∙ sym (le-ltb (64 * (k / 64)) groups (omega arith))
 
 -- what one edge leaves still has room
 pub edge-room : (rows : List ℕ) (u v groups : ℕ) (ts₀ ts : List ℕ) → CountsBelow ts₀ → EdgeCounted rows u v groups ts₀ ts → (i : ℕ) → i < 1024 → getD ts i 0 ≤ 4097
@@ -363,7 +365,7 @@ module _ (rows part starts members : List ℕ) (groups first : ℕ) (size : leng
   unfolding isMember
   none v k h l = ap (λ (b : Bool). (b && ltb v 512) && contains v (membersOf starts members k)) (sym (counted k h) ∙ le-ltb k first (omega arith))
 
-  joined-is : (u v k : ℕ) → k < 512 → joinedIn rows first u v k ≡ (isMember starts members groups k u && isMember starts members groups k v)
+  pub joined-is : (u v k : ℕ) → k < 512 → joinedIn rows first u v k ≡ (isMember starts members groups k u && isMember starts members groups k v)
   unfolding joinedIn
   joined-is u v k h = ap₂ (λ (a b : Bool). ltb (64 * (k / 64)) first && (a && b)) (in-group u k h) (in-group v k h) ∙ pick (decLt (64 * (k / 64)) first)
     where

@@ -8,7 +8,11 @@
 --     CountsBelow ts                 a table of 1,024 numbers, none above 4,096: one more edge makes none too large
 --     EdgeCounted ..                 a table with one edge added, for the groups of the rows' words that begin below a bound
 --     EdgesCounted ..                the counts over the first m edges, for those groups
-use Prim.Native.Nat.{ℕ, _+_, _*_, _-_, _/_, _≤_, _<_}
+--     RaisedTo rs base w x ..        a table whose number at base + k, for each set bit k of the word w, is no less than x
+--     edgeOf ..                      edge k of a part, with what the near test of its ends makes of a reach
+--     EdgeReached ..                 a table of reaches with one edge added, for those groups
+--     EdgesReached ..                the reaches over the first m edges, for those groups
+use Prim.Native.Nat.{ℕ, _+_, _*_, _-_, _/_, _≤_, _<_, max}
 use mathlib.Core.Path.{_≡_}
 use mathlib.Core.Bool.{Bool, _&&_, _||_, cond}
 use mathlib.Core.List.{List}
@@ -17,8 +21,13 @@ use lib.ListN.{length, getD}
 use Rattle.sets.specs.Below.{bit, count}
 use Rattle.sets.specs.Bits.{bitOf, cell}
 use Rattle.image.specs.Image.{endA, endB}
+use Rattle.image.specs.Near.{edgeProximity}
+use Rattle.image.specs.declared.Proximity.the-variants.{NotNear}
 use Rattle.community.specs.Network.{contains}
 use Rattle.community.specs.Scores.{justOne}
+use Rattle.community.specs.Reach.{farthest}
+use Rattle.tallies.specs.Tallies.{reachEntry}
+use Rattle.tallies.specs.declared.Edge.{Edge}
 
 -- whether handset v is in group k, by its row
 abbrev pub inGroup : List ℕ → ℕ → ℕ → Bool
@@ -56,3 +65,19 @@ pub record EdgesCounted (rows part : List ℕ) (m groups : ℕ) (ts : List ℕ) 
   pub size : length ts ≡ 1024
   pub joined : (k : ℕ) → k < 512 → getD ts k 0 ≡ count m (λ e. joinedIn rows groups (endA part e) (endB part e) k)
   pub leaving : (k : ℕ) → k < 512 → getD ts (512 + k) 0 ≡ count m (λ e. leavesIn rows groups (endA part e) (endB part e) k)
+
+pub record RaisedTo (rs : List ℕ) (base w x : ℕ) (rs′ : List ℕ) : Type 0 where
+  pub size : length rs′ ≡ length rs
+  pub entries : (i : ℕ) → getD rs′ i 0 ≡ max (getD rs i 0) (x * bitFor base w i)
+
+abbrev pub edgeOf : List ℕ → List ℕ → ℕ → ℕ → Edge
+edgeOf handsets part limit k = record { a = endA part k; b = endB part k; entry = reachEntry (edgeProximity handsets part limit k) }
+
+pub record EdgeReached (rows : List ℕ) (edge : Edge) (groups : ℕ) (rs rs′ : List ℕ) : Type 0 where
+  pub size : length rs′ ≡ 512
+  pub entries : (k : ℕ) → k < 512 → getD rs′ k 0 ≡ max (getD rs k 0) (edge .entry * bit (joinedIn rows groups (edge .a) (edge .b) k))
+
+pub record EdgesReached (rows handsets part : List ℕ) (m limit groups : ℕ) (rs : List ℕ) : Type 0 where
+  pub size : length rs ≡ 512
+  pub entries : (k : ℕ) → k < 512
+      → getD rs k 0 ≡ reachEntry (farthest m (λ e. cond (joinedIn rows groups (endA part e) (endB part e) k) (edgeProximity handsets part limit e) NotNear))

@@ -168,6 +168,7 @@ fn accepted(
     nearest(planner, image, found, rng)?;
     let text = reference::text(found);
     reports(planner, image, &text, rng)?;
+    reaches(planner, image)?;
     written_again(planner, image, found, &text, rng)
 }
 
@@ -499,6 +500,93 @@ fn report_into(planner: &dyn Planner, image: &[u8], text: &[u8], buffer: usize) 
     holds(format_args!("what the report left in {buffer} bytes"), lent.holds(written))
 }
 
+/// The reach of each group in a planner's own report, by the ties and positions of the image.
+fn reaches(planner: &dyn Planner, image: &[u8]) -> Outcome {
+    let near_ties = near_ties(image);
+    for (k, line) in group_lines(planner, image)?.iter().enumerate() {
+        let GroupLine { reach, members, .. } = line;
+        let right = is_reach(members, &near_ties, *reach);
+        holds(format_args!("reach of group {k}, {members:?}: {reach:?} is not"), right)?;
+    }
+    Ok(())
+}
+
+/// Whether a reach is right for a group's members: some near tie between two of them is just so long, and
+/// none is longer. None is right where no near tie joins two of them, and only there.
+fn is_reach(members: &[u16], near_ties: &[NearTie], reach: Option<u64>) -> bool {
+    let inside = |tie: &&NearTie| members.contains(&tie.ends.0) && members.contains(&tie.ends.1);
+    let mut distances = near_ties.iter().filter(inside).map(|tie| tie.squared_distance);
+    match reach {
+        None => distances.next().is_none(),
+        Some(reach) => distances.clone().any(|d| d == reach) && distances.all(|d| d <= reach),
+    }
+}
+
+/// A near tie of an image.
+struct NearTie {
+    ends: (u16, u16),
+    squared_distance: u64,
+}
+
+/// The near ties of an accepted image, by its bytes.
+fn near_ties(image: &[u8]) -> Vec<NearTie> {
+    let (positions, (records, _)) =
+        (positions(image), image[Tables::of(image).tie_bytes()].as_chunks::<4>());
+    let gamma_squared = i128::from(u64::from_le_bytes(*image[16..].first_chunk().expect("G")));
+    let near_tie = |&[a, b, c, d]: &[u8; 4]| {
+        let ends = (u16::from_le_bytes([a, b]), u16::from_le_bytes([c, d]));
+        let (one, other) = (positions[usize::from(ends.0)], positions[usize::from(ends.1)]);
+        let dx = i128::from(one.0) - i128::from(other.0);
+        let dy = i128::from(one.1) - i128::from(other.1);
+        let squared = dx * dx + dy * dy;
+        (squared <= gamma_squared).then_some(NearTie { ends, squared_distance: squared as u64 })
+    };
+    records.iter().filter_map(near_tie).collect()
+}
+
+/// What the line of a group says after its number; the scores as they stand.
+#[derive(Clone, Debug, PartialEq, Eq, PartialOrd, Ord)]
+struct GroupLine {
+    members: Vec<u16>,
+    density: String,
+    conductance: String,
+    reach: Option<u64>,
+}
+
+impl GroupLine {
+    fn read(line: &str) -> Option<GroupLine> {
+        let (words, members) = line.split_once(':')?;
+        let words: Vec<&str> = words.split(' ').collect();
+        let ["group", _, "density", density, "conductance", conductance, "reach", reach] =
+            words[..]
+        else {
+            return None;
+        };
+        let member = |word: &str| word.parse::<u16>().ok();
+        Some(GroupLine {
+            members: members.split_whitespace().map(member).collect::<Option<Vec<u16>>>()?,
+            density: density.to_string(),
+            conductance: conductance.to_string(),
+            reach: match reach {
+                "-" => None,
+                digits => Some(digits.parse().ok()?),
+            },
+        })
+    }
+}
+
+/// The lines of the groups in a planner's report of an accepted image.
+fn group_lines(planner: &dyn Planner, image: &[u8]) -> Result<Vec<GroupLine>, String> {
+    let mut text = vec![0; 65_536];
+    let length = planner
+        .report(image, &mut text)
+        .map_err(|number| format!("the report was refused: {number}"))?;
+    let text = String::from_utf8_lossy(&text[..length as usize]);
+    let lines = text.lines().filter(|line| line.starts_with("group "));
+    let read = |line| GroupLine::read(line).ok_or_else(|| format!("no line of a group: {line}"));
+    lines.map(read).collect()
+}
+
 // ---------------------------------------------------------------- the writer
 
 /// Lengths of buffers: two that hold no image, and one that holds every image.
@@ -611,8 +699,9 @@ fn written_again(
 
 // ---------------------------------------------------------------- renumberings
 
-/// A renumbering of an accepted image: the plan, numbered back, has the same sets, and each role is
-/// the same but for a core's group number. Both sides are the planner's own.
+/// A renumbering of an accepted image: the plan, numbered back, has the same sets, the report has the same
+/// scores and reach for each of them, and each role is the same but for a core's group number. Both sides
+/// are the planner's own.
 pub fn renumbering(planner: &dyn Planner, first: &[u8], rng: &mut Rng) -> Outcome {
     let (second, map) = sites::renumber(first, rng);
     let mut back = vec![0; map.len()];
@@ -623,6 +712,17 @@ pub fn renumbering(planner: &dyn Planner, first: &[u8], rng: &mut Rng) -> Outcom
     let (second_sets, second_counts) = numbered_back(planner, &second, &back, lengths)?;
     same("counts after a renumbering", second_counts, counts)?;
     same("sets after a renumbering", second_sets, sets)?;
+    let lines = |image: &[u8], back: &[u16]| {
+        let mut lines = group_lines(planner, image)?;
+        lines.iter_mut().for_each(|line| number_back(&mut line.members, back));
+        lines.sort_unstable();
+        Ok::<_, String>(lines)
+    };
+    same(
+        "groups of the report after a renumbering",
+        lines(&second, &back)?,
+        lines(first, &plain)?,
+    )?;
     for (handset, &to) in map.iter().enumerate() {
         let role = |image: &[u8], number: u64| {
             let record = planner.role(image, number);
@@ -649,12 +749,15 @@ fn numbered_back(
     lengths: (usize, usize),
 ) -> Result<(Vec<Vec<u16>>, Counts), String> {
     let (mut sets, counts) = plan_sets(planner, image, lengths)?;
-    for set in &mut sets {
-        set.iter_mut().for_each(|member| *member = back[usize::from(*member)]);
-        set.sort_unstable();
-    }
+    sets.iter_mut().for_each(|set| number_back(set, back));
     sets.sort_unstable();
     Ok((sets, counts))
+}
+
+/// One set numbered back, ascending.
+fn number_back(set: &mut [u16], back: &[u16]) {
+    set.iter_mut().for_each(|member| *member = back[usize::from(*member)]);
+    set.sort_unstable();
 }
 
 /// The sets of a plan, with its counts.
@@ -699,6 +802,7 @@ mod tests {
     use super::*;
     use crate::calls::{Date, Parameters, Record, Scores, Time};
     use crate::fast::Fast;
+    use crate::reaches::WrongReach;
     use crate::sites::{site_s, Layout};
 
     /// The optimised planner with one mistake, each of a kind that the comparison must notice.
@@ -730,6 +834,7 @@ mod tests {
         CutsCounts,
         CutsLengths,
         ForgetsTheLastTie,
+        Reaches(WrongReach),
     }
 
     impl Planner for Mistake {
@@ -858,6 +963,9 @@ mod tests {
         }
 
         fn report(&self, image: &[u8], text: &mut [u8]) -> Result<u64, u64> {
+            if let Mistake::Reaches(wrong) = self {
+                return report_with(*wrong, image, text);
+            }
             let length = Fast.report(image, text)?;
             if *self == Mistake::CountsNoMultiple {
                 text[length as usize - 2] = b'0';
@@ -892,7 +1000,30 @@ mod tests {
         }
     }
 
-    /// Site S, the same with its last tie repeated, times, and numbers.
+    /// The report with each reach found in a wrong way.
+    fn report_with(wrong: WrongReach, image: &[u8], text: &mut [u8]) -> Result<u64, u64> {
+        let mut right = vec![0; 65_536];
+        let length = Fast.report(image, &mut right)?;
+        let right = String::from_utf8_lossy(&right[..length as usize]);
+        let found = Findings::of(reference::open(image).expect("accepted"));
+        let mut communities = found.communities().iter();
+        let mut lines = String::new();
+        for line in right.lines() {
+            match (line.split_once(" reach "), line.split_once(':')) {
+                (Some((scores, _)), Some((_, members))) => {
+                    let community = communities.next().expect("a community for each line");
+                    let reach = wrong.reach(&found, community);
+                    let reach = reach.map_or("-".to_string(), |reach| reach.to_string());
+                    lines += &format!("{scores} reach {reach}:{members}\n");
+                }
+                _ => lines += &format!("{line}\n"),
+            }
+        }
+        text.get_mut(..lines.len()).ok_or(16_u64)?.copy_from_slice(lines.as_bytes());
+        Ok(lines.len() as u64)
+    }
+
+    /// Site S, the same with its last tie repeated, sites with reaches of every kind, times, and numbers.
     fn outcome(planner: Mistake) -> Outcome {
         let mut rng = Rng::new(8);
         let good = site_s(4).image(Layout::any(&mut rng), &mut rng);
@@ -901,6 +1032,9 @@ mod tests {
         image(&planner, &good, &mut rng)?;
         renumbering(&planner, &good, &mut rng)?;
         image(&planner, &repeated.plain_image(), &mut rng)?;
+        for site in sites::reaching() {
+            image(&planner, &site.plain_image(), &mut rng)?;
+        }
         hostile_times(&planner, &mut rng)?;
         every_date(&planner)?;
         writing(&planner, &site_s(0), &mut rng)?;
@@ -938,7 +1072,7 @@ mod tests {
             CutsLengths,
             ForgetsTheLastTie,
         ];
-        for mistake in mistakes {
+        for mistake in mistakes.into_iter().chain(WrongReach::ALL.map(Reaches)) {
             assert!(outcome(mistake).is_err(), "{mistake:?} was not noticed");
         }
     }
@@ -960,6 +1094,48 @@ mod tests {
         for mistake in [Mistake::LosesALeapDay, Mistake::CutsYears] {
             assert_eq!(image(&mistake, &good, &mut rng), Ok(()));
         }
+    }
+
+    /// By the ties and positions of the image alone, without the reference.
+    #[test]
+    fn every_wrong_reach_is_noticed() {
+        let noticed = |planner: &dyn Planner| {
+            sites::reaching().iter().any(|site| reaches(planner, &site.plain_image()).is_err())
+        };
+        assert!(!noticed(&Fast) && !noticed(&Mistake::None));
+        for wrong in WrongReach::ALL {
+            assert!(noticed(&Mistake::Reaches(wrong)), "{wrong:?} was not noticed");
+        }
+    }
+
+    #[test]
+    fn reaches_of_a_few_members() {
+        let near_tie = |u, v, squared_distance| NearTie { ends: (u, v), squared_distance };
+        let ties = [near_tie(0, 1, 0), near_tie(2, 1, 9), near_tie(1, 3, 4), near_tie(4, 5, 25)];
+        let right = |members: &[u16], reach| is_reach(members, &ties, reach);
+        assert!(right(&[0, 1, 2, 3], Some(9)) && right(&[0, 1, 3], Some(4)));
+        assert!(right(&[0, 1], Some(0)) && right(&[0, 2, 3, 4], None) && right(&[5], None));
+        // Another tie of theirs, none of theirs, one that leaves, none for 0, 0 for none.
+        assert!(!right(&[0, 1, 2, 3], Some(4)) && !right(&[0, 1, 2, 3], Some(10)));
+        assert!(!right(&[0, 1, 2, 3], Some(25)) && !right(&[0, 1, 2, 3, 4], Some(25)));
+        assert!(!right(&[0, 1], None) && !right(&[5], Some(0)));
+    }
+
+    #[test]
+    fn lines_of_groups() {
+        let line = |reach, members: &[u16]| {
+            let (density, conductance) = ("2/6".to_string(), "-".to_string());
+            Some(GroupLine { members: members.to_vec(), density, conductance, reach })
+        };
+        let read = GroupLine::read;
+        assert_eq!(
+            read("group 0 density 2/6 conductance - reach 50: 1 20"),
+            line(Some(50), &[1, 20])
+        );
+        assert_eq!(read("group 7 density 2/6 conductance - reach -: 3"), line(None, &[3]));
+        assert_eq!(read("group 0 density 2/6 conductance -: 1 20"), None);
+        assert_eq!(read("group 0 density 2/6 conductance - reach : 1"), None);
+        assert_eq!(read("group 0 density 2/6 conductance -  reach 50: 1"), None);
     }
 
     #[test]

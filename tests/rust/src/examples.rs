@@ -9,12 +9,18 @@ pub fn examples() -> Vec<(&'static str, Vec<u8>)> {
     vec![
         // Site S of the specification with mu 4.
         ("report", sites::site_s(4).plain_image()),
+        // One group of one handset, which has no reach.
+        ("report_alone", sites::alone().plain_image()),
+        // A tie beyond gamma inside a group, and a near tie that leaves it: neither counts for its reach.
+        ("report_beyond", sites::beyond().plain_image()),
         // Site S with a blank mu, which means 4.
         ("report_blank", sites::site_s(0).plain_image()),
         // No handsets.
         ("report_empty", sites::untied(0, 3).plain_image()),
         // A border in five groups, and an outlier.
         ("report_hub", sites::hub().plain_image()),
+        // A group whose reach is exactly G.
+        ("report_limit", sites::at_limit().plain_image()),
         // Site S whose tie 5 repeats tie 3 the other way round: refused 10 5.
         ("report_refused", refused.plain_image()),
         // Site S with mu 3 written out.

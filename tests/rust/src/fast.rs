@@ -8,7 +8,9 @@
 //!   whether one repeats another; only a fault starts the search for its number and place;
 //! - bits are cleared for the ties that are not near, then for those that are not alike, as most
 //!   ties are both, and handsets are counted the same way;
-//! - communities are joined a row at a time, and a community's set takes the row of its first core.
+//! - communities are joined a row at a time, and a community's set takes the row of its first core;
+//! - one pass over the ties counts those inside each community and finds its reach, by rows that have
+//!   the communities of each handset; those that leave it follow from the degrees of its members.
 //!
 //! Every pass is linear in the handsets and ties, times the words of a row.
 
@@ -46,6 +48,11 @@ fn thresholds_are_bad(gamma_squared: u64, p: u64, q: u64, mu: u64) -> bool {
 /// Beyond the limits of a coordinate.
 fn outside(coordinate: i32) -> bool {
     coordinate.wrapping_add(MOST_COORDINATE) as u32 > 2 * MOST_COORDINATE as u32
+}
+
+fn squared_distance(here: [f64; 2], there: [f64; 2]) -> f64 {
+    let (dx, dy) = (here[0] - there[0], here[1] - there[1]);
+    dx * dx + dy * dy
 }
 
 /// A tie record as it stands: the first end in the low half.
@@ -262,11 +269,21 @@ struct Network<const W: usize, const R: usize> {
     list: [Tie; MOST_TIES],
     ties: usize,
     near: usize,
+    /// Coordinates fit in 21 bits, so that squares of their differences, and the sum of two, are exact
+    /// in f64, and two of them are computed at once.
+    positions: [[f64; 2]; R],
 }
 
 impl<const W: usize, const R: usize> Network<W, R> {
     fn new() -> Self {
-        Network { rows: [[0; W]; R], degrees: [0; R], list: [0; MOST_TIES], ties: 0, near: 0 }
+        Network {
+            rows: [[0; W]; R],
+            degrees: [0; R],
+            list: [0; MOST_TIES],
+            ties: 0,
+            near: 0,
+            positions: [[0.0; 2]; R],
+        }
     }
 
     /// All ties of the image, after questions 7 to 10.
@@ -286,21 +303,19 @@ impl<const W: usize, const R: usize> Network<W, R> {
         Ok(())
     }
 
-    /// Lists the ties by nearness. Coordinates fit in 21 bits, so the squares and their sum are
-    /// exact in f64, and two of them are computed at once.
+    /// Lists the ties by nearness.
     fn list_ties(&mut self, image: &Image) {
-        let mut positions = [[0.0; 2]; R];
-        for (to, from) in positions.iter_mut().zip(image.positions()) {
+        for (to, from) in self.positions.iter_mut().zip(image.positions()) {
             *to = from.map(f64::from);
         }
+        let positions = &self.positions;
         let gamma_squared = image.gamma_squared as f64;
         self.ties = image.tie_count();
         let (mut near_end, mut far_start) = (0, self.ties);
         for tie in image.ties() {
             let (u, v) = ends(tie);
-            let (here, there) = (positions[u & (R - 1)], positions[v & (R - 1)]);
-            let (dx, dy) = (here[0] - there[0], here[1] - there[1]);
-            let near = dx * dx + dy * dy <= gamma_squared;
+            let distance = squared_distance(positions[u & (R - 1)], positions[v & (R - 1)]);
+            let near = distance <= gamma_squared;
             self.list[near_end & (MOST_TIES - 1)] = tie;
             self.list[(far_start - 1) & (MOST_TIES - 1)] = tie;
             near_end += usize::from(near);
@@ -546,20 +561,73 @@ fn scores(image: &Image, list: &[u16]) -> Result<Scores, Refusal> {
     Ok(scores)
 }
 
-/// The scores of a community. The degrees of its members count its inner ties twice and those that
-/// leave it once; the common members of its rows and itself count its inner ties twice.
-fn community_scores<const W: usize, const R: usize>(
-    set: &[u64; W],
-    rows: &Rows<W, R>,
+/// What the report says of a community beside its members.
+#[derive(Clone, Copy)]
+struct Tally {
+    /// s, t and o.
+    pairs: u32,
+    joined: u32,
+    leaving: u32,
+    /// Below 0 where no near tie joins two members.
+    reach: f64,
+}
+
+/// The tallies of all communities. A tie is inside those that both its ends have the bit of. The first of
+/// them in a word is taken without a branch: place 64 stands for none, and what it gets is not looked at.
+/// The degrees of a community's members count the ties inside it twice and those that leave it once.
+fn tally<const W: usize, const R: usize>(
+    image: &Image,
+    network: &Network<W, R>,
+    found: &Communities<W, R>,
     degrees: &[u16; R],
-) -> [u32; 3] {
-    let (mut volume, mut inside) = (0, 0);
-    for_each(set, |handset| {
-        volume += u32::from(degrees[handset & (R - 1)]);
-        inside += count_common(set, &rows[handset & (R - 1)]);
-    });
-    let size = count(set);
-    [size * (size - 1) / 2, inside / 2, volume - inside]
+) -> [Tally; R] {
+    // By word, then by handset. Mostly one word is enough for all communities, and has a loop of its own.
+    let mut communities = [[0_u64; R]; W];
+    let mut volumes = [0; R];
+    for (k, (set, volume)) in found.sets(network).zip(&mut volumes).enumerate() {
+        let (word, bit) = (&mut communities[word_of::<W>(k)], bit_of(k));
+        for_each(set, |handset| {
+            word[handset & (R - 1)] |= bit;
+            *volume += u32::from(degrees[handset & (R - 1)]);
+        });
+    }
+    let gamma_squared = image.gamma_squared as f64;
+    let tested = |tie: Tie| {
+        let (u, v) = (ends(tie).0 & (R - 1), ends(tie).1 & (R - 1));
+        let distance = squared_distance(network.positions[u], network.positions[v]);
+        (u, v, if distance <= gamma_squared { distance } else { -1.0 })
+    };
+    let (mut joined, mut reaches) = ([[0; 65]; W], [[-1.0; 65]; W]);
+    let mut count_in = |i: usize, (u, v, distance): (usize, usize, f64)| {
+        let (joined, reaches) = (&mut joined[i], &mut reaches[i]);
+        let mut both = communities[i][u] & communities[i][v];
+        loop {
+            let k = both.trailing_zeros() as usize;
+            joined[k] += 1;
+            if distance > reaches[k] {
+                reaches[k] = distance;
+            }
+            both &= both.wrapping_sub(1);
+            if both == 0 {
+                break;
+            }
+        }
+    };
+    match found.count.div_ceil(64).min(W) {
+        0 | 1 => image.ties().for_each(|tie| count_in(0, tested(tie))),
+        words => image.for_each_tie(|tie| {
+            let tested = tested(tie);
+            (0..words).for_each(|i| count_in(i, tested));
+        }),
+    }
+    let mut tallies = [Tally { pairs: 0, joined: 0, leaving: 0, reach: -1.0 }; R];
+    for (k, (set, tally)) in found.sets(network).zip(&mut tallies).enumerate() {
+        let (size, joined) = (count(set), joined[word_of::<W>(k)][k % 64]);
+        let leaving = volumes[k & (R - 1)] - 2 * joined;
+        let reach = reaches[word_of::<W>(k)][k % 64];
+        *tally = Tally { pairs: size * (size - 1) / 2, joined, leaving, reach };
+    }
+    tallies
 }
 
 fn report<const W: usize, const R: usize>(
@@ -568,13 +636,11 @@ fn report<const W: usize, const R: usize>(
 ) -> Result<usize, Refusal> {
     let mut network = Network::<W, R>::new();
     network.read(image)?;
-    let (rows, degrees) = (network.rows, network.degrees);
+    let degrees = network.degrees;
     network.keep_near();
     let found = network.communities(image);
-    let mut lines = Lines::new(image, &network, &found);
-    for (set, scores) in found.sets(&network).zip(&mut lines.scores) {
-        *scores = community_scores(set, &rows, &degrees);
-    }
+    let tallies = tally(image, &network, &found, &degrees);
+    let lines = Lines::new(image, &network, &found, &tallies);
     let mut length = Length(0);
     lines.put(&mut length);
     let Some(text) = text.get_mut(..length.0) else {
@@ -699,8 +765,7 @@ struct Lines<'a, const W: usize, const R: usize> {
     memberships: u32,
     network: &'a Network<W, R>,
     found: &'a Communities<W, R>,
-    /// s, t and o of each community.
-    scores: [[u32; 3]; R],
+    tallies: &'a [Tally; R],
     outliers: [u64; W],
     totals: Totals,
 }
@@ -716,14 +781,18 @@ struct Totals {
 /// Where the text goes: into a count of bytes first, then into the buffer.
 trait Sink {
     fn put(&mut self, text: &str);
-    fn number(&mut self, value: u32);
+    fn number(&mut self, value: u64);
     /// The members of a set, a space before each, and the line's end.
     fn handsets<const W: usize>(&mut self, set: &[u64; W]);
 }
 
 impl<'a, const W: usize, const R: usize> Lines<'a, W, R> {
-    /// Everything but the scores.
-    fn new(image: &Image, network: &'a Network<W, R>, found: &'a Communities<W, R>) -> Self {
+    fn new(
+        image: &Image,
+        network: &'a Network<W, R>,
+        found: &'a Communities<W, R>,
+        tallies: &'a [Tally; R],
+    ) -> Self {
         let mut memberships = 0;
         // Those in one community or more, and those in two or more, of which none is a core.
         let (mut members, mut multiple) = ([0; W], [0; W]);
@@ -751,7 +820,7 @@ impl<'a, const W: usize, const R: usize> Lines<'a, W, R> {
             memberships,
             network,
             found,
-            scores: [[0; 3]; R],
+            tallies,
             outliers,
             totals,
         }
@@ -759,22 +828,28 @@ impl<'a, const W: usize, const R: usize> Lines<'a, W, R> {
 
     fn put(&self, sink: &mut impl Sink) {
         sink.put("handsets ");
-        sink.number(self.handsets as u32);
+        sink.number(self.handsets as u64);
         sink.put(" ties ");
-        sink.number(self.ties as u32);
+        sink.number(self.ties as u64);
         sink.put(" groups ");
-        sink.number(self.found.count as u32);
+        sink.number(self.found.count as u64);
         sink.put(" memberships ");
-        sink.number(self.memberships);
+        sink.number(self.memberships.into());
         sink.put("\n");
         for (k, set) in self.found.sets(self.network).enumerate() {
-            let [s, t, o] = self.scores[k & (R - 1)];
+            let Tally { pairs, joined, leaving, reach } = self.tallies[k & (R - 1)];
             sink.put("group ");
-            sink.number(k as u32);
+            sink.number(k as u64);
             sink.put(" density ");
-            put_score(sink, s - t, s);
+            put_score(sink, pairs - joined, pairs);
             sink.put(" conductance ");
-            put_score(sink, o, 2 * t + o);
+            put_score(sink, leaving, 2 * joined + leaving);
+            sink.put(" reach ");
+            if reach < 0.0 {
+                sink.put("-");
+            } else {
+                sink.number(reach as u64);
+            }
             sink.put(":");
             sink.handsets(set);
         }
@@ -783,13 +858,13 @@ impl<'a, const W: usize, const R: usize> Lines<'a, W, R> {
         sink.put("outliers:");
         sink.handsets(&self.outliers);
         sink.put("cores ");
-        sink.number(self.totals.cores);
+        sink.number(self.totals.cores.into());
         sink.put(" borders ");
-        sink.number(self.totals.borders);
+        sink.number(self.totals.borders.into());
         sink.put(" outliers ");
-        sink.number(self.totals.outliers);
+        sink.number(self.totals.outliers.into());
         sink.put(" multiple ");
-        sink.number(self.totals.multiple);
+        sink.number(self.totals.multiple.into());
         sink.put("\n");
     }
 }
@@ -798,9 +873,9 @@ fn put_score(sink: &mut impl Sink, dividend: u32, divisor: u32) {
     if divisor == 0 {
         sink.put("-");
     } else {
-        sink.number(dividend);
+        sink.number(dividend.into());
         sink.put("/");
-        sink.number(divisor);
+        sink.number(divisor.into());
     }
 }
 
@@ -812,7 +887,7 @@ impl Sink for Length {
         self.0 += text.len();
     }
 
-    fn number(&mut self, value: u32) {
+    fn number(&mut self, value: u64) {
         self.0 += 1 + value.checked_ilog10().unwrap_or(0) as usize;
     }
 
@@ -837,8 +912,8 @@ impl Sink for Writer<'_> {
         self.at += text.len();
     }
 
-    fn number(&mut self, value: u32) {
-        let mut digits = [0; 10];
+    fn number(&mut self, value: u64) {
+        let mut digits = [0; 20];
         let mut first = digits.len();
         let mut rest = value;
         loop {
@@ -994,7 +1069,8 @@ mod tests {
             agree(&site.image(Layout::any(&mut rng), &mut rng));
         }
         let full = [sites::two_hubs(), sites::shared_borders(), sites::one_clique()];
-        for site in [sites::apart(), sites::hub(), sites::totals()].into_iter().chain(full) {
+        let small = [sites::hub(), sites::totals()];
+        for site in small.into_iter().chain(full).chain(sites::reaching()) {
             agree(&site.plain_image());
         }
     }

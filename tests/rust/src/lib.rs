@@ -12,6 +12,7 @@
 //! | `numbers`   | numbers and tables for the writer to try                                    |
 //! | `times`     | times, working hours and two plans to try                                   |
 //! | `examples`  | the inputs stored with the report program                                   |
+//! | `reaches`   | wrong ways to find a reach, for the tests of `compare` and `sites`          |
 //! | `compare`   | one image, or many times, through a planner's calls, against the reference  |
 
 pub mod calendar;
@@ -23,6 +24,8 @@ pub mod fast;
 #[cfg(feature = "proved")]
 pub mod ffi;
 pub mod numbers;
+#[cfg(test)]
+mod reaches;
 pub mod reference;
 pub mod sites;
 pub mod times;

@@ -252,6 +252,20 @@ impl Findings {
         Ok(scores)
     }
 
+    /// The reach of a community: the largest squared distance of a near tie between two members, where
+    /// there is one.
+    pub fn reach(&self, community: &Community) -> Option<u64> {
+        let inside = |u: usize, v: usize| [u, v].iter().all(|end| community.members.contains(end));
+        let ties = self.site.ties.iter().filter(|&&(u, v)| inside(u, v));
+        ties.filter_map(|&(u, v)| near_test(&self.site, u, v)).max()
+    }
+
+    /// Whether two handsets that are near are alike (3.4).
+    #[cfg(test)]
+    pub fn are_alike(&self, u: usize, v: usize) -> bool {
+        is_similar(self.site.epsilon, &self.near[u], &self.near[v])
+    }
+
     /// The least of all pairs of a member's squared distance and its community's number, or refusal 17.
     pub fn nearest(&self, (x, y): Point) -> Result<Option<Nearest>, Refusal> {
         let point = (x.into(), y.into());
@@ -267,12 +281,18 @@ impl Findings {
     }
 }
 
+/// The near test of two handsets that are tied: near with their squared distance, or not near.
+fn near_test(site: &Site, u: usize, v: usize) -> Option<u64> {
+    let distance = squared_distance(site.positions[u], site.positions[v]);
+    (distance <= site.gamma_squared).then_some(distance)
+}
+
 /// The geo-social neighbourhood of each handset, itself included (3.2).
 fn near_sets(site: &Site) -> Vec<HashSet<usize>> {
     let mut near: Vec<HashSet<usize>> =
         (0..site.positions.len()).map(|handset| HashSet::from([handset])).collect();
     for &(u, v) in &site.ties {
-        if squared_distance(site.positions[u], site.positions[v]) <= site.gamma_squared {
+        if near_test(site, u, v).is_some() {
             near[u].insert(v);
             near[v].insert(u);
         }
@@ -439,7 +459,9 @@ pub fn text(findings: &Findings) -> Vec<u8> {
         let Scores { pairs: s, tied_pairs: t, leaving: o } = scores;
         let density = score(s - t, s);
         let conductance = score(o, 2 * t + o);
-        text += &format!("group {number} density {density} conductance {conductance}:");
+        let reach = findings.reach(community).map_or("-".to_string(), |reach| reach.to_string());
+        text +=
+            &format!("group {number} density {density} conductance {conductance} reach {reach}:");
         text += &numbers(community.members.iter().copied());
     }
     text += &role_lines(findings);
@@ -582,8 +604,8 @@ mod tests {
 
     const S_REPORT: &str = "\
 handsets 7 ties 8 groups 2 memberships 8
-group 0 density 2/6 conductance 1/9: 0 1 2 3
-group 1 density 2/6 conductance 1/9: 3 4 5 6
+group 0 density 2/6 conductance 1/9 reach 0: 0 1 2 3
+group 1 density 2/6 conductance 1/9 reach 0: 3 4 5 6
 cores: 2 4
 outliers:
 cores 2 borders 5 outliers 0 multiple 1
@@ -659,6 +681,45 @@ cores 2 borders 5 outliers 0 multiple 1
         assert_eq!(near_count(corners, 7_999_999_999_999), 1);
     }
 
+    /// The reaches of a site's groups.
+    fn reaches(site: &sites::Site) -> Vec<Option<u64>> {
+        let found = findings(site);
+        found.communities().iter().map(|community| found.reach(community)).collect()
+    }
+
+    #[test]
+    fn reaches_of_small_sites() {
+        assert_eq!(reaches(&sites::site_s(4)), [Some(0), Some(0)]);
+        assert_eq!(reaches(&sites::alone()), [None]);
+        assert_eq!(reaches(&sites::apart()), [None, None]);
+        assert_eq!(reaches(&sites::beyond()), [Some(1625)]);
+        assert_eq!(reaches(&sites::paired_borders()), [Some(50), Some(50)]);
+        assert_eq!(reaches(&sites::unlike_members()), [Some(100)]);
+        // Two handsets, tied, with mu 1: a group while they are near, and else a group each.
+        let two = |gamma_squared| {
+            let positions = vec![(0, 0), (1, 2)];
+            reaches(&sites::Site {
+                positions,
+                ties: vec![(1, 0)],
+                gamma_squared,
+                ..sites::site_s(1)
+            })
+        };
+        assert_eq!((two(6), two(5), two(4)), (vec![Some(5)], vec![Some(5)], vec![None, None]));
+    }
+
+    /// The longest tie of four that are tied each to each: at gamma exactly, one below, one beyond.
+    #[test]
+    fn reaches_at_the_limit() {
+        let limit = |gamma_squared| sites::Site { gamma_squared, ..sites::at_limit() };
+        assert_eq!(reaches(&limit(2500)), [Some(2500)]);
+        assert_eq!(reaches(&limit(2501)), [Some(2500)]);
+        assert_eq!(reaches(&limit(2499)), [Some(1000)]);
+        let corners = |gamma_squared| sites::Site { gamma_squared, ..sites::corners() };
+        assert_eq!(reaches(&corners(8_000_000_000_000)), [Some(8_000_000_000_000)]);
+        assert_eq!(reaches(&corners(7_999_999_999_999)), [Some(4_000_000_000_000)]);
+    }
+
     #[test]
     fn sites_without_ties() {
         let found = findings(&sites::untied(0, 0));
@@ -669,7 +730,7 @@ cores 2 borders 5 outliers 0 multiple 1
         assert_eq!(groups(&sites::untied(1, 1)), [[0]]);
         assert!(groups(&sites::untied(1, 2)).is_empty());
         let one = "handsets 1 ties 0 groups 1 memberships 1\n\
-                   group 0 density - conductance -: 0\ncores: 0\noutliers:\n\
+                   group 0 density - conductance - reach -: 0\ncores: 0\noutliers:\n\
                    cores 1 borders 0 outliers 0 multiple 0\n";
         assert_eq!(program(&sites::untied(1, 1).plain_image()), one.as_bytes());
     }
@@ -975,6 +1036,27 @@ cores 2 borders 5 outliers 0 multiple 1
                 let got = written(numbers.contents(), room);
                 assert_eq!(got, Err(refusal(number, place)), "{numbers:?}");
             }
+        }
+    }
+
+    /// A report never fills the program's buffer. A group has a core of its own, and each further
+    /// membership of a border a tie to a core of that group, so that memberships are at most n + m.
+    #[test]
+    fn every_report_fits_the_programs_buffer() {
+        let head = "handsets 512 ties 4096 groups 512 memberships 4608\n".len();
+        let group = "group 511 density 130816/130816 conductance 4096/8192 reach 8000000000000:\n";
+        let roles = "cores:\noutliers:\n".len() + 4 * MOST_HANDSETS;
+        let totals = "cores 512 borders 512 outliers 512 multiple 512\n".len();
+        let members = 4 * (MOST_HANDSETS + MOST_TIES);
+        let most = head + MOST_HANDSETS * group.len() + members + roles + totals;
+        assert!(most < PROGRAM_TEXT, "{most}");
+        let mut rng = Rng::new(9);
+        let named = [sites::stretched_borders(), sites::untied(512, 1), sites::two_hubs()];
+        for site in named.into_iter().chain((0..300).map(|_| sites::any(&mut rng))) {
+            let found = findings(&site);
+            let (n, m) = (site.positions.len(), site.ties.len());
+            assert!(found.member_table().len() <= n + m);
+            assert!(text(&found).len() <= most);
         }
     }
 

@@ -269,6 +269,121 @@ pub fn totals() -> Site {
     Site { positions, ties, gamma_squared: 0, epsilon: (2, 5), mu: 5 }
 }
 
+/// One handset, and a group of it alone: no tie, so no reach.
+pub fn alone() -> Site {
+    Site { positions: vec![(35, -12)], gamma_squared: 50 * 50, ..untied(1, 1) }
+}
+
+/// Four handsets, each two of them tied, in one group. The longest tie, 0-1, is exactly as long as gamma,
+/// 50 metres, and is neither the first nor the last.
+pub fn at_limit() -> Site {
+    Site {
+        positions: vec![(120, 80), (150, 120), (140, 90), (130, 100)],
+        ties: vec![(0, 2), (2, 3), (1, 0), (1, 2), (3, 1), (0, 3)],
+        gamma_squared: 50 * 50,
+        epsilon: (1, 2),
+        mu: 3,
+    }
+}
+
+/// A group of four, 0 to 3, with the reach 1,625 of tie 2-3. Its longest tie, 0-3, is beyond gamma, and the
+/// near tie 2-4 to outlier 4 is longer than the reach.
+pub fn beyond() -> Site {
+    Site {
+        positions: vec![(-40, 210), (-10, 210), (-20, 240), (15, 220), (-60, 265)],
+        ties: vec![(0, 1), (3, 0), (2, 3), (0, 2), (4, 2), (1, 2), (1, 3)],
+        gamma_squared: 50 * 50,
+        epsilon: (3, 4),
+        mu: 3,
+    }
+}
+
+/// Two groups that share two borders, 8 and 9. The tie of these two is the longest inside either group.
+/// Handsets 3 and 9 of the first group stand farther apart and within gamma, and are not tied.
+pub fn paired_borders() -> Site {
+    Site {
+        positions: vec![
+            (0, 0),
+            (1, 0),
+            (0, 1),
+            (-1, -1),
+            (7, 2),
+            (7, 3),
+            (8, 2),
+            (6, 2),
+            (3, -2),
+            (4, 5),
+        ],
+        ties: vec![
+            (0, 1),
+            (0, 2),
+            (0, 3),
+            (0, 8),
+            (0, 9),
+            (8, 9),
+            (4, 5),
+            (4, 6),
+            (4, 7),
+            (4, 8),
+            (4, 9),
+        ],
+        gamma_squared: 8 * 8,
+        epsilon: (1, 4),
+        mu: 6,
+    }
+}
+
+/// Two cliques of four, 0 to 3 and 5 to 8, in one group by handset 4 between them. The longest near tie,
+/// 0-5, joins two cores that are not alike.
+pub fn unlike_members() -> Site {
+    let mut draft = Draft::new(9);
+    draft.clique(0, 4);
+    draft.tie(5, 0);
+    draft.clique(5, 4);
+    [2, 3, 7, 8].into_iter().for_each(|handset| draft.tie(4, handset));
+    let left = [(0, 3), (0, 0), (2, 0), (2, 3)];
+    let right = left.map(|(x, y)| (10 - x, y));
+    Site {
+        positions: [&left[..], &[(5, 1)], &right].concat(),
+        ties: draft.ties,
+        gamma_squared: 20 * 20,
+        epsilon: (1, 2),
+        mu: 3,
+    }
+}
+
+/// A handset at each corner of the area, each two of them tied, and the largest gamma, which is the diagonal.
+pub fn corners() -> Site {
+    let far = MOST_COORDINATE;
+    Site {
+        positions: vec![(-far, -far), (far, -far), (-far, far), (far, far)],
+        ties: vec![(0, 1), (2, 0), (3, 0), (2, 1), (1, 3), (2, 3)],
+        gamma_squared: MOST_GAMMA_SQUARED,
+        epsilon: (1, 2),
+        mu: 3,
+    }
+}
+
+/// Sites whose reaches are easily got wrong.
+pub fn reaching() -> Vec<Site> {
+    let limit = |gamma_squared| Site { gamma_squared, ..at_limit() };
+    let corner = |gamma_squared| Site { gamma_squared, ..corners() };
+    vec![
+        site_s(4),
+        alone(),
+        apart(),
+        at_limit(),
+        limit(50 * 50 - 1),
+        limit(50 * 50 + 1),
+        beyond(),
+        paired_borders(),
+        unlike_members(),
+        corners(),
+        corner(MOST_GAMMA_SQUARED - 1),
+        stretched_borders(),
+    ]
+}
+
 /// A site as hospitals have them: wards of some dozen handsets within 60 metres, most ties within a
 /// ward, gamma 200 metres, epsilon 2/5, mu 4.
 pub fn hospital(handsets: usize, ties: usize, rng: &mut Rng) -> Site {
@@ -297,6 +412,17 @@ pub fn shared_borders() -> Site {
         epsilon: (1, 1000),
         mu: 16,
     }
+}
+
+/// The same with each tie from one corner of the area to the opposite one, near by the largest gamma: the
+/// longest report that we know how to make.
+pub fn stretched_borders() -> Site {
+    let mut site = shared_borders();
+    for &(core, border) in &site.ties {
+        site.positions[usize::from(core)] = (-MOST_COORDINATE, MOST_COORDINATE);
+        site.positions[usize::from(border)] = (MOST_COORDINATE, -MOST_COORDINATE);
+    }
+    Site { gamma_squared: MOST_GAMMA_SQUARED, ..site }
 }
 
 /// Two handsets that are tied to each other and to all others: 512 common members.
@@ -335,13 +461,23 @@ struct Draft {
     handsets: usize,
     ties: Vec<(u16, u16)>,
     taken: HashSet<(usize, usize)>,
-    /// A mu that makes cores and borders of this shape where epsilon is small and all are near.
+    /// A mu that makes cores and borders of this shape where epsilon is one of these and all are near.
     mu: Option<usize>,
+    epsilons: &'static [(u16, u16)],
+    /// A tie that is to be longer than all others.
+    longest: Option<(usize, usize)>,
 }
 
 impl Draft {
     fn new(handsets: usize) -> Draft {
-        Draft { handsets, ties: Vec::new(), taken: HashSet::new(), mu: None }
+        Draft {
+            handsets,
+            ties: Vec::new(),
+            taken: HashSet::new(),
+            mu: None,
+            epsilons: &[(1, 1000), (1, 20), (1, 5), (1, 4)],
+            longest: None,
+        }
     }
 
     fn tie(&mut self, u: usize, v: usize) {
@@ -422,12 +558,17 @@ fn complete(draft: Draft, rng: &mut Rng) -> Site {
         epsilon: any_epsilon(rng),
         mu: 0,
     };
+    if let Some((u, v)) = draft.longest.filter(|_| !rng.one_in(4)) {
+        site.positions.iter_mut().for_each(|position| *position = (position.0 / 2, position.1 / 2));
+        site.positions[u] = (-MOST_COORDINATE, MOST_COORDINATE);
+        site.positions[v] = (MOST_COORDINATE, -MOST_COORDINATE);
+    }
     relabel(&mut site, rng);
     site.gamma_squared = any_gamma_squared(&site, rng);
     site.mu = any_mu(&site, rng);
     if let Some(mu) = draft.mu.filter(|_| !rng.one_in(4)) {
         site.gamma_squared = MOST_GAMMA_SQUARED;
-        site.epsilon = rng.pick(&[(1, 1000), (1, 20), (1, 5), (1, 4)]);
+        site.epsilon = rng.pick(draft.epsilons);
         site.mu = mu as u16;
     }
     if site.mu == BLANK_MU && rng.one_in(2) {
@@ -459,7 +600,9 @@ fn any_draft(rng: &mut Rng) -> Draft {
         29..=31 => wards(2, 60, rng),
         32 | 33 => wards(60, 140, rng),
         34 => wards(140, MOST_HANDSETS, rng),
-        _ => cores_with_borders(rng),
+        35 => cores_with_borders(rng),
+        36..=38 => tied_borders(rng),
+        _ => bridged_cliques(rng),
     }
 }
 
@@ -531,6 +674,42 @@ fn cores_with_borders(rng: &mut Rng) -> Draft {
             draft.tie(core, cores + rng.below(borders));
         }
     }
+    draft
+}
+
+/// Few cores, each with leaves of its own, and borders that they share, many of them tied to each other.
+fn tied_borders(rng: &mut Rng) -> Draft {
+    let (cores, borders) = (rng.count(2, 4), rng.count(2, 5));
+    let leaves = cores + borders;
+    let mut draft = Draft::new(borders + cores * (1 + leaves));
+    draft.mu = Some(1 + leaves);
+    for core in (borders..draft.handsets).step_by(1 + leaves) {
+        (core + 1..=core + leaves).for_each(|leaf| draft.tie(core, leaf));
+        (0..borders).filter(|_| !rng.one_in(4)).for_each(|border| draft.tie(border, core));
+    }
+    for border in 0..borders {
+        (0..border).filter(|_| !rng.one_in(3)).for_each(|other| draft.tie(other, border));
+    }
+    draft.tie(0, 1);
+    draft.longest = Some((0, 1));
+    draft
+}
+
+/// Cliques in a row, a handset between each two that is tied to some of both, and a tie from the first
+/// clique to the last, whose ends are hardly alike.
+fn bridged_cliques(rng: &mut Rng) -> Draft {
+    let (cliques, size) = (rng.count(2, 4), rng.count(4, 6));
+    let mut draft = Draft::new(cliques * (size + 1) - 1);
+    for first in (0..draft.handsets).step_by(size + 1) {
+        draft.clique(first, size);
+        // The two last of this clique and the two first of the next one.
+        [size - 2, size - 1, size + 1, size + 2]
+            .into_iter()
+            .for_each(|other| draft.tie(first + size, first + other));
+    }
+    let across = (rng.below(size - 2), draft.handsets - 1 - rng.below(size - 2));
+    draft.tie(across.0, across.1);
+    (draft.mu, draft.epsilons, draft.longest) = (Some(3), &[(9, 20), (1, 2)], Some(across));
     draft
 }
 
@@ -625,6 +804,7 @@ mod tests {
     use crate::calls::{Point, Role};
     use crate::compare;
     use crate::damage;
+    use crate::reaches::WrongReach;
     use crate::reference::{self, Findings, Reference};
     use std::cmp::Reverse;
     use std::collections::HashMap;
@@ -757,6 +937,22 @@ mod tests {
             seen.iter_mut().zip(differs).for_each(|(count, has)| *count += u64::from(has));
         }
         assert!(seen.iter().all(|&count| 50 * count >= SITES), "{seen:?}");
+    }
+
+    /// A reach that is found in a wrong way is another one, for some community, on one site of fifty at least.
+    #[test]
+    fn sites_tell_wrong_reaches() {
+        const SITES: u64 = 400;
+        let mut seen = WrongReach::ALL.map(|wrong| (wrong, 0));
+        for (_, image) in any_sites(SITES) {
+            let found = Findings::of(reference::open(&image).expect("accepted"));
+            for (wrong, count) in &mut seen {
+                let communities = found.communities().iter();
+                let differs = communities.clone().any(|c| wrong.reach(&found, c) != found.reach(c));
+                *count += u64::from(differs);
+            }
+        }
+        assert!(seen.iter().all(|&(_, count)| 50 * count >= SITES), "{seen:?}");
     }
 
     /// A community that is chosen in a wrong way is another one than the nearest, and limits that are tested

@@ -1,5 +1,8 @@
--- `reporting::put_group` meets its contract: what stands before the colon, the colon, the members, byte 10.
+-- `reporting::put_group` meets its contract: the number and the scores, the reach, a colon, the members, byte 10.
+use Prim.Native.Nat.{_≤_}
 use native.Mathlib.Omega.{arith}
+use lib.ListN.{length}
+use denote.Ref.{now}
 use Rattle.text.proofs.Writing.{chain}
 use Rattle.reporting.specs.Report.{groupLine}
 use borrow.Author.Needs.{needs}
@@ -8,6 +11,15 @@ use Rattle.reporting.proofs.put_group.Tie as tie
 
 put-scores-requires : tie.Need-put-scores-requires
 put-scores-requires c κs = search needs
+
+slice-aggregate-put-all : tie.Need-slice-aggregate-put-all
+slice-aggregate-put-all c = search needs
+
+put-all-requires : tie.Need-put-all-requires
+put-all-requires c κs = search needs
+
+put-reach-requires : tie.Need-put-reach-requires
+put-reach-requires c κs = search needs
 
 put-requires : tie.Need-put-requires
 put-requires c κs = search needs
@@ -24,17 +36,25 @@ same-length c = search needs
 returns : tie.Need-returns
 unfolding groupLine
 returns c =
-    let w4 = c .before .before in
+    let w6 = c .before .before in
+    let w5 = w6 .before .before .before .before in
+    let w4 = w5 .before .before .before .before in
     let w3 = w4 .before .before .before .before in
     let w2 = w3 .before .before .before .before in
-    let w1 = w2 .before .before .before .before in
-    chain (omega arith) (w1 .put-scores .ensures) (chain (omega arith) (w2 .put .ensures) (chain (omega arith) (w3 .put-numbers .ensures) (w4 .put2 .ensures)))
+    let w1 = w2 .before .before .before .before .before in
+    let start = w1 .before .before .before .before in
+    let small : length (now (start .args .text)) ≤ 9223372036854775808 = omega (arith, start .good .0 .1) in
+    chain small (w1 .put-scores .ensures) (chain (omega arith) (w2 .put-all .ensures) (chain (omega arith) (w3 .put-reach .ensures)
+    (chain (omega arith) (w4 .put .ensures) (chain (omega arith) (w5 .put-numbers .ensures) (w6 .put2 .ensures)))))
 
 pub put-group-spec : {M : Type 1} → statement M
 put-group-spec =
     tie.close
     (tie.spec
     put-scores-requires
+    slice-aggregate-put-all
+    put-all-requires
+    put-reach-requires
     put-requires
     put-numbers-requires
     put-requires-2

@@ -15,14 +15,14 @@ use Rattle.reporting.proofs.put_report.Statement.{statement}
 use Rattle.reporting.proofs.put_report.Tie as tie
 
 abbrev Inv-loop : tie.InvT-loop
-Inv-loop text₀ numbers starts members tallies cores outliers groups next₀ k₀ t13 t14 text next k = (k ≤ groups) × Wrote text₀ next₀ (tableLines starts members tallies k) text next
+Inv-loop text₀ numbers starts members tallies reaches cores outliers groups next₀ k₀ t16 t17 text next k = (k ≤ groups) × Wrote text₀ next₀ (tableLines starts members tallies reaches k) text next
 
 abbrev μ-loop : tie.MeasureT-loop
-μ-loop text₀ numbers starts members tallies cores outliers groups next₀ k₀ t13 t14 text next k = groups - k
+μ-loop text₀ numbers starts members tallies reaches cores outliers groups next₀ k₀ t16 t17 text next k = groups - k
 
 -- where the function starts, when line one is written, and when the cores are
 abbrev start : tie.After-put-head Inv-loop μ-loop → tie.Start Inv-loop μ-loop
-start c = c .before .before .before .before .before .before .before .before
+start c = c .before .before .before .before .before .before .before .before .before
 
 abbrev head : tie.At-loop Inv-loop μ-loop → tie.After-put-head Inv-loop μ-loop
 head c = c .before .before .before
@@ -43,6 +43,9 @@ members-requires c κs = search needs
 group-tally-requires : tie.Need-group-tally-requires Inv-loop μ-loop
 group-tally-requires c κs = omega arith
 
+group-reach-requires : tie.Need-group-reach-requires Inv-loop μ-loop
+group-reach-requires c κs = search needs
+
 put-group-requires : tie.Need-put-group-requires Inv-loop μ-loop
 put-group-requires c κs = search needs
 
@@ -55,15 +58,16 @@ loop-less c = search needs
 loop-again : tie.Need-loop-again Inv-loop μ-loop
 loop-again c =
     let put = c .before .before in
-    let tallied = put .before in
-    let listed = tallied .before .before in
+    let reached = put .before in
+    let tallied = reached .before .before in
+    let listed = tallied .before in
     let at-loop = listed .before .before in
     let w1 = head at-loop in
     let s = start w1 in
     let a = s .args in (
       omega arith,
-      rw (lines-more (now (a .starts)) (now (a .members)) (now (a .tallies)) (at-loop .loop .k))
-          (chain (omega (arith, w1 .put-head .kept .0, s .good .0 .1)) (at-loop .loop .inv .1) (rw (tallied .group-tally .ensures, listed .members .ensures) at (put .put-group .ensures))),
+      rw (lines-more (now (a .starts)) (now (a .members)) (now (a .tallies)) (now (a .reaches)) (at-loop .loop .k))
+          (chain (omega (arith, w1 .put-head .kept .0, s .good .0 .1)) (at-loop .loop .inv .1) (rw (tallied .group-tally .ensures, reached .group-reach .ensures, listed .members .ensures) at (put .put-group .ensures))),
     )
 
 slice-aggregate-put-set : tie.Need-slice-aggregate-put-set Inv-loop μ-loop
@@ -90,7 +94,7 @@ returns c =
     let w1 = head at-loop in
     let s = start w1 in
     let a = s .args in
-    text-written (a .numbers) (now (a .starts)) (now (a .members)) (now (a .tallies)) (now (a .cores)) (now (a .outliers)) (omega (arith, s .good .0 .1)) (omega arith)
+    text-written (a .numbers) (now (a .starts)) (now (a .members)) (now (a .tallies)) (now (a .reaches)) (now (a .cores)) (now (a .outliers)) (omega (arith, s .good .0 .1)) (omega (arith, w3 .before .before .before .loop-test .left, at-loop .loop .inv .0))
     (w1 .put-head .ensures) (at-loop .loop .inv .1) (w3 .put-set .ensures) (w4 .put-set2 .ensures) (w5 .put-totals .ensures)
 
 same-length : tie.Need-same-length Inv-loop μ-loop
@@ -106,6 +110,7 @@ put-report-spec =
     loop-holds
     members-requires
     group-tally-requires
+    group-reach-requires
     put-group-requires
     add-k
     loop-less

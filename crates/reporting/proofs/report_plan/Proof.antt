@@ -5,31 +5,43 @@ use mathlib.Core.Path.{_≡_}
 use denote.Ref.{now}
 use Rattle.reporting.specs.Report.{reportText}
 use Rattle.reporting.specs.Held.{tableText}
-use Rattle.reporting.proofs.Whole.{groups-few, edges-fit, members-fit, text-held}
+use Rattle.reporting.proofs.Whole.{groups-few, handsets-fit, edges-fit, members-fit, text-held}
 use Rattle.reporting.proofs.Answers.{filled-written, filled-refused}
 use borrow.Author.Needs.{needs}
 use Rattle.reporting.proofs.report_plan.Statement.{statement}
 use Rattle.reporting.proofs.report_plan.Tie as tie
 
 -- where the function starts, when the edges are counted, the roles counted, and the text measured
-abbrev start : tie.After-struct-known2 → tie.Start
-start c = c .before .before .before .before .before .before .before
+abbrev start : tie.After-struct-known4 → tie.Start
+start c = c .before .before .before .before .before .before .before .before .before
 
-abbrev counted : tie.After-struct-known3 → tie.After-count-groups
+abbrev counted : tie.After-struct-known5 → tie.After-count-groups
 counted c = c .before .before
 
 abbrev told : tie.After-outliers2 → tie.After-count-roles
-told c = c .before .before .before
+told c = c .before .before .before .before
 
 abbrev measured : tie.After-outliers3 → tie.After-put-report
-measured c = c .before .before .before .before .before
+measured c = c .before .before .before .before .before .before
 
 -- the start, from two of those
 abbrev counting-start : tie.After-count-groups → tie.Start
-counting-start c = start (c .before .before .before)
+counting-start c = start (c .before .before .before .before .before)
 
 abbrev measuring-start : tie.After-outliers2 → tie.Start
 measuring-start c = counting-start (counted (told c .before .before))
+
+cast-from : tie.Need-cast-from
+cast-from c = search needs
+
+cast-to : tie.Need-cast-to
+cast-to c = search needs
+
+mul-to : tie.Need-mul-to
+mul-to c = search needs
+
+add-to : tie.Need-add-to
+add-to c = search needs
 
 cast-a : tie.Need-cast-a
 cast-a c = search needs
@@ -50,7 +62,16 @@ part-count-groups-start : tie.Need-part-count-groups-start
 part-count-groups-start c = search needs
 
 part-count-groups-end : tie.Need-part-count-groups-end
-part-count-groups-end c = edges-fit (start c .pre)
+part-count-groups-end c = handsets-fit (start c .pre)
+
+sub-count-groups-2 : tie.Need-sub-count-groups-2
+sub-count-groups-2 c = search needs
+
+part-count-groups-start-2 : tie.Need-part-count-groups-start-2
+part-count-groups-start-2 c = search needs
+
+part-count-groups-end-2 : tie.Need-part-count-groups-end-2
+part-count-groups-end-2 c = edges-fit (start (c .before) .pre)
 
 count-groups-requires : tie.Need-count-groups-requires
 count-groups-requires c κs = search needs
@@ -79,14 +100,20 @@ slice-aggregate-put-report-2 c = search needs
 slice-aggregate-put-report-3 : tie.Need-slice-aggregate-put-report-3
 slice-aggregate-put-report-3 c = search needs
 
-put-report-requires : tie.Need-put-report-requires
-put-report-requires c κs = groups-few (measuring-start c .pre)
-
 slice-aggregate-put-report-4 : tie.Need-slice-aggregate-put-report-4
 slice-aggregate-put-report-4 c = search needs
 
+put-report-requires : tie.Need-put-report-requires
+put-report-requires c κs = groups-few (measuring-start c .pre)
+
 slice-aggregate-put-report-5 : tie.Need-slice-aggregate-put-report-5
 slice-aggregate-put-report-5 c = search needs
+
+slice-aggregate-put-report-6 : tie.Need-slice-aggregate-put-report-6
+slice-aggregate-put-report-6 c = search needs
+
+slice-aggregate-put-report-7 : tie.Need-slice-aggregate-put-report-7
+slice-aggregate-put-report-7 c = search needs
 
 put-report-requires-2 : tie.Need-put-report-requires-2
 put-report-requires-2 c κs = groups-few (measuring-start (measured c .before) .pre)
@@ -96,11 +123,13 @@ same-length c = omega arith
 
 -- the text from the tables is the report's
 text-is-report : (c : tie.After-put-report) → (let r = told (c .before) in let a = measuring-start (c .before) .args in
-    tableText (record { head = a .head; totals = r .count-roles .result }) (now (a .starts)) (now (a .members)) (counted (r .before .before) .count-groups .last .1 .1 .1 .1 .0) (now (a .cores)) (r .count-roles .last .1 .1 .1 .0)
+    tableText (record { head = a .head; totals = r .count-roles .result }) (now (a .starts)) (now (a .members)) (counted (r .before .before) .count-groups .last .1 .1 .1 .1 .1 .1 .0)
+    (counted (r .before .before) .count-groups .last .1 .1 .1 .1 .1 .1 .1 .0) (now (a .cores)) (r .count-roles .last .1 .1 .1 .0)
     ≡ reportText (now (a .image)))
 text-is-report c =
     let r = told (c .before) in
-    text-held (measuring-start (c .before) .pre) _ _ _ (counted (r .before .before) .count-groups .ensures) (r .count-roles .ensures)
+    let g = counted (r .before .before) .count-groups .ensures in
+    text-held (measuring-start (c .before) .pre) _ _ _ _ (g .0) (g .1) (r .count-roles .ensures)
 
 returns : tie.Need-returns
 returns c =
@@ -117,6 +146,10 @@ pub report-plan-spec : {M : Type 1} → statement M
 report-plan-spec =
     tie.close
     (tie.spec
+    cast-from
+    cast-to
+    mul-to
+    add-to
     cast-a
     cast-b
     mul-b
@@ -124,6 +157,9 @@ report-plan-spec =
     sub-count-groups
     part-count-groups-start
     part-count-groups-end
+    sub-count-groups-2
+    part-count-groups-start-2
+    part-count-groups-end-2
     count-groups-requires
     sub-count-roles
     part-count-roles-start
@@ -133,9 +169,11 @@ report-plan-spec =
     slice-aggregate-put-report
     slice-aggregate-put-report-2
     slice-aggregate-put-report-3
-    put-report-requires
     slice-aggregate-put-report-4
+    put-report-requires
     slice-aggregate-put-report-5
+    slice-aggregate-put-report-6
+    slice-aggregate-put-report-7
     put-report-requires-2
     same-length
     returns

@@ -271,7 +271,8 @@ impl<'a> Run<'a> {
 fn named_sites() -> Vec<Site> {
     let mut sites: Vec<Site> = (0..=8).map(sites::site_s).collect();
     sites.extend([0, 1, 2, 511, 512].map(|handsets| sites::untied(handsets, 1)));
-    sites.extend([sites::apart(), sites::hub(), sites::totals(), sites::two_hubs()]);
+    sites.extend([sites::hub(), sites::totals(), sites::two_hubs()]);
+    sites.extend(sites::reaching());
     sites.extend([sites::shared_borders(), sites::one_clique()]);
     sites.push(sites::hospital(512, 4096, &mut Rng::new(0)));
     sites
