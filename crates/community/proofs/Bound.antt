@@ -10,7 +10,7 @@ use mathlib.Core.List.{List, [], _∷_, _++_, map}
 use lib.Dec.{T, eqb, eqb→eq, T-not, not-T}
 use lib.ListN.{length, length-append}
 use Rattle.sets.specs.Below.{count, select, sum}
-use Rattle.sets.proofs.Tests.{and-make, and-left, and-right, or-left, or-right, or-cases, decide, any-take, eqb-of, T-true, T-false}
+use Rattle.sets.proofs.Tests.{and-make, and-left, and-right, or-left, or-right, decide, any-take, eqb-of, T-true, T-false}
 use Rattle.sets.proofs.Selecting.{map-append, select-yes, select-no, length-select}
 use Rattle.sets.proofs.Counting.{count-pairs, count-le, count-false, count-eqb, count-or, count-swap, sum-le, sum-add, sum-const}
 use Rattle.image.specs.Image.{adjacent, edgeCount, edgeRecords, handsetCount, joins, endA, endB}

@@ -9,9 +9,9 @@
 --     image-roles       each handset has the same role, but for a core's number, and the same near count
 use Prim.Native.Nat.{ℕ, _+_, _*_, _≤_, _<_}
 use native.Mathlib.Omega.{arith}
-use mathlib.Core.Path.{_≡_, sym, ap, ap₂, _∙_, subst}
+use mathlib.Core.Path.{_≡_, sym, ap, _∙_, subst}
 use mathlib.Core.Logic.{⊎-elim}
-use mathlib.Core.Bool.{Bool, true, false, _&&_, _||_, not}
+use mathlib.Core.Bool.{Bool, true, false, _&&_, not}
 use mathlib.Core.List.{List}
 use lib.Dec.{T, T-not, not-T, leb→le, ltb, lt→ltb, eqb, eqb→eq}
 use lib.ListN.{length, getD, drop, length-take, length-drop}

@@ -8,7 +8,8 @@
 --     records-header      questions 7 to 10 answer no other header; go-on-header: where 1 to 6 get a yes, the rest is the answer
 --     counts-limits       what counts that fit keep to; Fits, fits: what a header's numbers keep to, for the proofs of the calls
 --     header-fits, tables-clear, header-length, handsets-length, edges-length     what an image whose header is accepted keeps to: both tables of records are whole
---     accepted-fits, length-is, ends-below, coordinate-limits     what an accepted image keeps to: its header, its length, its edges' ends, its coordinates
+--     accepted-fits, length-is, handsets-fit, edges-fit, ends-below, coordinate-limits     what an accepted image keeps to: its header, its length, its two tables,
+--                         its edges' ends, its coordinates
 --     header-short, header-other, header-on     how questions 1 and 2 go, with the header in hand
 --     header-no           where one of questions 1 to 6 gets a no, that is the answer; header-yes: where all get a yes, what that says of the image
 --     header-passed       and then the answer is that of questions 7 to 10
@@ -244,6 +245,13 @@ module _ (s : List ℕ) (a : Accepted s) where
 
   pub length-is : headerOf s .len ≡ length s
   length-is = header-length s (a .header)
+
+  -- both tables of records stand in the image, by its header
+  pub handsets-fit : (h : Header) → h ≡ headerOf s → h .handsets + handsetBytes * h .n ≤ length s
+  handsets-fit h e = rw e (omega (arith, accepted-fits .handsets-to, length-is))
+
+  pub edges-fit : (h : Header) → h ≡ headerOf s → h .edges + edgeBytes * h .m ≤ length s
+  edges-fit h e = rw e (omega (arith, accepted-fits .edges-to, length-is))
 
   -- the ends of every edge are handsets
   pub ends-below : (k : ℕ) → k < edgeCount s → (endA (edgeRecords s) k < handsetCount s) × (endB (edgeRecords s) k < handsetCount s)

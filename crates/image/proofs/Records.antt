@@ -1,6 +1,6 @@
 -- The records of the two tables as code reads them: each is the part of its table from its place on, and a number in it is the table's.
 --
---     part-is           the part from a to a + k is the k bytes from a on
+--     part-is           the part from a to a + k is the k bytes from a on; edgePart-is, handsetPart-is: so the parts that code hands on are the records
 --     handset-part      the part that a handset's record stands in is its record
 --     ends-part         the ends that the part of an edge's record holds are the edge's ends
 --     coordinate-at     a coordinate read from the records is that of the handset's record
@@ -13,10 +13,27 @@ use lib.ListN.{length, take, drop}
 use Rattle.bytes.specs.Bytes.{number}
 use Rattle.fields.specs.Fields.{coordinateBytes, coordinateCount, handsetBytes, edgeBytes, shifted, endsOf}
 use Rattle.bytes.proofs.Bytes.{number-part}
-use Rattle.image.specs.Image.{handsetRecord, coordinateOf, endA, endB}
+use Rattle.image.specs.Image.{headerOf, handsetRecords, edgeRecords, handsetRecord, coordinateOf, endA, endB}
+use Rattle.image.specs.declared.Header.{Header}
 
 pub part-is : (s : List ℕ) (a k : ℕ) → take (a + k - a) (drop a s) ≡ take k (drop a s)
 part-is s a k = ap (λ (x : ℕ). take x (drop a s)) (add-sub-cancel-left a k)
+
+-- the parts as code takes them, by a header
+abbrev pub edgePart : List ℕ → Header → List ℕ
+edgePart s h = take (h .edges + edgeBytes * h .m - h .edges) (drop (h .edges) s)
+
+abbrev pub handsetPart : List ℕ → Header → List ℕ
+handsetPart s h = take (h .handsets + handsetBytes * h .n - h .handsets) (drop (h .handsets) s)
+
+module _ (s : List ℕ) (h : Header) (e : h ≡ headerOf s) where
+  pub edgePart-is : edgePart s h ≡ edgeRecords s
+  unfolding edgeRecords
+  edgePart-is = part-is s (h .edges) (edgeBytes * h .m) ∙ ap (λ (x : Header). take (edgeBytes * x .m) (drop (x .edges) s)) e
+
+  pub handsetPart-is : handsetPart s h ≡ handsetRecords s
+  unfolding handsetRecords
+  handsetPart-is = part-is s (h .handsets) (handsetBytes * h .n) ∙ ap (λ (x : Header). take (handsetBytes * x .n) (drop (x .handsets) s)) e
 
 pub handset-part : (part : List ℕ) (v : ℕ) → take (handsetBytes * v + handsetBytes - handsetBytes * v) (drop (handsetBytes * v) part) ≡ handsetRecord part v
 unfolding handsetRecord

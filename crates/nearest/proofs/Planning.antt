@@ -2,7 +2,6 @@
 -- the limits, so that the pass over the tables answers as the definition does over the communities.
 --
 --     some-member      a community has a member
---     records-fit      the handset records of an accepted image are in it
 --     pass-answer      the answer of the pass over a plan's tables
 use Prim.Native.Nat.{ℕ, _+_, _*_, _-_, _≤_, _<_}
 use native.Mathlib.Omega.{arith}
@@ -17,8 +16,7 @@ use Rattle.image.specs.Image.{handsetRecords}
 use Rattle.image.specs.Questions.{Accepted}
 use Rattle.image.specs.Signed.{raised}
 use Rattle.image.specs.declared.Header.{Header}
-use Rattle.image.proofs.Acceptance.{accepted-fits, length-is}
-use Rattle.image.proofs.Records.{part-is}
+use Rattle.image.proofs.Records.{handsetPart-is}
 use Rattle.community.specs.Site.{network}
 use Rattle.community.proofs.Communities.{member-below, leader-member}
 use Rattle.community.proofs.Site.{accepted-sound}
@@ -44,13 +42,6 @@ unfolding communitiesOf
 some-member s ok k l = omega (arith, mem-at (getD (communitiesOf s) k []) 0 _ (leader-member (accepted-sound s ok) k l) .1)
 
 module _ {s : List ℕ} {h : Header} {p : List ℤ} (held : PointHeld s h p) where
-  pub records-fit : h .handsets + handsetBytes * h .n ≤ length s
-  records-fit = rw (held .header) (omega (arith, accepted-fits s (held .accepted) .handsets-to, length-is s (held .accepted)))
-
-  records-are : take (h .handsets + handsetBytes * h .n - h .handsets) (drop (h .handsets) s) ≡ handsetRecords s
-  unfolding handsetRecords
-  records-are = part-is s (h .handsets) (handsetBytes * h .n) ∙ ap (λ (x : Header). take (handsetBytes * x .n) (drop (x .handsets) s)) (held .header)
-
   module _ (long : length p ≡ coordinateCount) where
     -- each member is a handset, and so at a distance that 64 bits hold
     exact : (k t : ℕ) → k < length (communitiesOf s) → t < length (getD (communitiesOf s) k [])
@@ -76,7 +67,7 @@ module _ {s : List ℕ} {h : Header} {p : List ℤ} (held : PointHeld s h p) whe
         let c : PlanCall s blankStarts blankMembers (P.Made counts) starts table = subst (λ (x : Planned). PlanCall s blankStarts blankMembers x starts table) d call in
         let g : length (communitiesOf s) ≡ counts .groups = room-of s blankStarts blankMembers starts table (counts .groups) (counts .memberships) (held .accepted) c .1 in
         e
-        ∙ ap₂ (λ (x : List ℕ) (part : List ℕ). nearestAmong (λ k. leastListed x part (membersOf starts table k)) (counts .groups)) f records-are
+        ∙ ap₂ (λ (x : List ℕ) (part : List ℕ). nearestAmong (λ k. leastListed x part (membersOf starts table k)) (counts .groups)) f (handsetPart-is s h (held .header))
         ∙ ap (nearestAmong (λ k. leastListed (map raised p) (handsetRecords s) (membersOf starts table k))) (sym g)
         ∙ nearest-cong _ _ (length (communitiesOf s))
         (λ k l.

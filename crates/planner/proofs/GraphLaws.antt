@@ -3,28 +3,26 @@
 --
 --     Along, dropped-is            a symmetric relation that holds of each handset with itself, and else only along edges; what dropping leaves of one
 --     neighbour-table, similar-table    so the two tables are those of the neighbour relation and of the similarity relation
---     Read, header-is              the numbers of the header are those of the image, and edgePart-is, handsetPart-is: the parts that are handed on are the records
+--     Read, header-is              the numbers of the header are those of the image
 --     neighbour-size, neighbour-common       the counts of the neighbour table are those of the network; enough-is: and the test by them is the definition's
 --     cores-set                    the cores by the sizes of the similarity table
 --     edges-ready, short-ready, dissimilar-ready     the edges of the part and of the two sets stand there, and their ends are handsets
 --     told-yes, read-no, read-yes     what the reader tells, and so what is told and left of an image
 --     neighbours-kept, surveyed          the two steps that drop edges; neighbour-sizes: the sizes after the first
-use Prim.Native.Nat.{ℕ, _+_, _*_, _-_, _≤_, _<_, min}
+use Prim.Native.Nat.{ℕ, _+_, _-_, _≤_, _<_, min}
 use native.Mathlib.Omega.{arith}
-use native.Mathlib.Nat.{add-sub-cancel-left}
 use mathlib.Core.Path.{_≡_, refl, sym, ap, ap₂, _∙_, subst}
 use mathlib.Core.Logic.{_⊎_, inl, inr, ⊎-elim}
 use mathlib.Core.Bool.{Bool, true, false, _&&_, _||_, not}
 use mathlib.Core.List.{List}
 use lib.Dec.{T, leb, ltb, eqb, ltb→lt, lt→ltb, eqb→eq, eqb-refl, T-not, not-T}
-use lib.ListN.{length, getD, take, drop, length-drop}
-use lib.Seq.{length-take-le}
+use lib.ListN.{length, getD}
 use Rattle.sets.specs.Below.{any, bit, count, sum}
 use Rattle.sets.specs.Bits.{bitAt, cell}
 use Rattle.sets.specs.Rows.{SetOf, Table, Counted}
 use Rattle.sets.proofs.Tests.{and-make, and-left, and-right, or-left, or-right, or-cases, decide, T-true, T-false, T-ext, any-take, eqb-of, eqb-comm}
 use Rattle.sets.proofs.Counting.{bit-false, count-cong, count-sum, count-wide, count-at, sum-cong}
-use Rattle.fields.specs.Fields.{coreSize, handsetBytes, edgeBytes}
+use Rattle.fields.specs.Fields.{coreSize}
 use Rattle.image.specs.Image.{headerOf, handsetCount, edgeCount, limitSquared, epsilonNum, epsilonDen, mu, handsetRecords, edgeRecords, endA, endB, joins, adjacent}
 use Rattle.image.specs.Near.{isNear, neighbour}
 use Rattle.image.specs.Questions.{Accepted, openOf}
@@ -34,11 +32,11 @@ use Rattle.image.specs.declared.Header.{Header}
 use Rattle.image.specs.declared.Refusal.{Refusal}
 use Rattle.image.specs.declared.Opened.{Opened}
 use Rattle.image.specs.declared.Opened.the-variants as O
-use Rattle.image.proofs.Acceptance.{Fits, accepted-fits, accepted, length-is, ends-below}
+use Rattle.image.proofs.Acceptance.{Fits, accepted-fits, accepted, length-is, edges-length, ends-below}
 use Rattle.image.proofs.Answers.{given-refused, open-same}
 use Rattle.image.proofs.Edges.{joins-cases}
 use Rattle.image.proofs.Near.{adjacent-comm, neighbour-cases, edge-proximity}
-use Rattle.image.proofs.Records.{part-is}
+use Rattle.image.proofs.Records.{edgePart, handsetPart, edgePart-is, handsetPart-is}
 use Rattle.image.proofs.Rows.{table-cong}
 use Rattle.community.specs.Network.{Network, neighbourhoodSize, commonNeighbours, meetsEpsilon, similar, isCore}
 use Rattle.community.specs.Site.{network}
@@ -225,28 +223,6 @@ pub core-size-is : (s : List ℕ) (r m : ℕ) → r ≡ coreSize m → m ≡ hea
 unfolding mu
 core-size-is s r m e d = e ∙ ap coreSize d
 
--- the parts as the code takes them
-abbrev pub edgePart : List ℕ → Header → List ℕ
-edgePart s h = take (h .edges + edgeBytes * h .m - h .edges) (drop (h .edges) s)
-
-abbrev pub handsetPart : List ℕ → Header → List ℕ
-handsetPart s h = take (h .handsets + handsetBytes * h .n - h .handsets) (drop (h .handsets) s)
-
-module _ (s : List ℕ) (h : Header) (e : h ≡ headerOf s) where
-  pub edgePart-is : edgePart s h ≡ edgeRecords s
-  unfolding edgeRecords
-  edgePart-is = part-is s (h .edges) (edgeBytes * h .m) ∙ ap (λ (x : Header). take (edgeBytes * x .m) (drop (x .edges) s)) e
-
-  pub handsetPart-is : handsetPart s h ≡ handsetRecords s
-  unfolding handsetRecords
-  handsetPart-is = part-is s (h .handsets) (handsetBytes * h .n) ∙ ap (λ (x : Header). take (handsetBytes * x .n) (drop (x .handsets) s)) e
-
--- all of a part is there
-pub edgePart-length : (s : List ℕ) (h : Header) → Read s h → length (edgePart s h) ≡ edgeBytes * h .m
-edgePart-length s h r =
-    let rest : length (drop (h .edges) s) ≡ length s - h .edges = length-drop (h .edges) s in
-    length-take-le (h .edges + edgeBytes * h .m - h .edges) (drop (h .edges) s) (omega (arith, rest, r .length-of, r .fits .edges-to)) ∙ add-sub-cancel-left (h .edges) (edgeBytes * h .m)
-
 -- ---- the counts of a table are those of the network
 row-count : {ws : List ℕ} (f : ℕ → ℕ → Bool) (u : ℕ) → Table ws f → u < 512 → sum 512 (λ w. cell ws u w) ≡ count 512 (f u)
 row-count {ws} f u t h = sum-cong 512 (λ w. cell ws u w) (λ w. bit (f u w)) (λ w l. t .bits u w h l) ∙ sym (count-sum 512 (f u))
@@ -357,7 +333,7 @@ module _ (s : List ℕ) (h : Header) (ok : Accepted s) (e : h ≡ headerOf s) wh
       let b = ends-below s ok k (omega (arith, q, read .m-is)) in
       let a : endA (edgePart s h) k ≡ endA (edgeRecords s) k = ap (λ (part : List ℕ). endA part k) (edgePart-is s h e) in
       let a′ : endB (edgePart s h) k ≡ endB (edgeRecords s) k = ap (λ (part : List ℕ). endB part k) (edgePart-is s h e) in
-      (omega (arith, q, read .fits .m-limit), omega (arith, q, edgePart-length s h read), omega (arith, b .0, a, small), omega (arith, b .1, a′, small))
+      (omega (arith, q, read .fits .m-limit), omega (arith, q, ap length (edgePart-is s h e), edges-length s (ok .header), read .m-is), omega (arith, b .0, a, small), omega (arith, b .1, a′, small))
 
   -- the near test of an edge by the parts
   short-is-near : (k : ℕ) → k < edgeCount s → isShort (handsetPart s h) (edgePart s h) (h .limit) k ≡ nearEdge s ok k

@@ -3,9 +3,9 @@
 --
 --     groups-few                 an accepted image has at most 512 communities
 --     text-is                    the text from the tables is the report's
---     edges-fit, handsets-fit, members-fit     the bounds that the parts of the report ask for
+--     members-fit                the bound that a part of the report asks for
 --     text-held                  the text from the tables as the report's functions leave them
-use Prim.Native.Nat.{ℕ, zero, suc, _+_, _*_, _-_, _≤_, _<_, min}
+use Prim.Native.Nat.{ℕ, zero, suc, _+_, _-_, _≤_, _<_, min}
 use native.Mathlib.Omega.{arith}
 use mathlib.Core.Path.{_≡_, refl, sym, ap, ap₂, _∙_, subst, subst₂}
 use mathlib.Core.Bool.{Bool, _&&_, cond}
@@ -16,15 +16,15 @@ use lib.Seq.{take-at, take-all}
 use Rattle.sets.specs.Below.{select}
 use Rattle.sets.proofs.Counting.{count-le, count-cong, count-at}
 use Rattle.sets.proofs.Selecting.{length-select}
-use Rattle.fields.specs.Fields.{handsetBytes, edgeBytes, limitSquaredMost}
+use Rattle.fields.specs.Fields.{limitSquaredMost}
 use Rattle.image.specs.Image.{handsetCount, edgeCount, limitSquared, handsetRecords, edgeRecords, endA, endB}
 use Rattle.image.specs.Near.{edgeProximity}
 use Rattle.image.specs.declared.Header.{Header}
 use Rattle.image.specs.declared.Proximity.{Proximity}
 use Rattle.image.specs.declared.Proximity.the-variants.{Near, NotNear}
-use Rattle.image.proofs.Acceptance.{accepted-fits, length-is, edges-length, ends-below}
+use Rattle.image.proofs.Acceptance.{accepted-fits, edges-length, ends-below}
 use Rattle.image.proofs.Near.{edge-proximity}
-use Rattle.image.proofs.Records as records
+use Rattle.image.proofs.Records.{edgePart, handsetPart, edgePart-is, handsetPart-is}
 use Rattle.community.specs.Network.{Network, isCore, members, reachable, communities, cores, contains, role}
 use Rattle.community.specs.Scores.{pairs, everyEdge, joinedPairs, justOne, leaving}
 use Rattle.community.specs.Reach.{farthest, inside, reach}
@@ -165,13 +165,6 @@ module _ {s : List ℕ} {h : Header} {head : Head} {starts table cores-set : Lis
       (ap (listLine (bytes "outliers:")) outlier-list)
       (ap totalsLine (plan-totals g cores-set few table-short (held .cores-are) o)))))
 
-  -- both tables of records stand in the image
-  pub edges-fit : h .edges + edgeBytes * h .m ≤ length s
-  edges-fit = rw (held .header) (omega (arith, accepted-fits s (held .accepted) .edges-to, length-is s (held .accepted)))
-
-  pub handsets-fit : h .handsets + handsetBytes * h .n ≤ length s
-  handsets-fit = rw (held .header) (omega (arith, accepted-fits s (held .accepted) .handsets-to, length-is s (held .accepted)))
-
   pub members-fit : head .counts .memberships ≤ length table
   members-fit =
       let gs : List (List ℕ) = communities (network s) in
@@ -185,23 +178,15 @@ module _ {s : List ℕ} {h : Header} {head : Head} {starts table cores-set : Lis
       ∙ ap (take (head .counts .memberships)) (held .members-are)
       ∙ take-at (memberTable gs) (drop (length (memberTable gs)) (replicate 8704 0)) (head .counts .memberships) (sym memberships-are)
 
-  -- the parts of the image that the records stand in
-  edges-part : take ((h .edges + edgeBytes * h .m) - h .edges) (drop (h .edges) s) ≡ edgeRecords s
-  unfolding edgeRecords
-  edges-part = records.part-is s (h .edges) (edgeBytes * h .m) ∙ ap (λ (x : Header). take (edgeBytes * x .m) (drop (x .edges) s)) (held .header)
-
-  handsets-part : take ((h .handsets + handsetBytes * h .n) - h .handsets) (drop (h .handsets) s) ≡ handsetRecords s
-  unfolding handsetRecords
-  handsets-part = records.part-is s (h .handsets) (handsetBytes * h .n) ∙ ap (λ (x : Header). take (handsetBytes * x .n) (drop (x .handsets) s)) (held .header)
-
   pub text-held : (t : Totals) (ts rs outlier-set : List ℕ)
-      → GroupsCounted (take ((h .edges + edgeBytes * h .m) - h .edges) (drop (h .edges) s)) starts table (head .counts .groups) ts
-      → GroupsReach (take ((h .handsets + handsetBytes * h .n) - h .handsets) (drop (h .handsets) s)) (take ((h .edges + edgeBytes * h .m) - h .edges) (drop (h .edges) s)) (h .limit) starts table (head .counts .groups) rs
+      → GroupsCounted (edgePart s h) starts table (head .counts .groups) ts
+      → GroupsReach (handsetPart s h) (edgePart s h) (h .limit) starts table (head .counts .groups) rs
       → RolesCounted (take (head .counts .memberships - 0) (drop 0 table)) cores-set (h .n) t outlier-set
       → tableText (record { head = head; totals = t }) starts table ts rs cores-set outlier-set ≡ reportText s
   text-held t ts rs outlier-set e r o =
+      let edges : edgePart s h ≡ edgeRecords s = edgePart-is s h (held .header) in
       text-is t ts rs outlier-set
-      (subst (λ (part : List ℕ). GroupsCounted part starts table (head .counts .groups) ts) edges-part e)
+      (subst (λ (part : List ℕ). GroupsCounted part starts table (head .counts .groups) ts) edges e)
       (subst (λ (limit : ℕ). GroupsReach (handsetRecords s) (edgeRecords s) limit starts table (head .counts .groups) rs) (ap (λ (x : Header). x .limit) (held .header))
-      (subst₂ (λ (hs es : List ℕ). GroupsReach hs es (h .limit) starts table (head .counts .groups) rs) handsets-part edges-part r))
+      (subst₂ (λ (hs es : List ℕ). GroupsReach hs es (h .limit) starts table (head .counts .groups) rs) (handsetPart-is s h (held .header)) edges r))
       (subst₂ (λ (part : List ℕ) (x : Header). RolesCounted part cores-set (x .n) t outlier-set) written-part (held .header) o)

@@ -9,7 +9,7 @@
 use Prim.Native.Nat.{ℕ, zero, suc, _+_, _*_, _≤_, _<_, _/_, min, max}
 use native.Mathlib.Omega.{arith}
 use native.Mathlib.Decide.{ℕ-discrete}
-use mathlib.Core.Path.{_≡_, refl, sym, ap, ap₂, _∙_, subst, subst₂}
+use mathlib.Core.Path.{_≡_, sym, ap, ap₂, _∙_, subst, subst₂}
 use mathlib.Core.Bool.{Bool, true, false, _&&_, cond}
 use mathlib.Core.List.{List}
 use lib.Dec.{ltb}
@@ -23,7 +23,7 @@ use Rattle.sets.proofs.Lowest.{Lowest, cleared, cleared-same}
 use Rattle.sets.proofs.Counting.{bit-le}
 use Rattle.fields.specs.Fields.{limitSquaredMost}
 use Rattle.image.specs.Image.{handsetRecord, endA, endB}
-use Rattle.image.specs.Near.{proximityOf, edgeProximity}
+use Rattle.image.specs.Near.{edgeProximity}
 use Rattle.image.specs.declared.Proximity.{Proximity}
 use Rattle.image.specs.declared.Proximity.the-variants.{Near, NotNear}
 use Rattle.image.proofs.Near.{near-most}

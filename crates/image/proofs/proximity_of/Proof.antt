@@ -15,7 +15,6 @@ use Rattle.fields.specs.Fields.{coordinateCount, gap}
 use Rattle.image.specs.Image.{handsetRecord, coordinateOf, gapSquared, distanceBetween}
 use Rattle.image.specs.Near.{proximityOf}
 use Rattle.image.specs.Answers.{proximityAnswer}
-use Rattle.image.specs.declared.Proximity.{Proximity}
 use Rattle.image.specs.declared.Proximity.the-variants.{Near, NotNear}
 use Rattle.image.proofs.Records.{coordinate-at}
 use Rattle.image.proofs.proximity_of.Statement.{statement}

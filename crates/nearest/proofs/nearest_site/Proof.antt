@@ -2,11 +2,13 @@
 use mathlib.Core.Path.{_≡_, refl, ap₂, _∙_}
 use mathlib.Core.List.{[], _∷_}
 use lib.IntN.{ℤ}
+use denote.Ref.{now}
 use mir.Facts.{toZ-ofZ}
 use borrow.Author.Needs.{needs}
 use Rattle.image.specs.Signed.{raised}
+use Rattle.image.proofs.Acceptance.{handsets-fit}
 use Rattle.demands.proofs.Lengths.{plan-granted}
-use Rattle.nearest.proofs.Planning.{records-fit, pass-answer}
+use Rattle.nearest.proofs.Planning.{pass-answer}
 use Rattle.nearest.proofs.nearest_site.Statement.{statement}
 use Rattle.nearest.proofs.nearest_site.Tie as tie
 
@@ -62,7 +64,7 @@ part-find-nearest-start : tie.Need-part-find-nearest-start
 part-find-nearest-start c = search needs
 
 part-find-nearest-end : tie.Need-part-find-nearest-end
-part-find-nearest-end c = records-fit (start (plan (c .before .before)) .pre)
+part-find-nearest-end c = let s = start (plan (c .before .before)) in handsets-fit (now (s .args .image)) (s .pre .accepted) (s .args .h) (s .pre .header)
 
 slice-aggregate-find-nearest : tie.Need-slice-aggregate-find-nearest
 slice-aggregate-find-nearest c = search needs

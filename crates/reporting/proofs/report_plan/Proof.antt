@@ -3,9 +3,10 @@
 use native.Mathlib.Omega.{arith}
 use mathlib.Core.Path.{_≡_}
 use denote.Ref.{now}
+use Rattle.image.proofs.Acceptance.{handsets-fit, edges-fit}
 use Rattle.reporting.specs.Report.{reportText}
 use Rattle.reporting.specs.Held.{tableText}
-use Rattle.reporting.proofs.Whole.{groups-few, handsets-fit, edges-fit, members-fit, text-held}
+use Rattle.reporting.proofs.Whole.{groups-few, members-fit, text-held}
 use Rattle.reporting.proofs.Answers.{filled-written, filled-refused}
 use borrow.Author.Needs.{needs}
 use Rattle.reporting.proofs.report_plan.Statement.{statement}
@@ -62,7 +63,7 @@ part-count-groups-start : tie.Need-part-count-groups-start
 part-count-groups-start c = search needs
 
 part-count-groups-end : tie.Need-part-count-groups-end
-part-count-groups-end c = handsets-fit (start c .pre)
+part-count-groups-end c = let s = start c in handsets-fit (now (s .args .image)) (s .pre .accepted) (s .args .h) (s .pre .header)
 
 sub-count-groups-2 : tie.Need-sub-count-groups-2
 sub-count-groups-2 c = search needs
@@ -71,7 +72,7 @@ part-count-groups-start-2 : tie.Need-part-count-groups-start-2
 part-count-groups-start-2 c = search needs
 
 part-count-groups-end-2 : tie.Need-part-count-groups-end-2
-part-count-groups-end-2 c = edges-fit (start (c .before) .pre)
+part-count-groups-end-2 c = let s = start (c .before) in edges-fit (now (s .args .image)) (s .pre .accepted) (s .args .h) (s .pre .header)
 
 count-groups-requires : tie.Need-count-groups-requires
 count-groups-requires c κs = search needs

@@ -3,7 +3,7 @@
 use Prim.Native.Nat.{ℕ, _+_, _*_, _<_}
 use native.Mathlib.Omega.{arith}
 use native.Mathlib.Numerals.{add-one}
-use mathlib.Core.Path.{_≡_, sym, ap, ap₂, _∙_}
+use mathlib.Core.Path.{_≡_, sym, ap, _∙_}
 use denote.Ref.{now}
 use borrow.Author.Needs.{needs}
 use Rattle.bytes.specs.Bytes.{number}
@@ -12,12 +12,9 @@ use Rattle.fields.specs.Fields.{endBytes, edgeBytes}
 use Rattle.fields.specs.declared.Ends.{Ends}
 use Rattle.image.specs.Image.{handsetRecord, endA, endB}
 use Rattle.image.specs.Near.{proximityOf, edgeProximity}
-use Rattle.image.specs.declared.Proximity.{Proximity}
-use Rattle.image.specs.declared.Proximity.the-variants.{Near, NotNear}
 use Rattle.image.proofs.Answers.{proximity-same}
 use Rattle.image.proofs.Records.{ends-part}
 use Rattle.tallies.specs.Tallies.{reachEntry}
-use Rattle.tallies.specs.declared.Edge.{Edge}
 use Rattle.tallies.proofs.Reaching.{entry-below}
 use Rattle.tallies.proofs.read_edge.Statement.{statement}
 use Rattle.tallies.proofs.read_edge.Tie as tie
