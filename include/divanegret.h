@@ -17,7 +17,7 @@
  * added up, and confirmed by measuring (tests/rust, program stack). It is no part of what is proved,
  * and another compiler or target may need another amount.
  *
- *     dvg_report 91 KiB    dvg_nearest 70 KiB    dvg_write 55 KiB    dvg_plan, dvg_role 36 KiB
+ *     dvg_report 95 KiB    dvg_nearest 70 KiB    dvg_write 55 KiB    dvg_plan, dvg_role 36 KiB
  *     dvg_open, dvg_scores 35 KiB    dvg_members, dvg_members_at 1 KiB
  *
  * The caller owns everything that it lends, before, during and after the call. A pointer must be
@@ -88,8 +88,8 @@ extern "C" {
 #define DVG_IMAGE 20512
 
 /* The text of the report: its length, or the refusal's number (1 to 10, 16) made negative. A group's
- * line tells its scores, its reach (the largest squared distance of a near tie between two members, or
- * - where there is none) and its members. */
+ * line tells its scores, its reach (the largest squared distance of a near tie between two members, or a
+ * hyphen where there is none) and its members. */
 int64_t dvg_report(const uint8_t *image, size_t image_len, uint8_t *text, size_t text_len);
 
 /* Puts questions 1 to 10 to an image. Accepted: n + 65536 * m. */

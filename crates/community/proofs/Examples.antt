@@ -1,7 +1,7 @@
 -- The examples of the papers: the definitions compute to what the papers say.
 use mathlib.Core.Path.{refl}
 use Rattle.image.specs.Image.{headerOf, mu}
-use Rattle.image.specs.Near.{proximity, neighbour}
+use Rattle.image.specs.Near.{proximity, neighbour, olderNeighbour}
 use Rattle.image.specs.Questions.{openOf}
 use Rattle.community.specs.Network.{neighbourhoodSize, commonNeighbours, similar, cores, communities, role}
 use Rattle.community.specs.Tables.{startTable}
@@ -9,7 +9,7 @@ use Rattle.community.specs.Reach.{reach}
 use Rattle.community.specs.Examples.{Examples}
 
 pub examples : Examples
-unfolding openOf headerOf proximity neighbour mu neighbourhoodSize commonNeighbours similar cores communities role startTable reach
+unfolding openOf headerOf proximity neighbour olderNeighbour mu neighbourhoodSize commonNeighbours similar cores communities role startTable reach
 examples = record {
   accepted-S = refl;
   cores-mu4 = refl;
@@ -32,6 +32,8 @@ examples = record {
   apart-4 = refl;
   near-5-negative = refl;
   apart-4-negative = refl;
+  older-5 = refl;
+  older-4 = refl;
   accepted-nobody = refl;
   communities-nobody = refl;
   starts-nobody = refl;

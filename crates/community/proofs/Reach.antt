@@ -8,16 +8,17 @@ use native.Mathlib.Decide.{decLt}
 use native.Mathlib.Numerals.{add-one}
 use mathlib.Core.Path.{_≡_, refl, sym, ap, ap₂, _∙_, subst}
 use mathlib.Core.Logic.{⊎-elim, _↔_}
-use mathlib.Core.Bool.{Bool, true, false, _||_, cond}
+use mathlib.Core.Bool.{Bool, true, false, _&&_, _||_, cond}
 use mathlib.Core.List.{List, [], _∷_}
 use lib.Dec.{T, eqb, eqb→eq, T-not}
-use Rattle.sets.proofs.Tests.{and-left, and-right, or-cases, T-true, eqb-of, below}
-use Rattle.image.specs.Image.{edgeCount, edgeRecords, endA, endB}
+use Rattle.sets.proofs.Tests.{and-make, and-left, and-right, or-cases, T-true, any-make, any-take, eqb-of, below}
+use Rattle.image.specs.Image.{edgeCount, edgeRecords, endA, endB, joins, adjacent}
 use Rattle.image.specs.Near.{proximity}
 use Rattle.image.specs.Questions.{Accepted, isLoop}
 use Rattle.image.specs.declared.Proximity.{Proximity}
 use Rattle.image.specs.declared.Proximity.the-variants.{Near, NotNear}
-use Rattle.image.proofs.Near.{near-apart, near-same}
+use Rattle.image.proofs.Edges.{joins-cases, joins-one}
+use Rattle.image.proofs.Near.{near-apart, near-same, proximity-comm, near-limit}
 use Rattle.community.specs.Network.{contains}
 use Rattle.community.specs.Reach.{farther, farthest, inside, reach, Spans, ReachMeans}
 
@@ -36,7 +37,7 @@ farthest-cong (suc n) f g e = ap₂ farther (farthest-cong n f g (λ k h. e k (o
 
 -- ---- the farthest of several answers: one of them tells it, and none tells more
 
-pub record Farthest (n : ℕ) (f : ℕ → Proximity) (r : Proximity) : Type 0 where
+record Farthest (n : ℕ) (f : ℕ → Proximity) (r : Proximity) : Type 0 where
   pub told : (d : ℕ) → r ≡ Near d → (k : ℕ) × (k < n) × (f k ≡ Near d)
   pub most : (k d : ℕ) → k < n → f k ≡ Near d → (e : ℕ) × (r ≡ Near e) × (d ≤ e)
 
@@ -73,29 +74,56 @@ farthest-is (suc n) f = farther-is n f (farthest n f) (f n) refl (farthest-is n 
 
 module _ (s l : List ℕ) where
   -- what an edge makes of the reach
-  abbrev part : ℕ → Proximity
-  part k = cond (inside s l k) (proximity s (endA (edgeRecords s) k) (endB (edgeRecords s) k)) NotNear
+  abbrev share : ℕ → Proximity
+  share k = cond (inside s l k) (proximity s (endA (edgeRecords s) k) (endB (edgeRecords s) k)) NotNear
 
-  spans-part : (d : ℕ) → Spans s l d → (k : ℕ) × (k < edgeCount s) × (part k ≡ Near d)
-  spans-part d x =
-      (x .0, x .1, ap (λ (b : Bool). cond b (proximity s (endA (edgeRecords s) (x .0)) (endB (edgeRecords s) (x .0))) NotNear) (T-true (inside s l (x .0)) (x .2)) ∙ x .3)
+  spans-share : (d : ℕ) → Spans s l d → (k : ℕ) × (k < edgeCount s) × (share k ≡ Near d)
+  unfolding adjacent inside
+  spans-share d x =
+      let u : ℕ = x .0 in
+      let v : ℕ = x .1 in
+      let r = any-take (edgeCount s) (joins (edgeRecords s) u v) (x .4) in
+      let made : (a b : ℕ) → T (contains a l) → T (contains b l) → cond (contains a l && contains b l) (proximity s a b) NotNear ≡ proximity s a b =
+      λ a b y z. ap (λ (t : Bool). cond t (proximity s a b) NotNear) (T-true (contains a l && contains b l) (and-make (contains a l) (contains b l) y z)) in (
+        r .0,
+        r .1,
+        ⊎-elim
+            (λ e. ap₂ (λ (a b : ℕ). cond (contains a l && contains b l) (proximity s a b) NotNear) (e .0) (e .1) ∙ made u v (x .2) (x .3) ∙ x .5)
+            (λ e. ap₂ (λ (a b : ℕ). cond (contains a l && contains b l) (proximity s a b) NotNear) (e .0) (e .1) ∙ made v u (x .3) (x .2) ∙ proximity-comm s v u ∙ x .5)
+            (joins-cases (edgeRecords s) u v (r .0) (r .2)),
+      )
 
-  part-spans : (d k : ℕ) → k < edgeCount s → part k ≡ Near d → Spans s l d
-  part-spans d k h q = go (inside s l k) refl q
+  share-spans : (d k : ℕ) → k < edgeCount s → share k ≡ Near d → Spans s l d
+  unfolding adjacent inside
+  share-spans d k h q = go (inside s l k) refl q
     where
-      go : (b : Bool) → inside s l k ≡ b → cond b (proximity s (endA (edgeRecords s) k) (endB (edgeRecords s) k)) NotNear ≡ Near d → Spans s l d
-      go true e q = (k, h, subst T (sym e) tt, q)
+      a : ℕ
+      a = endA (edgeRecords s) k
+
+      b : ℕ
+      b = endB (edgeRecords s) k
+
+      go : (t : Bool) → inside s l k ≡ t → cond t (proximity s a b) NotNear ≡ Near d → Spans s l d
+      go true e q =
+          let y : T (contains a l && contains b l) = subst T (sym e) tt in (
+            a,
+            b,
+            and-left (contains a l) (contains b l) y,
+            and-right (contains a l) (contains b l) y,
+            any-make (edgeCount s) (joins (edgeRecords s) a b) k h (joins-one (edgeRecords s) a b k refl refl),
+            q,
+          )
       go false e q = near-apart d q
 
-  held : Farthest (edgeCount s) part (reach s l)
+  held : Farthest (edgeCount s) share (reach s l)
   unfolding reach
-  held = farthest-is (edgeCount s) part
+  held = farthest-is (edgeCount s) share
 
   reach-spans : (d : ℕ) → reach s l ≡ Near d → Spans s l d
-  reach-spans d e = let t = held .told d e in part-spans d (t .0) (t .1) (t .2)
+  reach-spans d e = let t = held .told d e in share-spans d (t .0) (t .1) (t .2)
 
   spans-reach : (d : ℕ) → Spans s l d → (e : ℕ) × (reach s l ≡ Near e) × (d ≤ e)
-  spans-reach d x = let p = spans-part d x in held .most (p .0) d (p .1) (p .2)
+  spans-reach d x = let p = spans-share d x in held .most (p .0) d (p .1) (p .2)
 
   largest-is : (d : ℕ) → (reach s l ≡ Near d) ↔ (Spans s l d × ((e : ℕ) → Spans s l e → e ≤ d))
   largest-is d = (to, from)
@@ -115,15 +143,22 @@ module _ (s l : List ℕ) where
       go f (Near d) q = absurd (f d (reach-spans d q))
       go f NotNear q = refl
 
--- an edge inside a list of one would be a loop
+-- an edge between two of a list of one would be a loop
 alone-none : (s : List ℕ) (v : ℕ) → Accepted s → (d : ℕ) → Spans s (v ∷ []) d → ⊥
-unfolding inside contains isLoop
+unfolding contains isLoop adjacent
 alone-none s v ok d x =
-    let a : ℕ = endA (edgeRecords s) (x .0) in
-    let b : ℕ = endB (edgeRecords s) (x .0) in
     let only : (u : ℕ) → T (eqb u v || false) → u ≡ v = λ u t. ⊎-elim (eqb→eq u v) (λ f. absurd f) (or-cases (eqb u v) false t) in
-    T-not (eqb a b) (ok .q9 (x .0) (x .1))
-    (eqb-of a b (only a (and-left (eqb a v || false) (eqb b v || false) (x .2)) ∙ sym (only b (and-right (eqb a v || false) (eqb b v || false) (x .2)))))
+    let same : x .0 ≡ x .1 = only (x .0) (x .2) ∙ sym (only (x .1) (x .3)) in
+    let r = any-take (edgeCount s) (joins (edgeRecords s) (x .0) (x .1)) (x .4) in
+    let a : ℕ = endA (edgeRecords s) (r .0) in
+    let b : ℕ = endB (edgeRecords s) (r .0) in
+    T-not (eqb a b) (ok .q9 (r .0) (r .1))
+    (eqb-of a b (⊎-elim (λ e. e .0 ∙ same ∙ sym (e .1)) (λ e. e .0 ∙ sym same ∙ sym (e .1)) (joins-cases (edgeRecords s) (x .0) (x .1) (r .0) (r .2))))
 
 pub reach-means : ReachMeans
-reach-means = record { largest = largest-is; none = none-is; alone = λ s v ok. none-is s (v ∷ []) .1 (alone-none s v ok) }
+reach-means = record {
+  largest = largest-is;
+  none = none-is;
+  in-limit = λ s l d q. let x = reach-spans s l d q in near-limit s (x .0) (x .1) d (x .5);
+  alone = λ s v ok. none-is s (v ∷ []) .1 (alone-none s v ok);
+}

@@ -1,5 +1,5 @@
--- The examples of paper 01 that are theorems of the definitions, marked there with a diamond, as paper 02 changes them, from the
--- images' bytes: one list. The proof is proofs/Examples.
+-- The examples of paper 01 that are theorems of the definitions, marked there with a diamond, as paper 02 changes them, and some of paper 02, order 6, from
+-- the images' bytes: one list. The proof is proofs/Examples.
 --
 --     siteS p q m    site S with epsilon p/q and mu m
 --     pair G         two handsets, tied, at (0, 0) and (1, 2), with the square G of the near distance
@@ -13,7 +13,7 @@ use mathlib.Core.Path.{_≡_}
 use mathlib.Core.Bool.{true, false}
 use mathlib.Core.List.{List, [], _∷_}
 use Rattle.image.specs.Image.{headerOf}
-use Rattle.image.specs.Near.{proximity}
+use Rattle.image.specs.Near.{proximity, olderNeighbour}
 use Rattle.image.specs.Questions.{openOf}
 use Rattle.image.specs.declared.Opened.the-variants.{Site}
 use Rattle.image.specs.declared.Proximity.the-variants.{Near, NotNear}
@@ -69,6 +69,8 @@ pub record Examples : Type 0 where
   pub apart-4 : proximity (pair 4) 0 1 ≡ NotNear
   pub near-5-negative : proximity (pairNeg 5) 0 1 ≡ Near 5
   pub apart-4-negative : proximity (pairNeg 4) 0 1 ≡ NotNear
+  pub older-5 : olderNeighbour (pair 5) 0 1 ≡ true
+  pub older-4 : olderNeighbour (pair 4) 0 1 ≡ false
   -- n = 0: no groups, start table 0
   pub accepted-nobody : openOf nobody ≡ Site (headerOf nobody)
   pub communities-nobody : communities (network nobody) ≡ []

@@ -1,12 +1,14 @@
 -- The near test of two handsets. It answers near exactly when the older test said yes, and then with the squared distance of the two.
 --
---     near-most          a test by records that answers near: the distance that it tells is that of the records, and at most the limit
---     adjacent-comm      adjacent, either way round
---     proximity-comm     the test, either way round
---     neighbour-older    the test answers near exactly when the older one did
---     neighbour-cases    neighbours are the same handset, or adjacent
---     near-itself        a handset is near itself at 0
---     edge-proximity     the test of the ends of an edge of an accepted image is that by their records
+--     near-apart, near-same     not near is not near at some distance, and near at one distance is not near at another
+--     near-most                 a test by records that answers near: the distance that it tells is that of the records, and at most the limit
+--     adjacent-comm             adjacent, either way round
+--     proximity-comm            the test, either way round
+--     neighbour-older           the test answers near exactly when the older one did
+--     neighbour-cases           neighbours are the same handset, or adjacent
+--     near-itself               a handset is near itself at 0
+--     near-limit                what is near is no farther apart than gamma
+--     edge-proximity            the test of the ends of an edge of an accepted image is that by their records
 use Prim.Native.Nat.{ℕ, _*_, _≤_, _<_}
 use native.Mathlib.Omega.{arith}
 use mathlib.Core.Path.{_≡_, refl, sym, ap, ap₂, _∙_, subst}
@@ -20,7 +22,7 @@ use Rattle.sets.proofs.Counting.{sum-cong, sum-zero}
 use Rattle.fields.specs.Fields.{coordinateCount, gap}
 use Rattle.image.specs.Image.{edgeCount, limitSquared, handsetRecords, handsetRecord, edgeRecords, coordinateOf, gapSquared, distanceBetween, distanceSquared, endA, endB, joins, adjacent}
 use Rattle.image.specs.Questions.{Accepted, isLoop}
-use Rattle.image.specs.Near.{proximityOf, edgeProximity, proximity, isNear, neighbour, olderNeighbour, NearTest}
+use Rattle.image.specs.Near.{proximityOf, proximity, isNear, neighbour, olderNeighbour, NearTest}
 use Rattle.image.specs.declared.Proximity.{Proximity}
 use Rattle.image.specs.declared.Proximity.the-variants.{Near, NotNear}
 use Rattle.image.proofs.Edges.{joins-one, joins-comm}
@@ -33,11 +35,8 @@ distanceIn (Near d) = d
 distanceIn NotNear = 0
 
 pub near-apart : {A : Type 0} (d : ℕ) → NotNear ≡ Near d → A
-near-apart d e = let z : _≡_ {A = ℕ} 0 1 = ap flag e in absurd (omega arith)
-  where
-    flag : Proximity → ℕ
-    flag (Near d) = 1
-    flag NotNear = 0
+unfolding isNear
+near-apart d e = absurd (subst (λ (p : Proximity). T (isNear p)) (sym e) tt)
 
 pub near-same : {d e : ℕ} → Near d ≡ Near e → d ≡ e
 near-same e = ap distanceIn e
@@ -132,6 +131,16 @@ near-distance s u v d = go (eqb u v) (adjacent s u v) refl
     go false true h e = near-most a b (limitSquared s) d e .0
     go false false h e = near-apart d e
 
+-- near at no more than gamma
+pub near-limit : (s : List ℕ) (u v d : ℕ) → proximity s u v ≡ Near d → d ≤ limitSquared s
+unfolding proximity
+near-limit s u v d = go (eqb u v) (adjacent s u v)
+  where
+    go : (x y : Bool) → tested x y (proximityOf (handsetRecord (handsetRecords s) u) (handsetRecord (handsetRecords s) v) (limitSquared s)) ≡ Near d → d ≤ limitSquared s
+    go true y e = omega (arith, near-same e)
+    go false true e = near-most (handsetRecord (handsetRecords s) u) (handsetRecord (handsetRecords s) v) (limitSquared s) d e .1
+    go false false e = near-apart d e
+
 pub near-test : NearTest
 near-test = record {
   older = neighbour-older;
@@ -144,8 +153,9 @@ near-test = record {
 -- ---- the ends of an edge
 
 pub edge-proximity : (s : List ℕ) → Accepted s → (k : ℕ) → k < edgeCount s
-    → proximity s (endA (edgeRecords s) k) (endB (edgeRecords s) k) ≡ edgeProximity (handsetRecords s) (edgeRecords s) (limitSquared s) k
-unfolding proximity edgeProximity adjacent isLoop
+    → proximity s (endA (edgeRecords s) k) (endB (edgeRecords s) k)
+    ≡ proximityOf (handsetRecord (handsetRecords s) (endA (edgeRecords s) k)) (handsetRecord (handsetRecords s) (endB (edgeRecords s) k)) (limitSquared s)
+unfolding proximity adjacent isLoop
 edge-proximity s ok k h =
     let a : ℕ = endA (edgeRecords s) k in
     let b : ℕ = endB (edgeRecords s) k in

@@ -3,17 +3,16 @@
 --     part-is           the part from a to a + k is the k bytes from a on; edgePart-is, handsetPart-is: so the parts that code hands on are the records
 --     handset-part      the part that a handset's record stands in is its record
 --     ends-part         the ends that the part of an edge's record holds are the edge's ends
---     coordinate-at     a coordinate read from the records is that of the handset's record
-use Prim.Native.Nat.{ℕ, _+_, _*_, _-_, _≤_, _<_}
+use Prim.Native.Nat.{ℕ, _+_, _*_, _-_, _≤_}
 use native.Mathlib.Omega.{arith}
 use native.Mathlib.Nat.{add-zero, add-sub-cancel-left}
-use mathlib.Core.Path.{_≡_, sym, ap, _∙_}
+use mathlib.Core.Path.{_≡_, ap, _∙_}
 use mathlib.Core.List.{List}
 use lib.ListN.{length, take, drop}
 use Rattle.bytes.specs.Bytes.{number}
-use Rattle.fields.specs.Fields.{coordinateBytes, coordinateCount, handsetBytes, edgeBytes, shifted, endsOf}
+use Rattle.fields.specs.Fields.{handsetBytes, edgeBytes, endsOf}
 use Rattle.bytes.proofs.Bytes.{number-part}
-use Rattle.image.specs.Image.{headerOf, handsetRecords, edgeRecords, handsetRecord, coordinateOf, endA, endB}
+use Rattle.image.specs.Image.{headerOf, handsetRecords, edgeRecords, handsetRecord, endA, endB}
 use Rattle.image.specs.declared.Header.{Header}
 
 pub part-is : (s : List ℕ) (a k : ℕ) → take (a + k - a) (drop a s) ≡ take k (drop a s)
@@ -45,9 +44,3 @@ unfolding endsOf endA endB
 ends-part part k h =
     ap endsOf (part-is part (edgeBytes * k) edgeBytes)
     ∙ (λ i. record { a = (number-part 2 part (edgeBytes * k) edgeBytes 0 (omega arith) (omega arith) ∙ ap (number 2 part) (add-zero (edgeBytes * k))) i; b = number-part 2 part (edgeBytes * k) edgeBytes 2 (omega arith) (omega arith) i })
-
-pub coordinate-at : (part : List ℕ) (v i : ℕ) → i < coordinateCount
-    → shifted (number coordinateBytes part (handsetBytes * v + coordinateBytes * i)) ≡ coordinateOf (handsetRecord part v) i
-unfolding coordinateOf handsetRecord
-coordinate-at part v i h =
-    ap shifted (sym (number-part coordinateBytes part (handsetBytes * v) handsetBytes (coordinateBytes * i) (omega arith) (omega arith)))

@@ -1,7 +1,6 @@
 -- The near test of two handsets (paper 01, "Near, alike, core"; paper 02, order 6): near with the squared distance, or not near.
 --
 --     proximityOf a b limit    the test by the records of two handsets: near where their squared distance is at most the limit
---     edgeProximity ..         the test of the two ends of edge k, by the parts that handset records and edge records stand in
 --     proximity s u v          the test of two handsets of an image: a handset is near itself at 0, those that are adjacent are tested by their records
 --                              and G, and no others are near
 --     isNear x                 the test answers near
@@ -13,17 +12,13 @@ use mathlib.Core.Path.{_≡_}
 use mathlib.Core.Bool.{Bool, true, false, _&&_, _||_, cond}
 use mathlib.Core.List.{List}
 use lib.Dec.{leb, eqb}
-use Rattle.image.specs.Image.{limitSquared, handsetRecords, handsetRecord, distanceBetween, distanceSquared, endA, endB, adjacent}
+use Rattle.image.specs.Image.{limitSquared, handsetRecords, handsetRecord, distanceBetween, distanceSquared, adjacent}
 use Rattle.image.specs.declared.Proximity.{Proximity}
 use Rattle.image.specs.declared.Proximity.the-variants.{Near, NotNear}
 
 unfoldable pub proximityOf : List ℕ → List ℕ → ℕ → Proximity
 unfolding distanceBetween
 proximityOf a b limit = cond (leb (distanceBetween a b) limit) (Near (distanceBetween a b)) NotNear
-
-unfoldable pub edgeProximity : List ℕ → List ℕ → ℕ → ℕ → Proximity
-unfolding proximityOf handsetRecord endA endB
-edgeProximity handsets edges limit k = proximityOf (handsetRecord handsets (endA edges k)) (handsetRecord handsets (endB edges k)) limit
 
 unfoldable pub proximity : List ℕ → ℕ → ℕ → Proximity
 unfolding proximityOf adjacent handsetRecord handsetRecords

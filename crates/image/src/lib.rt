@@ -13,7 +13,7 @@ ghost use Rattle.sets.specs.Below.{find};
 ghost use Rattle.sets.specs.Bits.{cell, withBit};
 ghost use Rattle.sets.specs.Rows.{Table, Counted};
 ghost use Rattle.fields.specs.Fields.{handsetBytes, edgeBytes};
-ghost use Rattle.image.specs.Image.{headerOf, handsetRecord, endA, endB};
+ghost use Rattle.image.specs.Image.{headerOf, endA, endB};
 ghost use Rattle.image.specs.Near.{proximityOf};
 ghost use Rattle.image.specs.Questions.{tablesFit, outOfLimits, ask, askEdges, askRecords, askHeader, askImage, openOf, refusalOf};
 ghost use Rattle.image.specs.Answers.{openAnswer, proximityAnswer};
@@ -170,21 +170,17 @@ fn first_bad(question: u32, part: &[u8], count: usize, n: usize) -> usize
     k
 }
 
-// The near test of handsets u and v of the handset records: near with their squared distance where that is at most the limit, else not near. A coordinate
-// that is not there counts as 0. What is left of the limit wraps only where they are not near.
-pub fn proximity_of(handsets: &[u8], u: u16, v: u16, limit: u64) -> Proximity
-    ensures { λ r. ⌜ proximityAnswer r ≡ proximityAnswer (proximityOf (handsetRecord (now (handsets .entry)) u) (handsetRecord (now (handsets .entry)) v) limit) ⌝ }
+// The near test of two handsets, by their records: near with their squared distance where that is at most the limit, else not near. What is left of the limit
+// wraps only where they are not near.
+pub fn proximity_of(a: &[u8], b: &[u8], limit: u64) -> Proximity
+    ensures { λ r. ⌜ proximityAnswer r ≡ proximityAnswer (proximityOf (now (a .entry)) (now (b .entry)) limit) ⌝ }
 {
-    let from = fields::HANDSET_BYTES * (u as usize);
-    let to = fields::HANDSET_BYTES * (v as usize);
     let mut fits = true;
     let mut room = limit;
     let mut i: usize = 0;
     while i < fields::COORDINATES {
         let at = fields::COORDINATE_BYTES * i;
-        let a = fields::coordinate(handsets, from + at);
-        let b = fields::coordinate(handsets, to + at);
-        let d = fields::squared_gap(a, b);
+        let d = fields::squared_gap(fields::coordinate(a, at), fields::coordinate(b, at));
         let covered = d <= room;
         fits = fits & covered;
         room = std::num::wrapping_sub_u64(room, d);

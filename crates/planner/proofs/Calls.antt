@@ -44,10 +44,10 @@ use Rattle.planner.specs.declared.Known.the-variants as K
 use Rattle.planner.proofs.Listing.{grouped-rows}
 
 -- ---- what is told of an image
-pub ready-count : {s : List ℕ} {h : Header} {short rows sizes : List ℕ} → Ready s h short rows sizes → h .n ≡ handsetCount s
+pub ready-count : {s : List ℕ} {h : Header} {near rows sizes : List ℕ} → Ready s h near rows sizes → h .n ≡ handsetCount s
 ready-count r = ap (λ (x : Header). x .n) (r .header)
 
-pub told-no : {s : List ℕ} {a : Opened} {short rows sizes : List ℕ} → NeighboursRead s a short rows sizes
+pub told-no : {s : List ℕ} {a : Opened} {near rows sizes : List ℕ} → NeighboursRead s a near rows sizes
     → (x y : Refusal) → a ≡ O.Refused x → y ≡ refusalOf a → openOf s ≡ O.Refused y
 told-no r x y e f = sym (r .answered) ∙ e ∙ ap O.Refused (sym (f ∙ ap refusalOf e))
 

@@ -6,10 +6,10 @@
 --     Read, header-is              the numbers of the header are those of the image
 --     neighbour-size, neighbour-common       the counts of the neighbour table are those of the network; enough-is: and the test by them is the definition's
 --     cores-set                    the cores by the sizes of the similarity table
---     edges-ready, short-ready, dissimilar-ready     the edges of the part and of the two sets stand there, and their ends are handsets
+--     edges-ready, near-ready, dissimilar-ready     the edges of the part and of the two sets stand there, and their ends are handsets
 --     told-yes, read-no, read-yes     what the reader tells, and so what is told and left of an image
 --     neighbours-kept, surveyed          the two steps that drop edges; neighbour-sizes: the sizes after the first
-use Prim.Native.Nat.{ℕ, _+_, _-_, _≤_, _<_, min}
+use Prim.Native.Nat.{ℕ, _+_, _*_, _-_, _≤_, _<_, min}
 use native.Mathlib.Omega.{arith}
 use mathlib.Core.Path.{_≡_, refl, sym, ap, ap₂, _∙_, subst}
 use mathlib.Core.Logic.{_⊎_, inl, inr, ⊎-elim}
@@ -22,7 +22,7 @@ use Rattle.sets.specs.Bits.{bitAt, cell}
 use Rattle.sets.specs.Rows.{SetOf, Table, Counted}
 use Rattle.sets.proofs.Tests.{and-make, and-left, and-right, or-left, or-right, or-cases, decide, T-true, T-false, T-ext, any-take, eqb-of, eqb-comm}
 use Rattle.sets.proofs.Counting.{bit-false, count-cong, count-sum, count-wide, count-at, sum-cong}
-use Rattle.fields.specs.Fields.{coreSize}
+use Rattle.fields.specs.Fields.{coreSize, handsetBytes}
 use Rattle.image.specs.Image.{headerOf, handsetCount, edgeCount, limitSquared, epsilonNum, epsilonDen, mu, handsetRecords, edgeRecords, endA, endB, joins, adjacent}
 use Rattle.image.specs.Near.{isNear, neighbour}
 use Rattle.image.specs.Questions.{Accepted, openOf}
@@ -32,7 +32,7 @@ use Rattle.image.specs.declared.Header.{Header}
 use Rattle.image.specs.declared.Refusal.{Refusal}
 use Rattle.image.specs.declared.Opened.{Opened}
 use Rattle.image.specs.declared.Opened.the-variants as O
-use Rattle.image.proofs.Acceptance.{Fits, accepted-fits, accepted, length-is, edges-length, ends-below}
+use Rattle.image.proofs.Acceptance.{Fits, accepted-fits, accepted, length-is, handsets-length, edges-length, ends-below}
 use Rattle.image.proofs.Answers.{given-refused, open-same}
 use Rattle.image.proofs.Edges.{joins-cases}
 use Rattle.image.proofs.Near.{adjacent-comm, neighbour-cases, edge-proximity}
@@ -43,7 +43,7 @@ use Rattle.community.specs.Site.{network}
 use Rattle.community.proofs.Similarity.{similar-sym, similar-self}
 use Rattle.community.proofs.Site.{neighbour-comm, neighbour-self, accepted-sound}
 use Rattle.search.specs.Communities.{both, similarIn, coreIn, Surveyed}
-use Rattle.planner.specs.Held.{HasEnds, EdgeSet, isShort, Dropped, enough, neighbourIn, Ready, NeighboursRead}
+use Rattle.planner.specs.Held.{HasEnds, EdgeSet, isNearEdge, Dropped, enough, neighbourIn, Ready, NeighboursRead}
 use Rattle.planner.proofs.Words.{set-passes, passes-set}
 use Rattle.planner.proofs.Edges.{dropped-cong}
 
@@ -157,20 +157,20 @@ module _ (s : List ℕ) (ok : Accepted s) where
           and-make (both (network s) u v) (selfOrAdjacent u v)
           (and-make (ltb u (handsetCount s)) (ltb v (handsetCount s)) (lt→ltb u (handsetCount s) hu) (lt→ltb v (handsetCount s) hv)) r
 
-  -- the ends of edge k are neighbours; the edge is too long where it is one of the image's and they are not
+  -- the ends of edge k are neighbours; the edge is far where it is one of the image's and they are not
   abbrev pub nearEdge : ℕ → Bool
   nearEdge k = neighbour s (endA (edgeRecords s) k) (endB (edgeRecords s) k)
 
-  abbrev pub tooLong : ℕ → Bool
-  tooLong k = ltb k (edgeCount s) && not (nearEdge k)
+  abbrev pub farEdge : ℕ → Bool
+  farEdge k = ltb k (edgeCount s) && not (nearEdge k)
 
   -- dropping these leaves the neighbour relation
-  pub neighbour-table : {ws after : List ℕ} → Table ws (related s) → Dropped (edgeRecords s) tooLong ws after → Table after (neighbourIn (network s))
+  pub neighbour-table : {ws after : List ℕ} → Table ws (related s) → Dropped (edgeRecords s) farEdge ws after → Table after (neighbourIn (network s))
   unfolding neighbourIn
   neighbour-table t d =
       dropped-is s selfOrAdjacent (neighbour s) self-or-adjacent-along neighbour-along
       (λ u v x. ⊎-elim (λ e. or-left (eqb u v) (adjacent s u v) (eqb-of u v e)) (λ w. or-right (eqb u v) (adjacent s u v) w) (neighbour-cases s u v x))
-      tooLong
+      farEdge
       (λ k x. (ltb→lt k (edgeCount s) (and-left (ltb k (edgeCount s)) (not (nearEdge k)) x), and-right (ltb k (edgeCount s)) (not (nearEdge k)) x))
       (λ k h x n. and-make (ltb k (edgeCount s)) (not (nearEdge k)) (lt→ltb k (edgeCount s) h) n)
       d (both (network s)) (table-cong (related s) (λ u v. both (network s) u v && selfOrAdjacent u v) (λ u v hu hv. related-is u v) t)
@@ -309,14 +309,14 @@ module _ {s : List ℕ} {a : Opened} {rows sizes : List ℕ} (r : Reading s a ro
   pub told-yes : (h : Header) → a ≡ O.Site h → Accepted s × (h ≡ headerOf s)
   told-yes h e = accepted s h (sym opened-is ∙ e)
 
-  pub read-no : {short : List ℕ} (x : Refusal) → a ≡ O.Refused x → NeighboursRead s a short rows sizes
+  pub read-no : {near : List ℕ} (x : Refusal) → a ≡ O.Refused x → NeighboursRead s a near rows sizes
   read-no x e = record { answered = opened-is; room = r .room; ready = λ h d. given-refused _ _ x (ap openAnswer (sym d ∙ e)) }
 
-  pub read-yes : {short ws sizes′ : List ℕ} (h : Header) → a ≡ O.Site h → Room ws sizes′ → Ready s h short ws sizes′ → NeighboursRead s (O.Site h) short ws sizes′
-  read-yes {short} {ws} {sizes′} h e room k = record {
+  pub read-yes : {near ws sizes′ : List ℕ} (h : Header) → a ≡ O.Site h → Room ws sizes′ → Ready s h near ws sizes′ → NeighboursRead s (O.Site h) near ws sizes′
+  read-yes {near} {ws} {sizes′} h e room k = record {
     answered = sym e ∙ opened-is;
     room = room;
-    ready = λ g d. subst (λ (x : Header). Ready s x short ws sizes′) (k .header ∙ sym (told-yes g (e ∙ d) .1)) k;
+    ready = λ g d. subst (λ (x : Header). Ready s x near ws sizes′) (k .header ∙ sym (told-yes g (e ∙ d) .1)) k;
   }
 
 -- ---- the two steps
@@ -328,61 +328,65 @@ module _ (s : List ℕ) (h : Header) (ok : Accepted s) (e : h ≡ headerOf s) wh
   small = omega (arith, read .n-is, read .fits .n-limit)
 
   -- an edge of the part
-  pub edges-ready : (k : ℕ) → k < h .m → HasEnds (edgePart s h) k
-  edges-ready k q =
+  pub edges-ready : (n k : ℕ) → handsetCount s ≤ n → k < h .m → HasEnds (edgePart s h) n k
+  edges-ready n k l q =
       let b = ends-below s ok k (omega (arith, q, read .m-is)) in
       let a : endA (edgePart s h) k ≡ endA (edgeRecords s) k = ap (λ (part : List ℕ). endA part k) (edgePart-is s h e) in
       let a′ : endB (edgePart s h) k ≡ endB (edgeRecords s) k = ap (λ (part : List ℕ). endB part k) (edgePart-is s h e) in
-      (omega (arith, q, read .fits .m-limit), omega (arith, q, ap length (edgePart-is s h e), edges-length s (ok .header), read .m-is), omega (arith, b .0, a, small), omega (arith, b .1, a′, small))
+      (omega (arith, q, read .fits .m-limit), omega (arith, q, ap length (edgePart-is s h e), edges-length s (ok .header), read .m-is), omega (arith, b .0, a, l), omega (arith, b .1, a′, l))
+
+  -- all handsets have their records in the part
+  pub handsetPart-length : length (handsetPart s h) ≡ handsetBytes * handsetCount s
+  handsetPart-length = ap length (handsetPart-is s h e) ∙ handsets-length s (ok .header)
 
   -- the near test of an edge by the parts
-  short-is-near : (k : ℕ) → k < edgeCount s → isShort (handsetPart s h) (edgePart s h) (h .limit) k ≡ nearEdge s ok k
+  edge-is-near : (k : ℕ) → k < edgeCount s → isNearEdge (handsetPart s h) (edgePart s h) (h .limit) k ≡ nearEdge s ok k
   unfolding neighbour
-  short-is-near k l =
-      ap₂ (λ (hs es : List ℕ). isShort hs es (h .limit) k) (handsetPart-is s h e) (edgePart-is s h e)
-      ∙ ap (λ (x : ℕ). isShort (handsetRecords s) (edgeRecords s) x k) (read .limit-is) ∙ ap isNear (sym (edge-proximity s ok k l))
+  edge-is-near k l =
+      ap₂ (λ (hs es : List ℕ). isNearEdge hs es (h .limit) k) (handsetPart-is s h e) (edgePart-is s h e)
+      ∙ ap (λ (x : ℕ). isNearEdge (handsetRecords s) (edgeRecords s) x k) (read .limit-is) ∙ ap isNear (sym (edge-proximity s ok k l))
 
   passed-is : (f : Bool → Bool) (k : ℕ)
-      → (ltb k (h .m) && f (isShort (handsetPart s h) (edgePart s h) (h .limit) k)) ≡ (ltb k (edgeCount s) && f (nearEdge s ok k))
+      → (ltb k (h .m) && f (isNearEdge (handsetPart s h) (edgePart s h) (h .limit) k)) ≡ (ltb k (edgeCount s) && f (nearEdge s ok k))
   passed-is f k =
-      ap (λ (m : ℕ). ltb k m && f (isShort (handsetPart s h) (edgePart s h) (h .limit) k)) (read .m-is)
+      ap (λ (m : ℕ). ltb k m && f (isNearEdge (handsetPart s h) (edgePart s h) (h .limit) k)) (read .m-is)
       ∙ ⊎-elim
-      (λ y. ap (λ (b : Bool). ltb k (edgeCount s) && f b) (short-is-near k (ltb→lt k (edgeCount s) y)))
+      (λ y. ap (λ (b : Bool). ltb k (edgeCount s) && f b) (edge-is-near k (ltb→lt k (edgeCount s) y)))
       (λ n. rw (T-false (ltb k (edgeCount s)) n))
       (decide (ltb k (edgeCount s)))
 
-  pub neighbours-kept : {short ws after sizes : List ℕ} → Table ws (related s)
-      → EdgeSet short (λ k. ltb k (h .m) && isShort (handsetPart s h) (edgePart s h) (h .limit) k)
-      → Dropped (edgePart s h) (λ k. ltb k (h .m) && not (isShort (handsetPart s h) (edgePart s h) (h .limit) k)) ws after
-      → Counted after sizes → Ready s h short after sizes
-  neighbours-kept {short} {ws} {after} t set d c = record {
+  pub neighbours-kept : {near ws after sizes : List ℕ} → Table ws (related s)
+      → EdgeSet near (λ k. ltb k (h .m) && isNearEdge (handsetPart s h) (edgePart s h) (h .limit) k)
+      → Dropped (edgePart s h) (λ k. ltb k (h .m) && not (isNearEdge (handsetPart s h) (edgePart s h) (h .limit) k)) ws after
+      → Counted after sizes → Ready s h near after sizes
+  neighbours-kept {near} {ws} {after} t set d c = record {
     accepted = ok;
     header = e;
-    short-set = record { size = set .size; bits = λ k l. set .bits k l ∙ ap bit (passed-is (λ b. b) k) };
+    near-set = record { size = set .size; bits = λ k l. set .bits k l ∙ ap bit (passed-is (λ b. b) k) };
     table =
         neighbour-table s ok t
-        (dropped-cong (λ k. ltb k (h .m) && not (isShort (handsetPart s h) (edgePart s h) (h .limit) k)) (tooLong s ok)
+        (dropped-cong (λ k. ltb k (h .m) && not (isNearEdge (handsetPart s h) (edgePart s h) (h .limit) k)) (farEdge s ok)
         (λ k x. subst (λ (b : Bool). T b) (passed-is not k) x)
         (λ k x. subst (λ (b : Bool). T b) (sym (passed-is not k)) x)
-        (subst (λ (part : List ℕ). Dropped part (λ k. ltb k (h .m) && not (isShort (handsetPart s h) (edgePart s h) (h .limit) k)) ws after) (edgePart-is s h e) d));
+        (subst (λ (part : List ℕ). Dropped part (λ k. ltb k (h .m) && not (isNearEdge (handsetPart s h) (edgePart s h) (h .limit) k)) ws after) (edgePart-is s h e) d));
     counted = c;
   }
 
-  module _ {short ws sizes : List ℕ} (kept : Ready s h short ws sizes) where
+  module _ {near ws sizes : List ℕ} (kept : Ready s h near ws sizes) where
     -- the sizes are those of the neighbourhoods
     pub neighbour-sizes : (u : ℕ) → u < network s .n → getD sizes u 0 ≡ neighbourhoodSize (network s) u
     neighbour-sizes u l = kept .counted .rows u (omega (arith, l, small)) ∙ neighbour-size (network s) small u (kept .table) l
 
     -- an edge of the set is below m
-    short-in : (k : ℕ) → bitAt short k ≡ 1 → k < edgeCount s
-    short-in k x = ltb→lt k (edgeCount s) (and-left (ltb k (edgeCount s)) (nearEdge s ok k) (set-passes (kept .short-set) k x .1))
+    near-in : (k : ℕ) → bitAt near k ≡ 1 → k < edgeCount s
+    near-in k x = ltb→lt k (edgeCount s) (and-left (ltb k (edgeCount s)) (nearEdge s ok k) (set-passes (kept .near-set) k x .1))
 
-    pub short-ready : (k : ℕ) → bitAt short k ≡ 1 → (k < h .m) × HasEnds (edgePart s h) k
-    short-ready k x =
-        let l : k < h .m = omega (arith, short-in k x, read .m-is) in
-        (l, edges-ready k l)
+    pub near-ready : (k : ℕ) → bitAt near k ≡ 1 → (k < h .m) × HasEnds (edgePart s h) 512 k
+    near-ready k x =
+        let l : k < h .m = omega (arith, near-in k x, read .m-is) in
+        (l, edges-ready 512 k small l)
 
-    module _ {dissimilar : List ℕ} (made : EdgeSet dissimilar (λ k. eqb (bitAt short k) 1 && not (enough ws sizes (h .p) (h .q) (endA (edgePart s h) k) (endB (edgePart s h) k)))) where
+    module _ {dissimilar : List ℕ} (made : EdgeSet dissimilar (λ k. eqb (bitAt near k) 1 && not (enough ws sizes (h .p) (h .q) (endA (edgePart s h) k) (endB (edgePart s h) k)))) where
       test-is : (k : ℕ) → k < edgeCount s → enough ws sizes (h .p) (h .q) (endA (edgePart s h) k) (endB (edgePart s h) k) ≡ meets (network s) (endA (edgeRecords s) k) (endB (edgeRecords s) k)
       test-is k l =
           let b = ends-below s ok k l in
@@ -390,14 +394,14 @@ module _ (s : List ℕ) (h : Header) (ok : Accepted s) (e : h ≡ headerOf s) wh
           ∙ enough-is (network s) small (endA (edgeRecords s) k) (endB (edgeRecords s) k) (h .p) (h .q) (kept .table) (kept .counted) (b .0) (b .1) (read .p-is) (read .q-is)
 
       -- an edge of the new set is one of the old, and its ends do not have enough in common
-      dissimilar-in : (k : ℕ) → bitAt dissimilar k ≡ 1 → (bitAt short k ≡ 1) × T (not (enough ws sizes (h .p) (h .q) (endA (edgePart s h) k) (endB (edgePart s h) k)))
+      dissimilar-in : (k : ℕ) → bitAt dissimilar k ≡ 1 → (bitAt near k ≡ 1) × T (not (enough ws sizes (h .p) (h .q) (endA (edgePart s h) k) (endB (edgePart s h) k)))
       dissimilar-in k x =
           let y = set-passes made k x .1 in
           let t : Bool = not (enough ws sizes (h .p) (h .q) (endA (edgePart s h) k) (endB (edgePart s h) k)) in
-          (eqb→eq (bitAt short k) 1 (and-left (eqb (bitAt short k) 1) t y), and-right (eqb (bitAt short k) 1) t y)
+          (eqb→eq (bitAt near k) 1 (and-left (eqb (bitAt near k) 1) t y), and-right (eqb (bitAt near k) 1) t y)
 
-      pub dissimilar-ready : (k : ℕ) → bitAt dissimilar k ≡ 1 → (k < h .m) × HasEnds (edgePart s h) k
-      dissimilar-ready k x = short-ready k (dissimilar-in k x .0)
+      pub dissimilar-ready : (k : ℕ) → bitAt dissimilar k ≡ 1 → (k < h .m) × HasEnds (edgePart s h) 512 k
+      dissimilar-ready k x = near-ready k (dissimilar-in k x .0)
 
       pub surveyed : {after sizes′ cores : List ℕ} {least : ℕ} → Dropped (edgePart s h) (λ k. eqb (bitAt dissimilar k) 1) ws after → Counted after sizes′ → least ≡ coreSize (h .mu)
           → SetOf cores (λ u. ltb u (h .n) && leb least (getD sizes′ u 0)) → Surveyed (network s) after cores
@@ -406,13 +410,13 @@ module _ (s : List ℕ) (h : Header) (ok : Accepted s) (e : h ≡ headerOf s) wh
           similar-table s ok (λ k. eqb (bitAt dissimilar k) 1)
           (λ k x.
           let y = dissimilar-in k (eqb→eq (bitAt dissimilar k) 1 x) in
-          let l = short-in k (y .0) in
+          let l = near-in k (y .0) in
           (l, subst (λ (b : Bool). T (not b)) (test-is k l) (y .1)))
           (λ k l w n.
           let small-edge : k < 4096 = omega (arith, l, read .m-is, read .fits .m-limit) in
           passes-set made k small-edge
-          (and-make (eqb (bitAt short k) 1) (not (enough ws sizes (h .p) (h .q) (endA (edgePart s h) k) (endB (edgePart s h) k)))
-          (passes-set (kept .short-set) k small-edge (and-make (ltb k (edgeCount s)) (nearEdge s ok k) (lt→ltb k (edgeCount s) l) w))
+          (and-make (eqb (bitAt near k) 1) (not (enough ws sizes (h .p) (h .q) (endA (edgePart s h) k) (endB (edgePart s h) k)))
+          (passes-set (kept .near-set) k small-edge (and-make (ltb k (edgeCount s)) (nearEdge s ok k) (lt→ltb k (edgeCount s) l) w))
           (subst (λ (b : Bool). T (not b)) (sym (test-is k l)) n)))
           (kept .table)
           (subst (λ (part : List ℕ). Dropped part (λ k. eqb (bitAt dissimilar k) 1) ws after) (edgePart-is s h e) d) in

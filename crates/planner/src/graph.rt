@@ -1,24 +1,23 @@
 // The network of a site: the size of each neighbourhood, who is similar to whom, who is a core, and so which are its communities. A table has a row of
 // eight words for each handset, one bit a handset, and the size of each row stands beside it; only the edges are gone through, never the pairs of handsets.
 //
-// The reader leaves every edge in the table. First the edges that are too long are dropped, and then those whose ends are not similar: each time a word
+// The reader leaves every edge in the table. First the edges whose ends are not near are dropped, and then those whose ends are not similar: each time a word
 // of up to 64 edges is made of them, one bit an edge, without a branch on the test, and then the edges of the word are dropped.
 ghost use mathlib.Core.Path.{_≡_};
 ghost use mathlib.Core.Bool.{_&&_, not};
-ghost use Prim.Native.Nat.{ℕ, _+_, _*_, _≤_, _<_, min};
+ghost use Prim.Native.Nat.{ℕ, _+_, _*_, _/_, _≤_, _<_, min};
 ghost use lib.Dec.{T, leb, ltb, eqb};
 ghost use lib.ListN.{length, getD, replicate};
 ghost use Rattle.sets.specs.Below.{sum};
 ghost use Rattle.sets.specs.Bits.{bitOf, bitAt, cell, withoutBit};
 ghost use Rattle.sets.specs.Rows.{SetOf, Counted};
-ghost use Rattle.fields.specs.Fields.{edgeBytes};
+ghost use Rattle.fields.specs.Fields.{handsetBytes, edgeBytes};
 ghost use Rattle.image.specs.Image.{endA, endB};
-ghost use Rattle.image.specs.Near.{edgeProximity};
 ghost use Rattle.image.specs.Rows.{Room};
 ghost use Rattle.community.specs.Network.{meetsEpsilon};
 ghost use Rattle.community.specs.Site.{network};
 ghost use Rattle.search.specs.Communities.{coreIn, Grouped};
-ghost use Rattle.planner.specs.Held.{WordOf, HasEnds, inWord, EdgeSet, isShort, Dropped, enough, Ready, NeighboursRead};
+ghost use Rattle.planner.specs.Held.{WordOf, HasEnds, inWord, EdgeSet, edgeProximity, isNearEdge, Dropped, enough, Ready, NeighboursRead};
 use fields::Ends;
 use image::Header;
 use image::Opened;
@@ -49,17 +48,21 @@ fn ends_at(edges: &[u8], k: usize) -> Ends
 
 // The near test of the ends of edge k.
 fn test_edge<'a>(handsets: &'a [u8], edges: &'a [u8], k: usize, limit: u64) -> Proximity
-    requires { ⌜ HasEnds (now edges) k ⌝ }
+    requires { ⌜ (length (now handsets) ≤ handsetBytes * 512) × (HasEnds (now edges) (length (now handsets) / handsetBytes) k) ⌝ }
     ensures { λ r. ⌜ r ≡ edgeProximity (now (handsets .entry)) (now (edges .entry)) limit k ⌝ }
 {
     let e = ends_at(edges, k);
-    image::proximity_of(handsets, e.a as u16, e.b as u16, limit)
+    let a = fields::HANDSET_BYTES * e.a;
+    let a_past = a + fields::HANDSET_BYTES;
+    let b = fields::HANDSET_BYTES * e.b;
+    let b_past = b + fields::HANDSET_BYTES;
+    image::proximity_of(&handsets[a..a_past], &handsets[b..b_past], limit)
 }
 
 // The edges from `base` on whose ends are near, as a word: of `count` edges, at most 64. It is made from its highest bit down, without a branch on the test.
-fn short_word<'a>(handsets: &'a [u8], edges: &'a [u8], base: usize, count: usize, limit: u64) -> u64
-    requires { ⌜ (count ≤ 64) × (base ≤ 4096) × ((k : ℕ) → k < count → HasEnds (now edges) (base + k)) ⌝ }
-    ensures { λ r. ⌜ WordOf r (λ k. ltb k count && isShort (now (handsets .entry)) (now (edges .entry)) limit (base + k)) ⌝ }
+fn near_word<'a>(handsets: &'a [u8], edges: &'a [u8], base: usize, count: usize, limit: u64) -> u64
+    requires { ⌜ (count ≤ 64) × (base ≤ 4096) × (length (now handsets) ≤ handsetBytes * 512) × ((k : ℕ) → k < count → HasEnds (now edges) (length (now handsets) / handsetBytes) (base + k)) ⌝ }
+    ensures { λ r. ⌜ WordOf r (λ k. ltb k count && isNearEdge (now (handsets .entry)) (now (edges .entry)) limit (base + k)) ⌝ }
 {
     let mut word: u64 = 0;
     let mut k = count;
@@ -77,7 +80,7 @@ fn short_word<'a>(handsets: &'a [u8], edges: &'a [u8], base: usize, count: usize
 
 // Drops the edges base + k, for each set bit k of the word: takes the ends of each out of each other's rows.
 fn drop_edges(edges: &[u8], word: u64, base: usize, table: &mut [u64], sizes: &mut [u32])
-    requires { ⌜ (base ≤ 4096) × (Room (now table) (now sizes)) × (Counted (now table) (now sizes)) × ((k : ℕ) → T (inWord word base k) → HasEnds (now edges) k) ⌝ }
+    requires { ⌜ (base ≤ 4096) × (Room (now table) (now sizes)) × (Counted (now table) (now sizes)) × ((k : ℕ) → T (inWord word base k) → HasEnds (now edges) 512 k) ⌝ }
     ensures dropped { λ _. ⌜ Dropped (now (edges .entry)) (inWord word base) (now (table .entry)) (now (table .exit)) ⌝ }
     ensures counted { λ _. ⌜ Counted (now (table .exit)) (now (sizes .exit)) ⌝ }
 {
@@ -91,28 +94,28 @@ fn drop_edges(edges: &[u8], word: u64, base: usize, table: &mut [u64], sizes: &m
     }
 }
 
-// Drops those of the first m edges whose ends are not near. The empty set `short` gets the others.
-fn drop_long<'a>(
+// Drops those of the first m edges whose ends are not near. The empty set `near` gets the others.
+fn drop_far<'a>(
     handsets: &'a [u8],
     edges: &'a [u8],
     m: usize,
     limit: u64,
-    short: &mut [u64],
+    near: &mut [u64],
     table: &mut [u64],
     sizes: &mut [u32],
 )
-    requires { ⌜ (m ≤ 4096) × (now short ≡ replicate 64 0) × (Room (now table) (now sizes)) × (Counted (now table) (now sizes)) × ((k : ℕ) → k < m → HasEnds (now edges) k) ⌝ }
-    ensures kept { λ _. ⌜ EdgeSet (now (short .exit)) (λ k. ltb k m && isShort (now (handsets .entry)) (now (edges .entry)) limit k) ⌝ }
-    ensures dropped { λ _. ⌜ Dropped (now (edges .entry)) (λ k. ltb k m && not (isShort (now (handsets .entry)) (now (edges .entry)) limit k)) (now (table .entry)) (now (table .exit)) ⌝ }
+    requires { ⌜ (m ≤ 4096) × (length (now handsets) ≤ handsetBytes * 512) × (now near ≡ replicate 64 0) × (Room (now table) (now sizes)) × (Counted (now table) (now sizes)) × ((k : ℕ) → k < m → HasEnds (now edges) (length (now handsets) / handsetBytes) k) ⌝ }
+    ensures kept { λ _. ⌜ EdgeSet (now (near .exit)) (λ k. ltb k m && isNearEdge (now (handsets .entry)) (now (edges .entry)) limit k) ⌝ }
+    ensures dropped { λ _. ⌜ Dropped (now (edges .entry)) (λ k. ltb k m && not (isNearEdge (now (handsets .entry)) (now (edges .entry)) limit k)) (now (table .entry)) (now (table .exit)) ⌝ }
     ensures counted { λ _. ⌜ Counted (now (table .exit)) (now (sizes .exit)) ⌝ }
 {
     let mut j: usize = 0;
     while 64 * j < m {
         let count = if m - 64 * j < 64 { m - 64 * j } else { 64 };
-        let word = short_word(handsets, edges, 64 * j, count, limit);
+        let word = near_word(handsets, edges, 64 * j, count, limit);
         let all = 18446744073709551615u64 >> (64 - count);
         drop_edges(edges, word ^ all, 64 * j, table, sizes);
-        short[j] = word;
+        near[j] = word;
         j += 1;
     }
 }
@@ -158,7 +161,7 @@ fn dissimilar_word<'a>(
     p: u16,
     q: u16,
 ) -> u64
-    requires { ⌜ (base ≤ 4096) × (Room (now table) (now sizes)) × (Counted (now table) (now sizes)) × (p ≤ 1000) × (q ≤ 1000) × ((k : ℕ) → T (inWord word base k) → HasEnds (now edges) k) ⌝ }
+    requires { ⌜ (base ≤ 4096) × (Room (now table) (now sizes)) × (Counted (now table) (now sizes)) × (p ≤ 1000) × (q ≤ 1000) × ((k : ℕ) → T (inWord word base k) → HasEnds (now edges) 512 k) ⌝ }
     ensures { λ r. ⌜ WordOf r (λ k. eqb (bitOf word k) 1 && not (enough (now (table .entry)) (now (sizes .entry)) p q (endA (now (edges .entry)) (base + k)) (endB (now (edges .entry)) (base + k)))) ⌝ }
 {
     let mut w = word;
@@ -188,7 +191,7 @@ fn keep_dissimilar<'a>(
     q: u16,
     set: &mut [u64],
 )
-    requires { ⌜ (m ≤ 4096) × (length (now set) ≡ 64) × (Room (now table) (now sizes)) × (Counted (now table) (now sizes)) × (p ≤ 1000) × (q ≤ 1000) × ((k : ℕ) → bitAt (now set) k ≡ 1 → (k < m) × (HasEnds (now edges) k)) ⌝ }
+    requires { ⌜ (m ≤ 4096) × (length (now set) ≡ 64) × (Room (now table) (now sizes)) × (Counted (now table) (now sizes)) × (p ≤ 1000) × (q ≤ 1000) × ((k : ℕ) → bitAt (now set) k ≡ 1 → (k < m) × (HasEnds (now edges) 512 k)) ⌝ }
     ensures { λ _. ⌜ EdgeSet (now (set .exit)) (λ k. eqb (bitAt (now (set .entry)) k) 1 && not (enough (now (table .entry)) (now (sizes .entry)) p q (endA (now (edges .entry)) k) (endB (now (edges .entry)) k))) ⌝ }
 {
     let mut j: usize = 0;
@@ -200,7 +203,7 @@ fn keep_dissimilar<'a>(
 
 // Drops the edges of a set, all below m.
 fn drop_set<'a>(edges: &'a [u8], set: &'a [u64], m: usize, table: &mut [u64], sizes: &mut [u32])
-    requires { ⌜ (m ≤ 4096) × (length (now set) ≡ 64) × (Room (now table) (now sizes)) × (Counted (now table) (now sizes)) × ((k : ℕ) → bitAt (now set) k ≡ 1 → (k < m) × (HasEnds (now edges) k)) ⌝ }
+    requires { ⌜ (m ≤ 4096) × (length (now set) ≡ 64) × (Room (now table) (now sizes)) × (Counted (now table) (now sizes)) × ((k : ℕ) → bitAt (now set) k ≡ 1 → (k < m) × (HasEnds (now edges) 512 k)) ⌝ }
     ensures dropped { λ _. ⌜ Dropped (now (edges .entry)) (λ k. eqb (bitAt (now (set .entry)) k) 1) (now (table .entry)) (now (table .exit)) ⌝ }
     ensures counted { λ _. ⌜ Counted (now (table .exit)) (now (sizes .exit)) ⌝ }
 {
@@ -224,17 +227,17 @@ fn mark_cores(sizes: &[u32], n: usize, mu: u32, cores: &mut [u64])
     }
 }
 
-// Opens an image by the reader and gives the reader's answer. After a yes the edges that are too long are dropped from the rows that it leaves, so that the
-// two tables hold the neighbour relation and the sizes of the neighbourhoods, and the empty set `short` gets the other edges. After a no the tables are as
-// the reader leaves them, and `short` is empty.
+// Opens an image by the reader and gives the reader's answer. After a yes the edges whose ends are not near are dropped from the rows that it leaves, so that the
+// two tables hold the neighbour relation and the sizes of the neighbourhoods, and the empty set `near` gets the other edges. After a no the tables are as
+// the reader leaves them, and `near` is empty.
 pub(crate) fn open_neighbours(
     image: &[u8],
-    short: &mut [u64],
+    near: &mut [u64],
     table: &mut [u64; 4096],
     sizes: &mut [u32; 512],
 ) -> Opened
-    requires { ⌜ now short ≡ replicate 64 0 ⌝ }
-    ensures { λ r. ⌜ NeighboursRead (now (image .entry)) r (now (short .exit)) (now (table .exit)) (now (sizes .exit)) ⌝ }
+    requires { ⌜ now near ≡ replicate 64 0 ⌝ }
+    ensures { λ r. ⌜ NeighboursRead (now (image .entry)) r (now (near .exit)) (now (table .exit)) (now (sizes .exit)) ⌝ }
 {
     let opened = image::open_rows(image, table, sizes);
     let Opened::Site(h) = opened else {
@@ -245,12 +248,12 @@ pub(crate) fn open_neighbours(
     let b = a + fields::EDGE_BYTES * m;
     let from = h.handsets as usize;
     let to = from + fields::HANDSET_BYTES * (h.n as usize);
-    drop_long(
+    drop_far(
         &image[from..to],
         &image[a..b],
         m,
         h.limit,
-        short,
+        near,
         table,
         sizes,
     );
@@ -258,24 +261,24 @@ pub(crate) fn open_neighbours(
 }
 
 // Makes the neighbour table of an accepted site its communities, as the first rows, and gives their count; the empty set `cores` gets the cores. On the way the
-// edges whose ends are not similar are dropped, which leaves the similarity relation; of the set of short edges it keeps those that it drops.
+// edges whose ends are not similar are dropped, which leaves the similarity relation; of the set of near edges it keeps those that it drops.
 pub(crate) fn find_site_communities(
     image: &[u8],
     h: Header,
-    short: &mut [u64],
+    near: &mut [u64],
     table: &mut [u64],
     sizes: &mut [u32],
     cores: &mut [u64],
 ) -> usize
-    requires { ⌜ (Ready (now image) h (now short) (now table) (now sizes)) × (Room (now table) (now sizes)) × (now cores ≡ replicate 8 0) ⌝ }
+    requires { ⌜ (Ready (now image) h (now near) (now table) (now sizes)) × (Room (now table) (now sizes)) × (now cores ≡ replicate 8 0) ⌝ }
     ensures { λ r. ⌜ (SetOf (now (cores .exit)) (coreIn (network (now (image .entry))))) × (Grouped (network (now (image .entry))) (now (table .exit)) r) ⌝ }
 {
     let m = h.m as usize;
     let a = h.edges as usize;
     let b = a + fields::EDGE_BYTES * m;
     let edges = &image[a..b];
-    keep_dissimilar(edges, table, sizes, m, h.p, h.q, short);
-    drop_set(edges, short, m, table, sizes);
+    keep_dissimilar(edges, table, sizes, m, h.p, h.q, near);
+    drop_set(edges, near, m, table, sizes);
     mark_cores(sizes, h.n as usize, fields::core_size(h.mu) as u32, cores);
     search::find_communities(table, cores)
 }

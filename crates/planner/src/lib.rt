@@ -30,9 +30,9 @@ pub fn plan_and_cores(image: &[u8], starts: &mut [u32], members: &mut [u16]) -> 
 {
     let mut table = [0u64; 4096];
     let mut sizes = [0u32; 512];
-    let mut short = [0u64; 64];
+    let mut near = [0u64; 64];
     let mut cores = [0u64; 8];
-    let opened = graph::open_neighbours(image, &mut short, &mut table, &mut sizes);
+    let opened = graph::open_neighbours(image, &mut near, &mut table, &mut sizes);
     let Opened::Site(h) = opened else {
         return Outcome {
             answer: Planned::Refused(image::refusal_of(opened)),
@@ -42,7 +42,7 @@ pub fn plan_and_cores(image: &[u8], starts: &mut [u32], members: &mut [u16]) -> 
     let count = graph::find_site_communities(
         image,
         h,
-        &mut short,
+        &mut near,
         &mut table,
         &mut sizes,
         &mut cores,
@@ -65,8 +65,8 @@ pub fn role(image: &[u8], v: usize) -> Known
 {
     let mut table = [0u64; 4096];
     let mut sizes = [0u32; 512];
-    let mut short = [0u64; 64];
-    let opened = graph::open_neighbours(image, &mut short, &mut table, &mut sizes);
+    let mut near = [0u64; 64];
+    let opened = graph::open_neighbours(image, &mut near, &mut table, &mut sizes);
     let Opened::Site(h) = opened else {
         return Known::Refused(image::refusal_of(opened));
     };
@@ -81,7 +81,7 @@ pub fn role(image: &[u8], v: usize) -> Known
     let count = graph::find_site_communities(
         image,
         h,
-        &mut short,
+        &mut near,
         &mut table,
         &mut sizes,
         &mut cores,

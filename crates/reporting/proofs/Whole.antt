@@ -8,21 +8,22 @@
 use Prim.Native.Nat.{ℕ, zero, suc, _+_, _-_, _≤_, _<_, min}
 use native.Mathlib.Omega.{arith}
 use mathlib.Core.Path.{_≡_, refl, sym, ap, ap₂, _∙_, subst, subst₂}
-use mathlib.Core.Bool.{Bool, _&&_, cond}
+use mathlib.Core.Bool.{Bool, true, _&&_, cond}
 use mathlib.Core.List.{List, [], _++_}
 use borrow.Author.Tests.{lt-ltb}
+use lib.Dec.{ltb}
 use lib.ListN.{length, getD, take, drop, replicate, length-append}
 use lib.Seq.{take-at, take-all}
 use Rattle.sets.specs.Below.{select}
 use Rattle.sets.proofs.Counting.{count-le, count-cong, count-at}
 use Rattle.sets.proofs.Selecting.{length-select}
 use Rattle.fields.specs.Fields.{limitSquaredMost}
-use Rattle.image.specs.Image.{handsetCount, edgeCount, limitSquared, handsetRecords, edgeRecords, endA, endB}
-use Rattle.image.specs.Near.{edgeProximity}
+use Rattle.image.specs.Image.{handsetCount, edgeCount, limitSquared, handsetRecords, edgeRecords, handsetRecord, endA, endB}
+use Rattle.image.specs.Near.{proximityOf, proximity}
 use Rattle.image.specs.declared.Header.{Header}
 use Rattle.image.specs.declared.Proximity.{Proximity}
 use Rattle.image.specs.declared.Proximity.the-variants.{Near, NotNear}
-use Rattle.image.proofs.Acceptance.{accepted-fits, edges-length, ends-below}
+use Rattle.image.proofs.Acceptance.{accepted-fits, handsets-length, edges-length, ends-below}
 use Rattle.image.proofs.Near.{edge-proximity}
 use Rattle.image.proofs.Records.{edgePart, handsetPart, edgePart-is, handsetPart-is}
 use Rattle.community.specs.Network.{Network, isCore, members, reachable, communities, cores, contains, role}
@@ -39,7 +40,7 @@ use Rattle.scores.specs.Scored.{tallyOf}
 use Rattle.scores.proofs.Tallying.{joined-once}
 use Rattle.text.specs.Text.{bytes}
 use Rattle.text.specs.Text as X
-use Rattle.tallies.specs.Tallies.{edgesIn, isMember, GroupsCounted, reachEntry, GroupsReach}
+use Rattle.tallies.specs.Tallies.{edgesIn, isMember, GroupsCounted, handsetsIn, endsProximity, reachEntry, GroupsReach}
 use Rattle.demands.proofs.Lookup.{table-part}
 use Rattle.totals.specs.declared.Totals.{Totals}
 use Rattle.totals.specs.Totals.{isOutlier, RolesCounted}
@@ -123,21 +124,29 @@ module _ {s : List ℕ} {h : Header} {head : Head} {starts table cores-set : Lis
   -- and its reach is the community's
   reach-held : (rs : List ℕ) → GroupsReach (handsetRecords s) (edgeRecords s) (limitSquared s) starts table (head .counts .groups) rs
       → (k : ℕ) → k < head .counts .groups → groupReach rs k ≡ reach s (getD (communities (network s)) k [])
-  unfolding groupReach reach inside
+  unfolding groupReach reach inside endsProximity
   reach-held rs c k l =
       let list : List ℕ = getD (communities (network s)) k [] in
       let edges : List ℕ = edgeRecords s in
+      let hs : List ℕ = handsetRecords s in
       let here : ℕ → Bool = isMember starts table (head .counts .groups) k in
       let limit : min (limitSquared s) limitSquaredMost ≡ limitSquared s = omega (arith, accepted-fits s (held .accepted) .square-limit) in
-      let part : ℕ → ℕ → Proximity = λ x e. cond (here (endA edges e) && here (endB edges e)) (edgeProximity (handsetRecords s) edges x e) NotNear in
+      let there : (v : ℕ) → v < handsetCount s → ltb v (handsetsIn hs) ≡ true =
+      λ v h. lt-ltb v (handsetsIn hs) (omega (arith, handsets-length s (held .accepted .header))) in
+      let share : ℕ → ℕ → Proximity = λ x e. cond (here (endA edges e) && here (endB edges e)) (endsProximity hs (endA edges e) (endB edges e) x) NotNear in
       ap reachOf (c .reaches k (omega (arith, groups-few)))
-      ∙ entry-back (farthest (edgesIn edges) (part (min (limitSquared s) limitSquaredMost)))
-      ∙ ap₂ (λ (n x : ℕ). farthest n (part x)) all-edges limit
-      ∙ farthest-cong (edgeCount s) (part (limitSquared s)) _
+      ∙ entry-back (farthest (edgesIn edges) (share (min (limitSquared s) limitSquaredMost)))
+      ∙ ap₂ (λ (n x : ℕ). farthest n (share x)) all-edges limit
+      ∙ farthest-cong (edgeCount s) (share (limitSquared s)) _
       (λ e q.
-      let b = ends-below s (held .accepted) e q in
-      ap₂ (λ (x y : Bool). cond (x && y) (edgeProximity (handsetRecords s) edges (limitSquared s) e) NotNear) (member-is k (endA edges e) l (b .0)) (member-is k (endB edges e) l (b .1))
-      ∙ ap (λ (p : Proximity). cond (contains (endA edges e) list && contains (endB edges e) list) p NotNear) (sym (edge-proximity s (held .accepted) e q)))
+      let a : ℕ = endA edges e in
+      let b : ℕ = endB edges e in
+      let below = ends-below s (held .accepted) e q in
+      let told : endsProximity hs a b (limitSquared s) ≡ proximity s a b =
+      ap₂ (λ (x y : Bool). cond (x && y) (proximityOf (handsetRecord hs a) (handsetRecord hs b) (limitSquared s)) NotNear) (there a (below .0)) (there b (below .1))
+      ∙ sym (edge-proximity s (held .accepted) e q) in
+      ap₂ (λ (x y : Bool). cond (x && y) (endsProximity hs a b (limitSquared s)) NotNear) (member-is k a l (below .0)) (member-is k b l (below .1))
+      ∙ ap (λ (p : Proximity). cond (contains a list && contains b list) p NotNear) told)
 
   -- the member table is short enough that every entry is counted
   table-short : length (memberTable (communities (network s))) ≤ 65535

@@ -5,7 +5,7 @@
 --     entry-below                        what a near test makes of a reach has room
 --     reach-none, reach-more             one edge, for the groups of the first words: of none, and of one more; reach-done: of all that begin below a bound
 --     reaches-none, reaches-more         the first edges: none, and one more
---     groups-reached                     the reaches by the rows are the groups' reaches
+--     groups-reach                     the reaches by the rows are the groups' reaches
 use Prim.Native.Nat.{ℕ, zero, suc, _+_, _*_, _≤_, _<_, _/_, min, max}
 use native.Mathlib.Omega.{arith}
 use native.Mathlib.Decide.{ℕ-discrete}
@@ -23,16 +23,16 @@ use Rattle.sets.proofs.Lowest.{Lowest, cleared, cleared-same}
 use Rattle.sets.proofs.Counting.{bit-le}
 use Rattle.fields.specs.Fields.{limitSquaredMost}
 use Rattle.image.specs.Image.{handsetRecord, endA, endB}
-use Rattle.image.specs.Near.{edgeProximity}
+use Rattle.image.specs.Near.{proximityOf}
 use Rattle.image.specs.declared.Proximity.{Proximity}
 use Rattle.image.specs.declared.Proximity.the-variants.{Near, NotNear}
-use Rattle.image.proofs.Near.{near-most}
+use Rattle.image.proofs.Near.{near-apart, near-most}
 use Rattle.community.specs.Network.{contains}
 use Rattle.community.specs.Reach.{farther, farthest}
 use Rattle.community.proofs.Reach.{farthest-none, farthest-more, farthest-cong}
 use Rattle.lookup.specs.Lookup.{membersOf}
-use Rattle.tallies.specs.Tallies.{edgesIn, isInside, reachEntry, GroupsReach}
-use Rattle.tallies.specs.Held.{inGroup, bitFor, joinedIn, RaisedTo, edgeOf, EdgeReached, EdgesReached}
+use Rattle.tallies.specs.Tallies.{edgesIn, isInside, handsetsIn, endsProximity, reachEntry, GroupsReach}
+use Rattle.tallies.specs.Held.{inGroup, bitFor, joinedIn, RaisedTo, edgeOf, EdgeRaised, EdgesRaised}
 use Rattle.tallies.specs.declared.Edge.{Edge}
 use Rattle.tallies.proofs.Tallying.{bitFor-of, bitFor-cleared, raised-done, word-more, joined-bit, words-all, joined-is}
 
@@ -65,23 +65,27 @@ entry-farther (Near d) (Near e) = omega arith
 entry-farther (Near d) NotNear = omega arith
 entry-farther NotNear b = omega arith
 
-entry-part : (b : Bool) (p : Proximity) → reachEntry (cond b p NotNear) ≡ reachEntry p * bit b
-entry-part true p = omega arith
-entry-part false p = omega arith
+entry-share : (b : Bool) (p : Proximity) → reachEntry (cond b p NotNear) ≡ reachEntry p * bit b
+entry-share true p = omega arith
+entry-share false p = omega arith
 
-pub entry-below : (handsets part : List ℕ) (limit k d : ℕ) → edgeProximity handsets part limit k ≡ Near d → d ≤ limit
-unfolding edgeProximity
-entry-below handsets part limit k d e = near-most (handsetRecord handsets (endA part k)) (handsetRecord handsets (endB part k)) limit d e .1
+pub entry-below : (handsets : List ℕ) (u v limit d : ℕ) → endsProximity handsets u v limit ≡ Near d → d ≤ limit
+unfolding endsProximity
+entry-below handsets u v limit d e = go (ltb u (handsetsIn handsets) && ltb v (handsetsIn handsets)) e
+  where
+    go : (b : Bool) → cond b (proximityOf (handsetRecord handsets u) (handsetRecord handsets v) limit) NotNear ≡ Near d → d ≤ limit
+    go true q = near-most (handsetRecord handsets u) (handsetRecord handsets v) limit d q .1
+    go false q = near-apart d q
 
 -- ---- one edge
 
-pub reach-none : (rows : List ℕ) (edge : Edge) (rs : List ℕ) → length rs ≡ 512 → EdgeReached rows edge 0 rs rs
+pub reach-none : (rows : List ℕ) (edge : Edge) (rs : List ℕ) → length rs ≡ 512 → EdgeRaised rows edge 0 rs rs
 unfolding joinedIn
 reach-none rows edge rs size = record {
   size = size;
   entries = λ k h.
       omega arith
-      ∙ ap (λ (b : Bool). max (getD rs k 0) (edge .entry * bit (b && (inGroup rows (edge .a) k && inGroup rows (edge .b) k)))) (sym (le-ltb (64 * (k / 64)) 0 (omega arith)));
+      ∙ ap (λ (b : Bool). max (getD rs k 0) (edge .reach * bit (b && (inGroup rows (edge .a) k && inGroup rows (edge .b) k)))) (sym (le-ltb (64 * (k / 64)) 0 (omega arith)));
 }
 
 -- two numbers of which one at most is 1
@@ -91,60 +95,60 @@ max-bits x (suc a) b c e h =
     ap₂ (λ (y z : ℕ). max (x * y) (x * z)) (let q : suc a ≡ 1 = omega arith in q) (let q : b ≡ 0 = omega arith in q) ∙ omega arith
     ∙ ap (λ (y : ℕ). x * y) (let q : 1 ≡ c = omega arith in q)
 
-pub reach-more : (rows : List ℕ) (edge : Edge) (j : ℕ) (rs₀ rs rs₁ : List ℕ) {a b : ℕ} → EdgeReached rows edge (64 * j) rs₀ rs
-    → a ≡ getD rows (edge .a * 8 + j) 0 → b ≡ getD rows (edge .b * 8 + j) 0 → RaisedTo rs (64 * j) (bitAnd a b) (edge .entry) rs₁ → EdgeReached rows edge (64 * (j + 1)) rs₀ rs₁
+pub reach-more : (rows : List ℕ) (edge : Edge) (j : ℕ) (rs₀ rs rs₁ : List ℕ) {a b : ℕ} → EdgeRaised rows edge (64 * j) rs₀ rs
+    → a ≡ getD rows (edge .a * 8 + j) 0 → b ≡ getD rows (edge .b * 8 + j) 0 → RaisedTo rs (64 * j) (bitAnd a b) (edge .reach) rs₁ → EdgeRaised rows edge (64 * (j + 1)) rs₀ rs₁
 unfolding joinedIn
 reach-more rows edge j rs₀ rs rs₁ c d e held =
     let u : ℕ = edge .a in
     let v : ℕ = edge .b in
     let word : ℕ = bitAnd (getD rows (u * 8 + j) 0) (getD rows (v * 8 + j) 0) in
-    let p : RaisedTo rs (64 * j) word (edge .entry) rs₁ = subst₂ (λ (x y : ℕ). RaisedTo rs (64 * j) (bitAnd x y) (edge .entry) rs₁) d e held in
+    let p : RaisedTo rs (64 * j) word (edge .reach) rs₁ = subst₂ (λ (x y : ℕ). RaisedTo rs (64 * j) (bitAnd x y) (edge .reach) rs₁) d e held in
     let test : ℕ → Bool = λ k. inGroup rows u k && inGroup rows v k in
-    let more : (k : ℕ) → max (edge .entry * bit (ltb (64 * (k / 64)) (64 * j) && test k)) (edge .entry * bitFor (64 * j) word k) ≡ edge .entry * bit (ltb (64 * (k / 64)) (64 * (j + 1)) && test k) =
-    λ k. max-bits (edge .entry) (bit (ltb (64 * (k / 64)) (64 * j) && test k)) (bitFor (64 * j) word k) (bit (ltb (64 * (k / 64)) (64 * (j + 1)) && test k))
+    let more : (k : ℕ) → max (edge .reach * bit (ltb (64 * (k / 64)) (64 * j) && test k)) (edge .reach * bitFor (64 * j) word k) ≡ edge .reach * bit (ltb (64 * (k / 64)) (64 * (j + 1)) && test k) =
+    λ k. max-bits (edge .reach) (bit (ltb (64 * (k / 64)) (64 * j) && test k)) (bitFor (64 * j) word k) (bit (ltb (64 * (k / 64)) (64 * (j + 1)) && test k))
     (word-more test j word k (joined-bit rows u v j)) (bit-le (ltb (64 * (k / 64)) (64 * (j + 1)) && test k)) in
     record { size = p .size ∙ c .size; entries = λ k l. omega (arith, p .entries k, c .entries k l, more k) }
 
 pub reach-done : (rows : List ℕ) (edge : Edge) (j groups : ℕ) (rs₀ rs : List ℕ) → groups ≤ 64 * j → 64 * j < groups + 64
-    → EdgeReached rows edge (64 * j) rs₀ rs → EdgeReached rows edge groups rs₀ rs
+    → EdgeRaised rows edge (64 * j) rs₀ rs → EdgeRaised rows edge groups rs₀ rs
 unfolding joinedIn
 reach-done rows edge j groups rs₀ rs h l c = record { size = c .size; entries = λ k q. rw (← words-all j groups k h l) (c .entries k q) }
 
 -- ---- all edges
 
 -- what an edge makes of the reach of group k
-abbrev part-of : List ℕ → List ℕ → List ℕ → ℕ → ℕ → ℕ → ℕ → Proximity
-part-of rows handsets part limit groups k e = cond (joinedIn rows groups (endA part e) (endB part e) k) (edgeProximity handsets part limit e) NotNear
+abbrev share-of : List ℕ → List ℕ → List ℕ → ℕ → ℕ → ℕ → ℕ → Proximity
+share-of rows handsets part limit groups k e = cond (joinedIn rows groups (endA part e) (endB part e) k) (endsProximity handsets (endA part e) (endB part e) limit) NotNear
 
-pub reaches-none : (rows handsets part : List ℕ) (limit groups : ℕ) → EdgesReached rows handsets part 0 limit groups (replicate 512 0)
+pub reaches-none : (rows handsets part : List ℕ) (limit groups : ℕ) → EdgesRaised rows handsets part 0 limit groups (replicate 512 0)
 reaches-none rows handsets part limit groups = record {
   size = length-replicate {A = ℕ} 512 0;
-  entries = λ k h. getD-replicate 512 k 0 0 (omega arith) ∙ sym (ap reachEntry (farthest-none (part-of rows handsets part limit groups k)));
+  entries = λ k h. getD-replicate 512 k 0 0 (omega arith) ∙ sym (ap reachEntry (farthest-none (share-of rows handsets part limit groups k)));
 }
 
-pub reaches-more : (rows handsets part : List ℕ) (e limit groups : ℕ) (rs rs′ : List ℕ) {edge : Edge} → EdgesReached rows handsets part e limit groups rs
-    → edge ≡ edgeOf handsets part limit e → EdgeReached rows edge groups rs rs′ → EdgesReached rows handsets part (e + 1) limit groups rs′
+pub reaches-more : (rows handsets part : List ℕ) (e limit groups : ℕ) (rs rs′ : List ℕ) {edge : Edge} → EdgesRaised rows handsets part e limit groups rs
+    → edge ≡ edgeOf handsets part limit e → EdgeRaised rows edge groups rs rs′ → EdgesRaised rows handsets part (e + 1) limit groups rs′
 reaches-more rows handsets part e limit groups rs rs′ c q held =
-    let d : EdgeReached rows (edgeOf handsets part limit e) groups rs rs′ = subst (λ (x : Edge). EdgeReached rows x groups rs rs′) q held in
+    let d : EdgeRaised rows (edgeOf handsets part limit e) groups rs rs′ = subst (λ (x : Edge). EdgeRaised rows x groups rs rs′) q held in
     record {
       size = d .size;
       entries = λ k h.
-          let f : ℕ → Proximity = part-of rows handsets part limit groups k in
+          let f : ℕ → Proximity = share-of rows handsets part limit groups k in
           d .entries k h
-          ∙ ap₂ max (c .entries k h) (sym (entry-part (joinedIn rows groups (endA part e) (endB part e) k) (edgeProximity handsets part limit e)))
+          ∙ ap₂ max (c .entries k h) (sym (entry-share (joinedIn rows groups (endA part e) (endB part e) k) (endsProximity handsets (endA part e) (endB part e) limit)))
           ∙ sym (ap reachEntry (farthest-more e f) ∙ entry-farther (farthest e f) (f e));
     }
 
 -- by the rows of the first groups, 512 at most
-pub groups-reached : (rows handsets part starts members : List ℕ) (groups first : ℕ) → length rows ≡ 4096 → first ≡ min groups 512
+pub groups-reach : (rows handsets part starts members : List ℕ) (groups first : ℕ) → length rows ≡ 4096 → first ≡ min groups 512
     → Table rows (λ v k. ltb k first && contains v (membersOf starts members k))
-    → {m most limit : ℕ} (rs : List ℕ) → m ≡ edgesIn part → most ≡ min limit limitSquaredMost → EdgesReached rows handsets part m most first rs
+    → {m most limit : ℕ} (rs : List ℕ) → m ≡ edgesIn part → most ≡ min limit limitSquaredMost → EdgesRaised rows handsets part m most first rs
     → GroupsReach handsets part limit starts members groups rs
-groups-reached rows handsets part starts members groups first size few table {m} {most} {limit} rs e le c = record {
+groups-reach rows handsets part starts members groups first size few table {m} {most} {limit} rs e le c = record {
   size = c .size;
   reaches = λ k h.
       c .entries k h
-      ∙ ap reachEntry (farthest-cong m (part-of rows handsets part most first k) _
-      (λ i l. ap₂ (λ (b : Bool) (x : ℕ). cond b (edgeProximity handsets part x i) NotNear) (joined-is rows part starts members groups first size few table (endA part i) (endB part i) k h) le)
-      ∙ ap (λ (n : ℕ). farthest n (λ i. cond (isInside part starts members groups k i) (edgeProximity handsets part (min limit limitSquaredMost) i) NotNear)) e);
+      ∙ ap reachEntry (farthest-cong m (share-of rows handsets part most first k) _
+      (λ i l. ap₂ (λ (b : Bool) (x : ℕ). cond b (endsProximity handsets (endA part i) (endB part i) x) NotNear) (joined-is rows part starts members groups first size few table (endA part i) (endB part i) k h) le)
+      ∙ ap (λ (n : ℕ). farthest n (λ i. cond (isInside part starts members groups k i) (endsProximity handsets (endA part i) (endB part i) (min limit limitSquaredMost)) NotNear)) e);
 }

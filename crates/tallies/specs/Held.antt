@@ -8,10 +8,10 @@
 --     CountsBelow ts                 a table of 1,024 numbers, none above 4,096: one more edge makes none too large
 --     EdgeCounted ..                 a table with one edge added, for the groups of the rows' words that begin below a bound
 --     EdgesCounted ..                the counts over the first m edges, for those groups
---     RaisedTo rs base w x ..        a table whose number at base + k, for each set bit k of the word w, is no less than x
+--     RaisedTo rs base w x ..        a table whose number at base + k, for each set bit k of the word w, is raised to x where it was less
 --     edgeOf ..                      edge k of a part, with what the near test of its ends makes of a reach
---     EdgeReached ..                 a table of reaches with one edge added, for those groups
---     EdgesReached ..                the reaches over the first m edges, for those groups
+--     EdgeRaised ..                  a table of reaches that one edge has raised, for those groups
+--     EdgesRaised ..                 the reaches over the first m edges, for those groups
 use Prim.Native.Nat.{ℕ, _+_, _*_, _-_, _/_, _≤_, _<_, max}
 use mathlib.Core.Path.{_≡_}
 use mathlib.Core.Bool.{Bool, _&&_, _||_, cond}
@@ -21,12 +21,11 @@ use lib.ListN.{length, getD}
 use Rattle.sets.specs.Below.{bit, count}
 use Rattle.sets.specs.Bits.{bitOf, cell}
 use Rattle.image.specs.Image.{endA, endB}
-use Rattle.image.specs.Near.{edgeProximity}
 use Rattle.image.specs.declared.Proximity.the-variants.{NotNear}
 use Rattle.community.specs.Network.{contains}
 use Rattle.community.specs.Scores.{justOne}
 use Rattle.community.specs.Reach.{farthest}
-use Rattle.tallies.specs.Tallies.{reachEntry}
+use Rattle.tallies.specs.Tallies.{endsProximity, reachEntry}
 use Rattle.tallies.specs.declared.Edge.{Edge}
 
 -- whether handset v is in group k, by its row
@@ -71,13 +70,14 @@ pub record RaisedTo (rs : List ℕ) (base w x : ℕ) (rs′ : List ℕ) : Type 0
   pub entries : (i : ℕ) → getD rs′ i 0 ≡ max (getD rs i 0) (x * bitFor base w i)
 
 abbrev pub edgeOf : List ℕ → List ℕ → ℕ → ℕ → Edge
-edgeOf handsets part limit k = record { a = endA part k; b = endB part k; entry = reachEntry (edgeProximity handsets part limit k) }
+edgeOf handsets part limit k = record { a = endA part k; b = endB part k; reach = reachEntry (endsProximity handsets (endA part k) (endB part k) limit) }
 
-pub record EdgeReached (rows : List ℕ) (edge : Edge) (groups : ℕ) (rs rs′ : List ℕ) : Type 0 where
+pub record EdgeRaised (rows : List ℕ) (edge : Edge) (groups : ℕ) (rs rs′ : List ℕ) : Type 0 where
   pub size : length rs′ ≡ 512
-  pub entries : (k : ℕ) → k < 512 → getD rs′ k 0 ≡ max (getD rs k 0) (edge .entry * bit (joinedIn rows groups (edge .a) (edge .b) k))
+  pub entries : (k : ℕ) → k < 512 → getD rs′ k 0 ≡ max (getD rs k 0) (edge .reach * bit (joinedIn rows groups (edge .a) (edge .b) k))
 
-pub record EdgesReached (rows handsets part : List ℕ) (m limit groups : ℕ) (rs : List ℕ) : Type 0 where
+pub record EdgesRaised (rows handsets part : List ℕ) (m limit groups : ℕ) (rs : List ℕ) : Type 0 where
   pub size : length rs ≡ 512
   pub entries : (k : ℕ) → k < 512
-      → getD rs k 0 ≡ reachEntry (farthest m (λ e. cond (joinedIn rows groups (endA part e) (endB part e) k) (edgeProximity handsets part limit e) NotNear))
+      → getD rs k 0
+      ≡ reachEntry (farthest m (λ e. cond (joinedIn rows groups (endA part e) (endB part e) k) (endsProximity handsets (endA part e) (endB part e) limit) NotNear))

@@ -1,10 +1,12 @@
 -- The edges inside each group of a plan, those that leave it, and its reach. Where no group lists a handset twice and no edge is repeated, as in the plan of
--- an accepted image, these are the paper's t and o of each group (paper 01, "Scores, lookup, report"; paper 02, order 6): the report stands on that.
+-- an accepted image, these are the paper's t, o and reach of each group (paper 01, "Scores, lookup, report"; paper 02, order 6): the report stands on that.
 --
 --     edgesIn part                     how many edge records of a part are counted: those that stand in it, 4,096 at most
 --     isMember starts members g k v    handset v, below 512, is a member of group k, one of the first g of the plan's two tables
 --     isInside ..                      both ends of edge e are members of group k
 --     GroupsCounted ..                 a table of both counts of each group k below 512: at k the edges with both ends in it, at 512 + k those with just one
+--     handsetsIn part                  how many handset records stand in a part
+--     endsProximity part u v limit     the near test of two handsets by the handset records of a part; not near where a record does not stand there
 --     reachEntry r                     what a table holds of a reach: one more than its squared distance, and 0 for none
 --     GroupsReach ..                   a table of the reach of each group k below 512; a limit above the most that G may be counts as that
 use Prim.Native.Nat.{ℕ, suc, _+_, _/_, _<_, min}
@@ -14,9 +16,9 @@ use mathlib.Core.List.{List}
 use lib.Dec.{ltb}
 use lib.ListN.{length, getD}
 use Rattle.sets.specs.Below.{count}
-use Rattle.fields.specs.Fields.{edgeBytes, limitSquaredMost}
-use Rattle.image.specs.Image.{endA, endB}
-use Rattle.image.specs.Near.{edgeProximity}
+use Rattle.fields.specs.Fields.{handsetBytes, edgeBytes, limitSquaredMost}
+use Rattle.image.specs.Image.{handsetRecord, endA, endB}
+use Rattle.image.specs.Near.{proximityOf}
 use Rattle.image.specs.declared.Proximity.{Proximity}
 use Rattle.image.specs.declared.Proximity.the-variants.{Near, NotNear}
 use Rattle.community.specs.Network.{contains}
@@ -41,6 +43,13 @@ pub record GroupsCounted (part starts members : List ℕ) (groups : ℕ) (ts : L
   pub leaving : (k : ℕ) → k < 512
       → getD ts (512 + k) 0 ≡ count (edgesIn part) (λ e. justOne (isMember starts members groups k (endA part e)) (isMember starts members groups k (endB part e)))
 
+abbrev pub handsetsIn : List ℕ → ℕ
+handsetsIn part = length part / handsetBytes
+
+unfoldable pub endsProximity : List ℕ → ℕ → ℕ → ℕ → Proximity
+endsProximity part u v limit =
+    cond (ltb u (handsetsIn part) && ltb v (handsetsIn part)) (proximityOf (handsetRecord part u) (handsetRecord part v) limit) NotNear
+
 abbrev pub reachEntry : Proximity → ℕ
 reachEntry (Near d) = suc d
 reachEntry NotNear = 0
@@ -50,4 +59,4 @@ pub record GroupsReach (handsets part : List ℕ) (limit : ℕ) (starts members 
   pub size : length rs ≡ 512
   pub reaches : (k : ℕ) → k < 512
       → getD rs k 0
-      ≡ reachEntry (farthest (edgesIn part) (λ e. cond (isInside part starts members groups k e) (edgeProximity handsets part (min limit limitSquaredMost) e) NotNear))
+      ≡ reachEntry (farthest (edgesIn part) (λ e. cond (isInside part starts members groups k e) (endsProximity handsets (endA part e) (endB part e) (min limit limitSquaredMost)) NotNear))

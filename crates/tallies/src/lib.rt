@@ -13,16 +13,15 @@ ghost use Rattle.community.specs.Network.{contains};
 ghost use Rattle.sets.specs.Rows.{Table};
 ghost use Rattle.fields.specs.Fields.{edgeBytes, limitSquaredMost};
 ghost use Rattle.lookup.specs.Lookup.{membersOf};
-ghost use Rattle.tallies.specs.Tallies.{GroupsCounted, GroupsReach};
-ghost use Rattle.tallies.specs.Held.{GroupAdded, Raised, CountsBelow, EdgeCounted, EdgesCounted, RaisedTo, edgeOf, EdgeReached, EdgesReached};
+ghost use Rattle.tallies.specs.Tallies.{endsProximity, GroupsCounted, GroupsReach};
+ghost use Rattle.tallies.specs.Held.{GroupAdded, Raised, CountsBelow, EdgeCounted, EdgesCounted, RaisedTo, edgeOf, EdgeRaised, EdgesRaised};
 use image::Proximity;
 
-// An edge: its two ends, and what it makes of the reach of a group that it is inside, which is one more than its squared distance, or 0 where its ends are
-// not near.
+// An edge: its two ends, and what a table of reaches holds of it, which is one more than its squared distance, or 0 where its ends are not near.
 struct Edge {
     a: usize,
     b: usize,
-    entry: u64,
+    reach: u64,
 }
 
 // Adds group k to the rows of the handsets in the list.
@@ -78,16 +77,16 @@ fn larger(a: u64, b: u64) -> u64
     if a < b { b } else { a }
 }
 
-// Makes each number at base + k, for a set bit k of the word, no less than the entry, and leaves the other places alone.
-fn raise_bits(word: u64, base: usize, entry: u64, reaches: &mut [u64])
+// Raises each number at base + k, for a set bit k of the word, to the reach where it is less, and leaves the other places alone.
+fn raise_bits(word: u64, base: usize, reach: u64, reaches: &mut [u64])
     requires { ⌜ base + 64 ≤ length (now reaches) ⌝ }
-    ensures { λ _. ⌜ RaisedTo (now (reaches .entry)) base word entry (now (reaches .exit)) ⌝ }
+    ensures { λ _. ⌜ RaisedTo (now (reaches .entry)) base word reach (now (reaches .exit)) ⌝ }
 {
     let mut w = word;
     while w != 0 {
         let k = u64::trailing_zeros(w);
         let i = base + k as usize;
-        reaches[i] = larger(reaches[i], entry);
+        reaches[i] = larger(reaches[i], reach);
         w = w & (w - 1);
     }
 }
@@ -96,7 +95,7 @@ fn raise_bits(word: u64, base: usize, entry: u64, reaches: &mut [u64])
 fn count_edge(rows: &[u64], edge: Edge, groups: usize, tallies: &mut [u32], reaches: &mut [u64])
     requires { ⌜ (length (now rows) ≡ 4096) × ((groups ≤ 512) × (CountsBelow (now tallies) × (length (now reaches) ≡ 512))) ⌝ }
     ensures counted { λ _. ⌜ EdgeCounted (now (rows .entry)) (edge .a) (edge .b) groups (now (tallies .entry)) (now (tallies .exit)) ⌝ }
-    ensures reached { λ _. ⌜ EdgeReached (now (rows .entry)) edge groups (now (reaches .entry)) (now (reaches .exit)) ⌝ }
+    ensures raised { λ _. ⌜ EdgeRaised (now (rows .entry)) edge groups (now (reaches .entry)) (now (reaches .exit)) ⌝ }
 {
     let mut j: usize = 0;
     while 64 * j < groups {
@@ -104,9 +103,24 @@ fn count_edge(rows: &[u64], edge: Edge, groups: usize, tallies: &mut [u32], reac
         let b = row_word(rows, edge.b, j);
         add_bits(a & b, 64 * j, tallies);
         add_bits(a ^ b, 512 + 64 * j, tallies);
-        raise_bits(a & b, 64 * j, edge.entry, reaches);
+        raise_bits(a & b, 64 * j, edge.reach, reaches);
         j += 1;
     }
+}
+
+// The near test of two handsets, by the handset records of the part; not near where a record does not stand there.
+fn test_ends(handsets: &[u8], u: usize, v: usize, limit: u64) -> Proximity
+    ensures { λ r. ⌜ r ≡ endsProximity (now (handsets .entry)) u v limit ⌝ }
+{
+    let n = handsets.len() / fields::HANDSET_BYTES;
+    if (u < n) & (v < n) {
+        let a = fields::HANDSET_BYTES * u;
+        let a_past = a + fields::HANDSET_BYTES;
+        let b = fields::HANDSET_BYTES * v;
+        let b_past = b + fields::HANDSET_BYTES;
+        return image::proximity_of(&handsets[a..a_past], &handsets[b..b_past], limit);
+    }
+    Proximity::NotNear
 }
 
 // Edge k, whose record stands in the part, with the near test of its ends.
@@ -117,15 +131,15 @@ fn read_edge<'a>(handsets: &'a [u8], edges: &'a [u8], k: usize, limit: u64) -> E
     let at = fields::EDGE_BYTES * k;
     let past = at + fields::EDGE_BYTES;
     let ends = fields::read_ends(&edges[at..past]);
-    let tested = image::proximity_of(handsets, ends.a as u16, ends.b as u16, limit);
-    let entry = match tested {
+    let tested = test_ends(handsets, ends.a, ends.b, limit);
+    let reach = match tested {
         Proximity::Near(d) => d + 1,
         Proximity::NotNear => 0,
     };
     Edge {
         a: ends.a,
         b: ends.b,
-        entry,
+        reach,
     }
 }
 
@@ -142,7 +156,7 @@ fn count_edges<'a>(
 )
     requires { ⌜ (length (now rows) ≡ 4096) × ((groups ≤ 512) × ((m ≤ 4096) × ((edgeBytes * m ≤ length (now edges)) × ((limit ≤ limitSquaredMost) × ((now tallies ≡ replicate 1024 0) × (now reaches ≡ replicate 512 0)))))) ⌝ }
     ensures counted { λ _. ⌜ EdgesCounted (now (rows .entry)) (now (edges .entry)) m groups (now (tallies .exit)) ⌝ }
-    ensures reached { λ _. ⌜ EdgesReached (now (rows .entry)) (now (handsets .entry)) (now (edges .entry)) m limit groups (now (reaches .exit)) ⌝ }
+    ensures raised { λ _. ⌜ EdgesRaised (now (rows .entry)) (now (handsets .entry)) (now (edges .entry)) m limit groups (now (reaches .exit)) ⌝ }
 {
     let mut k: usize = 0;
     while k < m {
@@ -166,7 +180,7 @@ pub fn count_groups<'a>(
     reaches: &mut [u64; 512],
 )
     ensures counted { λ _. ⌜ GroupsCounted (now (edges .entry)) (now (starts .entry)) (now (members .entry)) groups (now (tallies .exit)) ⌝ }
-    ensures reached { λ _. ⌜ GroupsReach (now (handsets .entry)) (now (edges .entry)) limit (now (starts .entry)) (now (members .entry)) groups (now (reaches .exit)) ⌝ }
+    ensures raised { λ _. ⌜ GroupsReach (now (handsets .entry)) (now (edges .entry)) limit (now (starts .entry)) (now (members .entry)) groups (now (reaches .exit)) ⌝ }
 {
     let m = sets::smaller(edges.len() / fields::EDGE_BYTES, 4096);
     let first = sets::smaller(groups, 512);

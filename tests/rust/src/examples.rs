@@ -19,8 +19,8 @@ pub fn examples() -> Vec<(&'static str, Vec<u8>)> {
         ("report_empty", sites::untied(0, 3).plain_image()),
         // A border in five groups, and an outlier.
         ("report_hub", sites::hub().plain_image()),
-        // A group whose reach is exactly G.
-        ("report_limit", sites::at_limit().plain_image()),
+        // A group whose reach is exactly G, and one whose longest tie joins two that are not alike.
+        ("report_limit", sites::two_reaches().plain_image()),
         // Site S whose tie 5 repeats tie 3 the other way round: refused 10 5.
         ("report_refused", refused.plain_image()),
         // Site S with mu 3 written out.

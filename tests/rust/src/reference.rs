@@ -695,6 +695,7 @@ cores 2 borders 5 outliers 0 multiple 1
         assert_eq!(reaches(&sites::beyond()), [Some(1625)]);
         assert_eq!(reaches(&sites::paired_borders()), [Some(50), Some(50)]);
         assert_eq!(reaches(&sites::unlike_members()), [Some(100)]);
+        assert_eq!(reaches(&sites::two_reaches()), [Some(2500), Some(100)]);
         // Two handsets, tied, with mu 1: a group while they are near, and else a group each.
         let two = |gamma_squared| {
             let positions = vec![(0, 0), (1, 2)];

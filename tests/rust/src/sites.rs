@@ -352,6 +352,19 @@ pub fn unlike_members() -> Site {
     }
 }
 
+/// The groups of `at_limit` and of `unlike_members` on one site, each with a reach of its own: exactly G, and that
+/// of a tie between two that are not alike.
+pub fn two_reaches() -> Site {
+    let (first, second) = (at_limit(), unlike_members());
+    let past = first.positions.len() as u16;
+    let ties = second.ties.iter().map(|&(u, v)| (u + past, v + past));
+    Site {
+        ties: first.ties.iter().copied().chain(ties).collect(),
+        positions: [&first.positions[..], &second.positions].concat(),
+        ..first
+    }
+}
+
 /// A handset at each corner of the area, each two of them tied, and the largest gamma, which is the diagonal.
 pub fn corners() -> Site {
     let far = MOST_COORDINATE;
@@ -378,6 +391,7 @@ pub fn reaching() -> Vec<Site> {
         beyond(),
         paired_borders(),
         unlike_members(),
+        two_reaches(),
         corners(),
         corner(MOST_GAMMA_SQUARED - 1),
         stretched_borders(),

@@ -12,11 +12,10 @@ use borrow.Author.Needs.{needs}
 use Rattle.sets.specs.Below.{sum}
 use Rattle.sets.proofs.Tests.{T-true, T-ext, and-make, and-left, and-right}
 use Rattle.fields.specs.Fields.{coordinateCount, gap}
-use Rattle.image.specs.Image.{handsetRecord, coordinateOf, gapSquared, distanceBetween}
+use Rattle.image.specs.Image.{coordinateOf, gapSquared, distanceBetween}
 use Rattle.image.specs.Near.{proximityOf}
 use Rattle.image.specs.Answers.{proximityAnswer}
 use Rattle.image.specs.declared.Proximity.the-variants.{Near, NotNear}
-use Rattle.image.proofs.Records.{coordinate-at}
 use Rattle.image.proofs.proximity_of.Statement.{statement}
 use Rattle.image.proofs.proximity_of.Tie as tie
 
@@ -50,49 +49,24 @@ unfolding proximityOf
 left-far a b limit room fits l e = ap (λ (t : Bool). cond t (Near (distanceBetween a b)) NotNear) (sym e ∙ l .answer)
 
 abbrev Inv-loop : tie.InvT-loop
-Inv-loop handsets u v limit from to fits₀ room₀ i₀ fits room i =
-    (i ≤ coordinateCount) × Left (sum i (gapSquared (coordinateOf (handsetRecord handsets u)) (coordinateOf (handsetRecord handsets v)))) limit fits room
+Inv-loop a b limit fits₀ room₀ i₀ fits room i = (i ≤ coordinateCount) × Left (sum i (gapSquared (coordinateOf a) (coordinateOf b))) limit fits room
 
 abbrev μ-loop : tie.MeasureT-loop
-μ-loop handsets u v limit from to fits₀ room₀ i₀ fits room i = coordinateCount - i
+μ-loop a b limit fits₀ room₀ i₀ fits room i = coordinateCount - i
 
--- the places that the answers speak of
+-- the places that the answers speak of, and the squares that are summed
 abbrev start : tie.At-loop Inv-loop μ-loop → tie.Start Inv-loop μ-loop
-start c = c .before .before
+start c = c .before .before .before
+
+abbrev squares : tie.At-loop Inv-loop μ-loop → ℕ → ℕ
+squares c = let s = start c .args in gapSquared (coordinateOf (s .a .now)) (coordinateOf (s .b .now))
 
 abbrev loop : tie.After-squared-gap Inv-loop μ-loop → tie.At-loop Inv-loop μ-loop
 loop c = c .before .before .before .before
 
--- the record of a handset, where the loop stands
-abbrev record-of : tie.At-loop Inv-loop μ-loop → ℕ → List ℕ
-record-of c v = handsetRecord (start c .args .handsets .now) v
-
-square-is : (c : tie.After-squared-gap Inv-loop μ-loop)
-    → (let l = loop c in let a = start l .args in c .squared-gap .result ≡ gapSquared (coordinateOf (record-of l (a .u))) (coordinateOf (record-of l (a .v))) (l .loop .i))
-square-is c =
-    let l = loop c in
-    let a = start l .args in
-    let turn : l .loop .i < coordinateCount = omega (arith, c .before .before .before .loop-test .taken) in
-    c .squared-gap .ensures
-    ∙ ap₂ (λ (x y : ℕ). gap x y * gap x y)
-    (c .before .before .coordinate .ensures ∙ coordinate-at (a .handsets .now) (a .u) (l .loop .i) turn)
-    (c .before .coordinate2 .ensures ∙ coordinate-at (a .handsets .now) (a .v) (l .loop .i) turn)
-
--- after the loop the sum is the squared distance
-told : (c : tie.After-loop Inv-loop μ-loop)
-    → (let l = c .before in let a = start l .args in Left (distanceBetween (record-of l (a .u)) (record-of l (a .v))) (a .limit) (l .loop .fits) (l .loop .room))
-unfolding distanceBetween
-told c =
-    let l = c .before in
-    let a = start l .args in
-    let e : l .loop .i ≡ coordinateCount = omega (arith, l .loop .inv .0, c .loop-test .left) in
-    subst (λ (n : ℕ). Left (sum n (gapSquared (coordinateOf (record-of l (a .u))) (coordinateOf (record-of l (a .v))))) (a .limit) (l .loop .fits) (l .loop .room)) e (l .loop .inv .1)
-
-mul-from : tie.Need-mul-from Inv-loop μ-loop
-mul-from c = search needs
-
-mul-to : tie.Need-mul-to Inv-loop μ-loop
-mul-to c = search needs
+square-is : (c : tie.After-squared-gap Inv-loop μ-loop) → c .squared-gap .result ≡ squares (loop c) (loop c .loop .i)
+unfolding coordinateOf
+square-is c = c .squared-gap .ensures ∙ ap₂ (λ (x y : ℕ). gap x y * gap x y) (c .before .before .coordinate .ensures) (c .before .coordinate2 .ensures)
 
 loop-holds : tie.Need-loop-holds Inv-loop μ-loop
 unfolding sum
@@ -101,14 +75,8 @@ loop-holds c = (omega arith, left-none _)
 mul-at : tie.Need-mul-at Inv-loop μ-loop
 mul-at c = search needs
 
-add-coordinate : tie.Need-add-coordinate Inv-loop μ-loop
-add-coordinate c = search needs
-
 coordinate-requires : tie.Need-coordinate-requires Inv-loop μ-loop
 coordinate-requires c κs = search needs
-
-add-coordinate-2 : tie.Need-add-coordinate-2 Inv-loop μ-loop
-add-coordinate-2 c = search needs
 
 coordinate-requires-2 : tie.Need-coordinate-requires-2 Inv-loop μ-loop
 coordinate-requires-2 c κs = search needs
@@ -132,8 +100,17 @@ loop-again c =
     let l = loop g .loop in
     (omega arith, rw (add-one (l .i)) (left-more _ _ (l .room) _ _ _ (l .fits) (l .inv .1) (square-is g) (g .squared-gap .ok) (c .wrapping-sub-u64 .ok) (c .wrapping-sub-u64 .ensures)))
 
-sub-t20 : tie.Need-sub-t20 Inv-loop μ-loop
-sub-t20 c = omega (arith, told (c .before) .rest (subst T (sym (c .if1 .taken)) tt))
+-- after the loop the sum is the squared distance
+told : (c : tie.After-loop Inv-loop μ-loop)
+    → (let l = c .before in let a = start l .args in Left (distanceBetween (a .a .now) (a .b .now)) (a .limit) (l .loop .fits) (l .loop .room))
+unfolding distanceBetween
+told c =
+    let l = c .before in
+    let e : l .loop .i ≡ coordinateCount = omega (arith, l .loop .inv .0, c .loop-test .left) in
+    subst (λ (n : ℕ). Left (sum n (squares l)) (start l .args .limit) (l .loop .fits) (l .loop .room)) e (l .loop .inv .1)
+
+sub-t15 : tie.Need-sub-t15 Inv-loop μ-loop
+sub-t15 c = omega (arith, told (c .before) .rest (subst T (sym (c .if1 .taken)) tt))
 
 returns : tie.Need-returns Inv-loop μ-loop
 returns c = ap proximityAnswer (left-near _ _ _ _ _ (told (c .before)) (c .if1 .taken))
@@ -147,19 +124,15 @@ proximity-of-spec =
     (tie.spec
     Inv-loop
     μ-loop
-    mul-from
-    mul-to
     loop-holds
     mul-at
-    add-coordinate
     coordinate-requires
-    add-coordinate-2
     coordinate-requires-2
     squared-gap-requires
     wrapping-sub-u64-requires
     add-i
     loop-less
     loop-again
-    sub-t20
+    sub-t15
     returns
     returns-2)

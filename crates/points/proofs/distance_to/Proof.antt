@@ -1,16 +1,17 @@
 -- `points::distance_to` meets its contract. At i the total is the sum of the first i squares, as 64 bits hold it. The measure is what is left of the
 -- coordinates.
-use Prim.Native.Nat.{ℕ, _+_, _*_, _-_, _%_, _^_, _≤_}
+use Prim.Native.Nat.{ℕ, _+_, _*_, _-_, _%_, _^_, _≤_, _<_}
 use native.Mathlib.Omega.{arith}
 use native.Mathlib.Numerals.{add-one}
-use mathlib.Core.Path.{_≡_, refl, ap, _∙_}
+use mathlib.Core.Path.{_≡_, refl, sym, ap, _∙_}
 use mathlib.Core.List.{List}
 use lib.ListN.{getD}
 use borrow.Author.Needs.{needs}
 use Rattle.sets.specs.Below.{sum}
-use Rattle.fields.specs.Fields.{coordinateCount, gap}
+use Rattle.bytes.specs.Bytes.{number}
+use Rattle.fields.specs.Fields.{coordinateBytes, coordinateCount, handsetBytes, shifted, gap}
+use Rattle.bytes.proofs.Bytes.{number-part}
 use Rattle.image.specs.Image.{handsetRecord, coordinateOf, gapSquared}
-use Rattle.image.proofs.Records.{coordinate-at}
 use Rattle.points.specs.Points.{distanceFrom}
 use Rattle.points.proofs.distance_to.Statement.{statement}
 use Rattle.points.proofs.distance_to.Tie as tie
@@ -18,6 +19,12 @@ use Rattle.points.proofs.distance_to.Tie as tie
 -- the squares that are summed
 abbrev squares : List ℕ → List ℕ → ℕ → ℕ → ℕ
 squares point handsets v = gapSquared (λ i. getD point i 0) (coordinateOf (handsetRecord handsets v))
+
+-- a coordinate read from the records is that of the handset's record
+coordinate-at : (part : List ℕ) (v i : ℕ) → i < coordinateCount → shifted (number coordinateBytes part (handsetBytes * v + coordinateBytes * i)) ≡ coordinateOf (handsetRecord part v) i
+unfolding coordinateOf handsetRecord
+coordinate-at part v i h =
+    ap shifted (sym (number-part coordinateBytes part (handsetBytes * v) handsetBytes (coordinateBytes * i) (omega arith) (omega arith)))
 
 -- one square more
 wrap-more : (total r d x y : ℕ) → total ≡ x % 2 ^ 64 → d ≡ y → r ≡ (total + d) % 2 ^ 64 → r ≡ (y + x) % 2 ^ 64

@@ -5,7 +5,7 @@ use Prim.Native.Nat.{ℕ, _+_, _*_, _-_, _≤_, _<_}
 use mathlib.Core.Path.{sym, _∙_}
 use denote.Ref.{now}
 use lib.ListN.{getD}
-use Rattle.tallies.specs.Held.{EdgeCounted, EdgeReached}
+use Rattle.tallies.specs.Held.{EdgeCounted, EdgeRaised}
 use Rattle.tallies.proofs.Tallying.{raised-le, edge-none, edge-more, edge-done, edge-room}
 use Rattle.tallies.proofs.Reaching.{reach-none, reach-more, reach-done}
 use borrow.Author.Needs.{needs}
@@ -14,7 +14,7 @@ use Rattle.tallies.proofs.count_edge.Tie as tie
 
 abbrev Inv-loop : tie.InvT-loop
 Inv-loop rows edge groups tallies₀ reaches₀ j₀ tallies reaches j =
-    (64 * j < groups + 64) × EdgeCounted rows (edge .a) (edge .b) (64 * j) tallies₀ tallies × EdgeReached rows edge (64 * j) reaches₀ reaches
+    (64 * j < groups + 64) × EdgeCounted rows (edge .a) (edge .b) (64 * j) tallies₀ tallies × EdgeRaised rows edge (64 * j) reaches₀ reaches
 
 abbrev μ-loop : tie.MeasureT-loop
 μ-loop rows edge groups tallies₀ reaches₀ j₀ tallies reaches j = groups - 64 * j

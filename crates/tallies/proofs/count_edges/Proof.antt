@@ -5,7 +5,7 @@ use Prim.Native.Nat.{ℕ, _-_, _≤_}
 use mathlib.Core.Path.{_≡_, sym, ap, _∙_, subst}
 use denote.Ref.{now}
 use lib.ListN.{length, length-replicate}
-use Rattle.tallies.specs.Held.{EdgesCounted, EdgesReached}
+use Rattle.tallies.specs.Held.{EdgesCounted, EdgesRaised}
 use Rattle.tallies.specs.declared.Edge.{Edge}
 use Rattle.tallies.proofs.Tallying.{edges-none, edges-more, edges-room}
 use Rattle.tallies.proofs.Reaching.{reaches-none, reaches-more}
@@ -15,7 +15,7 @@ use Rattle.tallies.proofs.count_edges.Tie as tie
 
 abbrev Inv-loop : tie.InvT-loop
 Inv-loop rows handsets edges m limit groups tallies₀ reaches₀ k₀ tallies reaches k =
-    (k ≤ m) × EdgesCounted rows edges k groups tallies × EdgesReached rows handsets edges k limit groups reaches
+    (k ≤ m) × EdgesCounted rows edges k groups tallies × EdgesRaised rows handsets edges k limit groups reaches
 
 abbrev μ-loop : tie.MeasureT-loop
 μ-loop rows handsets edges m limit groups tallies₀ reaches₀ k₀ tallies reaches k = m - k
@@ -84,7 +84,7 @@ returns c =
     let l = c .before .loop in
     let e : l .k ≡ a .m = omega arith in (
       subst (λ (n : ℕ). EdgesCounted (now (a .rows)) (now (a .edges)) n (a .groups) (l .tallies)) e (l .inv .1),
-      subst (λ (n : ℕ). EdgesReached (now (a .rows)) (now (a .handsets)) (now (a .edges)) n (a .limit) (a .groups) (l .reaches)) e (l .inv .2),
+      subst (λ (n : ℕ). EdgesRaised (now (a .rows)) (now (a .handsets)) (now (a .edges)) n (a .limit) (a .groups) (l .reaches)) e (l .inv .2),
     )
 
 pub count-edges-spec : {M : Type 1} → statement M

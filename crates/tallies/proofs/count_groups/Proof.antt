@@ -3,7 +3,7 @@ use native.Mathlib.Omega.{arith}
 use mathlib.Core.Path.{refl}
 use denote.Ref.{now}
 use Rattle.tallies.proofs.Tallying.{groups-counted}
-use Rattle.tallies.proofs.Reaching.{groups-reached}
+use Rattle.tallies.proofs.Reaching.{groups-reach}
 use borrow.Author.Needs.{needs}
 use Rattle.tallies.proofs.count_groups.Statement.{statement}
 use Rattle.tallies.proofs.count_groups.Tie as tie
@@ -56,7 +56,7 @@ returns c =
     let first = b .before .smaller2 .ensures in (
       groups-counted _ (now (a .edges)) (now (a .starts)) (now (a .members)) (a .groups) _ (m .mark-groups .kept .0) first (m .mark-groups .ensures)
           _ edges (c .count-edges .ensures .0),
-      groups-reached _ (now (a .handsets)) (now (a .edges)) (now (a .starts)) (now (a .members)) (a .groups) _ (m .mark-groups .kept .0) first (m .mark-groups .ensures)
+      groups-reach _ (now (a .handsets)) (now (a .edges)) (now (a .starts)) (now (a .members)) (a .groups) _ (m .mark-groups .kept .0) first (m .mark-groups .ensures)
           _ edges (b .smaller3 .ensures) (c .count-edges .ensures .1),
     )
 

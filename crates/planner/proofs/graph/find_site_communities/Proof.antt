@@ -4,7 +4,7 @@ use native.Mathlib.Omega.{arith}
 use mathlib.Core.Path.{_∙_}
 use borrow.Author.Needs.{needs}
 use Rattle.search.proofs.Communities.{search-grouped}
-use Rattle.planner.proofs.GraphLaws.{Read, header-is, short-ready, dissimilar-ready, surveyed}
+use Rattle.planner.proofs.GraphLaws.{Read, header-is, near-ready, dissimilar-ready, surveyed}
 use Rattle.planner.proofs.graph.find_site_communities.Statement.{statement}
 use Rattle.planner.proofs.graph.find_site_communities.Tie as tie
 
@@ -54,12 +54,12 @@ keep-dissimilar-requires c κs =
     let y = s .pre .0 in
     let r = facts s in (
       r .fits .m-limit,
-      y .short-set .size,
+      y .near-set .size,
       s .pre .1,
       y .counted,
       omega (arith, r .fits .p-q, r .fits .q-limit),
       r .fits .q-limit,
-      short-ready (s .args .image .now) (s .args .h) (y .accepted) (y .header) y,
+      near-ready (s .args .image .now) (s .args .h) (y .accepted) (y .header) y,
     )
 
 drop-set-requires : tie.Need-drop-set-requires

@@ -5,7 +5,7 @@ use mathlib.Core.Path.{_≡_, _∙_}
 use borrow.Author.Needs.{needs}
 use Rattle.image.specs.Image.{headerOf}
 use Rattle.image.specs.Questions.{Accepted}
-use Rattle.planner.proofs.GraphLaws.{Read, header-is, told-yes, read-no, read-yes, edges-ready, neighbours-kept}
+use Rattle.planner.proofs.GraphLaws.{Read, header-is, told-yes, read-no, read-yes, edges-ready, handsetPart-length, neighbours-kept}
 use Rattle.planner.proofs.graph.open_neighbours.Statement.{statement}
 use Rattle.planner.proofs.graph.open_neighbours.Tie as tie
 
@@ -19,7 +19,7 @@ opened c = c .before .before
 abbrev accepted : tie.After-struct-known4 → tie.After-opened
 accepted c = c .before .before .before .before .before
 
-abbrev read : tie.After-drop-long-arg5 → tie.After-struct-known4
+abbrev read : tie.After-drop-far-arg5 → tie.After-struct-known4
 read c = c .before .before .before .before .before
 
 -- what is told of an accepted image
@@ -68,39 +68,40 @@ mul-to c = search needs
 add-to : tie.Need-add-to
 add-to c = search needs
 
-sub-drop-long : tie.Need-sub-drop-long
-sub-drop-long c = search needs
+sub-drop-far : tie.Need-sub-drop-far
+sub-drop-far c = search needs
 
-part-drop-long-start : tie.Need-part-drop-long-start
-part-drop-long-start c = search needs
+part-drop-far-start : tie.Need-part-drop-far-start
+part-drop-far-start c = search needs
 
-part-drop-long-end : tie.Need-part-drop-long-end
-part-drop-long-end c = let r = facts (accepted c) in omega (arith, r .length-of, r .fits .handsets-to)
+part-drop-far-end : tie.Need-part-drop-far-end
+part-drop-far-end c = let r = facts (accepted c) in omega (arith, r .length-of, r .fits .handsets-to)
 
-sub-drop-long-2 : tie.Need-sub-drop-long-2
-sub-drop-long-2 c = search needs
+sub-drop-far-2 : tie.Need-sub-drop-far-2
+sub-drop-far-2 c = search needs
 
-part-drop-long-start-2 : tie.Need-part-drop-long-start-2
-part-drop-long-start-2 c = search needs
+part-drop-far-start-2 : tie.Need-part-drop-far-start-2
+part-drop-far-start-2 c = search needs
 
-part-drop-long-end-2 : tie.Need-part-drop-long-end-2
-part-drop-long-end-2 c = let r = facts (accepted (c .before)) in omega (arith, r .length-of, r .fits .edges-to)
+part-drop-far-end-2 : tie.Need-part-drop-far-end-2
+part-drop-far-end-2 c = let r = facts (accepted (c .before)) in omega (arith, r .length-of, r .fits .edges-to)
 
-drop-long-requires : tie.Need-drop-long-requires
-drop-long-requires c κs =
+drop-far-requires : tie.Need-drop-far-requires
+drop-far-requires c κs =
     let o = accepted (read c) in
     let s = start (opened o) .args .image .now in
     let h = o .opened .given .0 .0 in
     let r = opened o .open-rows .ensures in (
       facts o .fits .m-limit,
+      omega (arith, handsetPart-length s h (yes o .0) (yes o .1), facts o .n-is, facts o .fits .n-limit),
       start (opened o) .pre,
       r .room,
       r .held .counted h (o .opened .given .1),
-      edges-ready s h (yes o .0) (yes o .1),
+      λ k l. edges-ready s h (yes o .0) (yes o .1) _ k (omega (arith, handsetPart-length s h (yes o .0) (yes o .1))) l,
     )
 
 same-length : tie.Need-same-length
-same-length c = c .before .before .drop-long .kept .1 .1 .1 .1 .0
+same-length c = c .before .before .drop-far .kept .1 .1 .1 .1 .0
 
 returns-2 : tie.Need-returns-2
 returns-2 c =
@@ -109,8 +110,8 @@ returns-2 c =
     let s = start (opened o) .args .image .now in
     let h = o .opened .given .0 .0 in
     let r = opened o .open-rows .ensures in
-    let k = d .drop-long .kept in
-    let e = d .drop-long .ensures in
+    let k = d .drop-far .kept in
+    let e = d .drop-far .ensures in
     read-yes r h (o .opened .given .1) (k .1 .1 .1 .1 .1 .0 ∙ r .room .0, k .1 .1 .1 .1 .1 .1 .0 ∙ r .room .1)
     (neighbours-kept s h (yes o .0) (yes o .1) (r .held .table h (o .opened .given .1)) (e .0) (e .1 .0) (e .1 .1))
 
@@ -130,12 +131,12 @@ open-neighbours-spec =
     cast-to
     mul-to
     add-to
-    sub-drop-long
-    part-drop-long-start
-    part-drop-long-end
-    sub-drop-long-2
-    part-drop-long-start-2
-    part-drop-long-end-2
-    drop-long-requires
+    sub-drop-far
+    part-drop-far-start
+    part-drop-far-end
+    sub-drop-far-2
+    part-drop-far-start-2
+    part-drop-far-end-2
+    drop-far-requires
     same-length
     returns-2)

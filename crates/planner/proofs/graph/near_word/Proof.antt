@@ -1,4 +1,4 @@
--- `planner::graph::short_word` meets its contract. At k the word has the edges from k on that are short, each k places down: a turn puts the bit of one more
+-- `planner::graph::near_word` meets its contract. At k the word has the edges from k on that are near, each k places down: a turn puts the bit of one more
 -- below them. The measure is k.
 use Prim.Native.Nat.{ℕ, zero, suc, _+_, _*_, _-_, _%_, _^_, _≤_, _<_}
 use native.Mathlib.Omega.{arith}
@@ -15,14 +15,14 @@ use Rattle.sets.specs.Bits.{bitOf}
 use Rattle.sets.proofs.Bits.{bitOf-none}
 use Rattle.image.specs.Near.{isNear}
 use Rattle.image.specs.declared.Proximity.{Proximity}
-use Rattle.planner.specs.Held.{isShort}
+use Rattle.planner.specs.Held.{isNearEdge}
 use Rattle.planner.proofs.Words.{below-lt, below-first, below-rest}
-use Rattle.planner.proofs.graph.short_word.Statement.{statement}
-use Rattle.planner.proofs.graph.short_word.Tie as tie
+use Rattle.planner.proofs.graph.near_word.Statement.{statement}
+use Rattle.planner.proofs.graph.near_word.Tie as tie
 
 abbrev Inv-loop : tie.InvT-loop
 Inv-loop handsets edges base count limit word₀ k₀ word k =
-    (k ≤ count) × (word < 2 ^ (count - k)) × ((i : ℕ) → bitOf word i ≡ bit (ltb (k + i) count && isShort handsets edges limit (base + (k + i))))
+    (k ≤ count) × (word < 2 ^ (count - k)) × ((i : ℕ) → bitOf word i ≡ bit (ltb (k + i) count && isNearEdge handsets edges limit (base + (k + i))))
 
 abbrev μ-loop : tie.MeasureT-loop
 μ-loop handsets edges base count limit word₀ k₀ word k = k
@@ -36,7 +36,7 @@ turn c = c .before .before .before
 
 -- whether an edge is near
 abbrev test : tie.At-loop Inv-loop μ-loop → ℕ → Bool
-test c i = let a = start c .args in isShort (a .handsets .now) (a .edges .now) (a .limit) (a .base + i)
+test c i = let a = start c .args in isNearEdge (a .handsets .now) (a .edges .now) (a .limit) (a .base + i)
 
 loop-holds : tie.Need-loop-holds Inv-loop μ-loop
 loop-holds c =
@@ -45,7 +45,7 @@ loop-holds c =
       pow-pos (a .count - a .count),
       (λ i.
           bitOf-none i
-          ∙ sym (ap (λ (b : Bool). bit (b && isShort (a .handsets .now) (a .edges .now) (a .limit) (a .base + (a .count + i)))) (le-ltb (a .count + i) (a .count) (omega arith)))),
+          ∙ sym (ap (λ (b : Bool). bit (b && isNearEdge (a .handsets .now) (a .edges .now) (a .limit) (a .base + (a .count + i)))) (le-ltb (a .count + i) (a .count) (omega arith)))),
     )
 
 sub-k : tie.Need-sub-k Inv-loop μ-loop
@@ -55,7 +55,7 @@ add-test-edge : tie.Need-add-test-edge Inv-loop μ-loop
 add-test-edge c = search needs
 
 test-edge-requires : tie.Need-test-edge-requires Inv-loop μ-loop
-test-edge-requires c κs = let s = start (c .before) in s .pre .2 (c .before .loop .k - 1) (omega (arith, c .loop-test .taken, c .before .loop .inv .0))
+test-edge-requires c κs = let s = start (c .before) in (s .pre .2, s .pre .3 (c .before .loop .k - 1) (omega (arith, c .loop-test .taken, c .before .loop .inv .0)))
 
 enum-told : tie.Need-enum-told Inv-loop μ-loop
 enum-told c = search needs
@@ -107,8 +107,8 @@ returns c =
     let e : (i : ℕ) → l .k + i ≡ i = λ i. omega (arith, c .loop-test .left) in
     record { bits = λ i h. l .inv .2 i ∙ ap (λ (x : ℕ). bit (ltb x n && test (c .before) x)) (e i) }
 
-pub short-word-spec : {M : Type 1} → statement M
-short-word-spec =
+pub near-word-spec : {M : Type 1} → statement M
+near-word-spec =
     tie.close
     (tie.spec
     Inv-loop

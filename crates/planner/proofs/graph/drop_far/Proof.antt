@@ -1,4 +1,4 @@
--- `planner::graph::drop_long` meets its contract. After j words the set has those of the first 64 j edges that are near, and the table is that without the
+-- `planner::graph::drop_far` meets its contract. After j words the set has those of the first 64 j edges that are near, and the table is that without the
 -- others of them. The measure is how many words are left.
 use Prim.Native.Nat.{ℕ, _*_, _+_, _-_, _/_, _≤_, _<_, _^_}
 use native.Mathlib.Omega.{arith}
@@ -13,21 +13,21 @@ use borrow.Author.Needs.{needs}
 use Rattle.sets.specs.Rows.{Counted}
 use Rattle.sets.proofs.Tests.{and-left, T-ext}
 use Rattle.image.specs.Rows.{Room}
-use Rattle.planner.specs.Held.{WordOf, EdgeSet, isShort, Dropped}
+use Rattle.planner.specs.Held.{WordOf, EdgeSet, isNearEdge, Dropped}
 use Rattle.planner.proofs.Words.{word-cong, others-word, filled-none, filled-more, filled-end}
 use Rattle.planner.proofs.Edges.{word-passes, dropped-start, dropped-word, dropped-end}
-use Rattle.planner.proofs.graph.drop_long.Statement.{statement}
-use Rattle.planner.proofs.graph.drop_long.Tie as tie
+use Rattle.planner.proofs.graph.drop_far.Statement.{statement}
+use Rattle.planner.proofs.graph.drop_far.Tie as tie
 
 abbrev Inv-loop : tie.InvT-loop
-Inv-loop handsets edges m limit short₀ table₀ sizes₀ j₀ short table sizes j =
+Inv-loop handsets edges m limit near₀ table₀ sizes₀ j₀ near table sizes j =
     (j ≤ 64)
-    × EdgeSet short (λ k. ltb k (64 * j) && (ltb k m && isShort handsets edges limit k))
-    × Dropped edges (λ k. ltb k (64 * j) && (ltb k m && not (isShort handsets edges limit k))) table₀ table
+    × EdgeSet near (λ k. ltb k (64 * j) && (ltb k m && isNearEdge handsets edges limit k))
+    × Dropped edges (λ k. ltb k (64 * j) && (ltb k m && not (isNearEdge handsets edges limit k))) table₀ table
     × Room table sizes × Counted table sizes
 
 abbrev μ-loop : tie.MeasureT-loop
-μ-loop handsets edges m limit short₀ table₀ sizes₀ j₀ short table sizes j = 64 - j
+μ-loop handsets edges m limit near₀ table₀ sizes₀ j₀ near table sizes j = 64 - j
 
 -- ---- the places that the answers speak of
 abbrev start : tie.At-loop Inv-loop μ-loop → tie.Start Inv-loop μ-loop
@@ -48,18 +48,18 @@ done c = c .before .before .before .before
 
 -- whether an edge is near
 abbrev test : tie.At-loop Inv-loop μ-loop → ℕ → Bool
-test c k = let a = start c .args in isShort (a .handsets .now) (a .edges .now) (a .limit) k
+test c k = let a = start c .args in isNearEdge (a .handsets .now) (a .edges .now) (a .limit) k
 
 loop-holds : tie.Need-loop-holds Inv-loop μ-loop
 loop-holds c =
     let s = c .before .before .before .before .before in
     let a = s .args in
-    let f : ℕ → Bool = isShort (a .handsets .now) (a .edges .now) (a .limit) in (
+    let f : ℕ → Bool = isNearEdge (a .handsets .now) (a .edges .now) (a .limit) in (
       omega arith,
-      rw (s .pre .1) (filled-none (λ k. ltb k (a .m) && f k)),
+      rw (s .pre .2) (filled-none (λ k. ltb k (a .m) && f k)),
       dropped-start (a .edges .now) (a .table .now) (λ k. ltb k (a .m) && not (f k)),
-      s .pre .2,
       s .pre .3,
+      s .pre .4,
     )
 
 mul-loop : tie.Need-mul-loop Inv-loop μ-loop
@@ -97,13 +97,13 @@ same c i h =
     (λ t. lt→ltb (b + i) m (omega (arith, ltb→lt i (c .if1 .count) t, last c .2)))
     (λ t. lt→ltb i (c .if1 .count) (⊎-elim (λ w. omega (arith, ltb→lt (b + i) m t, w .1)) (λ w. omega (arith, h, w .1)) (c .if1 .came)))
 
-mul-short-word : tie.Need-mul-short-word Inv-loop μ-loop
-mul-short-word c = search needs
+mul-near-word : tie.Need-mul-near-word Inv-loop μ-loop
+mul-near-word c = search needs
 
-short-word-requires : tie.Need-short-word-requires Inv-loop μ-loop
-short-word-requires c κs =
+near-word-requires : tie.Need-near-word-requires Inv-loop μ-loop
+near-word-requires c κs =
     let s = start (loop c) in
-    (last c .1, omega (arith, low (c .before)), λ k l. s .pre .4 (64 * loop c .loop .j + k) (omega (arith, l, last c .2)))
+    (last c .1, omega (arith, low (c .before)), s .pre .1, λ k l. s .pre .5 (64 * loop c .loop .j + k) (omega (arith, l, last c .2)))
 
 sub-all : tie.Need-sub-all Inv-loop μ-loop
 sub-all c = omega (arith, last (counted c) .1)
@@ -115,23 +115,23 @@ mul-drop-edges : tie.Need-mul-drop-edges Inv-loop μ-loop
 mul-drop-edges c = search needs
 
 -- ---- the two words: the edges that are near, and those that are not
-short-word : (c : tie.After-row-known Inv-loop μ-loop)
-    → (let l = loop (counted c) in WordOf (c .before .short-word .result) (λ i. ltb (64 * l .loop .j + i) (start l .args .m) && test l (64 * l .loop .j + i)))
-short-word c =
+near-word : (c : tie.After-row-known Inv-loop μ-loop)
+    → (let l = loop (counted c) in WordOf (c .before .near-word .result) (λ i. ltb (64 * l .loop .j + i) (start l .args .m) && test l (64 * l .loop .j + i)))
+near-word c =
     let l = loop (counted c) in
-    word-cong _ _ (λ i h. ap (λ (b : Bool). b && test l (64 * l .loop .j + i)) (same (counted c) i h)) (c .before .short-word .ensures)
+    word-cong _ _ (λ i h. ap (λ (b : Bool). b && test l (64 * l .loop .j + i)) (same (counted c) i h)) (c .before .near-word .ensures)
 
 abbrev far : tie.After-row-known Inv-loop μ-loop → ℕ
-far c = bitXor (c .before .short-word .result) (18446744073709551615 / 2 ^ (64 - counted c .if1 .count))
+far c = bitXor (c .before .near-word .result) (18446744073709551615 / 2 ^ (64 - counted c .if1 .count))
 
 far-word : (c : tie.After-row-known Inv-loop μ-loop)
     → (let l = loop (counted c) in (far c < 2 ^ 64) × WordOf (far c) (λ i. ltb (64 * l .loop .j + i) (start l .args .m) && not (test l (64 * l .loop .j + i))))
 far-word c =
     let l = loop (counted c) in
     let n : ℕ = counted c .if1 .count in (
-      xor-lt 64 (c .before .short-word .result) (18446744073709551615 / 2 ^ (64 - n)) (omega arith) (lt-of-le-of-lt (div-le-self 18446744073709551615 (2 ^ (64 - n))) (omega arith)),
+      xor-lt 64 (c .before .near-word .result) (18446744073709551615 / 2 ^ (64 - n)) (omega arith) (lt-of-le-of-lt (div-le-self 18446744073709551615 (2 ^ (64 - n))) (omega arith)),
       word-cong _ _ (λ i h. ap (λ (b : Bool). b && not (test l (64 * l .loop .j + i))) (same (counted c) i h))
-          (others-word (c .before .short-word .result) n (λ i. test l (64 * l .loop .j + i)) (last (counted c) .1) (c .before .short-word .ensures)),
+          (others-word (c .before .near-word .result) n (λ i. test l (64 * l .loop .j + i)) (last (counted c) .1) (c .before .near-word .ensures)),
     )
 
 drop-edges-requires : tie.Need-drop-edges-requires Inv-loop μ-loop
@@ -145,14 +145,15 @@ drop-edges-requires c κs =
       l .loop .inv .4,
       λ k t.
           let p = word-passes (far m) (l .loop .j) f (far-word m .0) (far-word m .1) k t in
-          s .pre .4 k (ltb→lt k (s .args .m) (and-left (ltb k (s .args .m)) (not (test l k)) (p .2))),
+          let e = s .pre .5 k (ltb→lt k (s .args .m) (and-left (ltb k (s .args .m)) (not (test l k)) (p .2))) in
+          (e .0, e .1, omega (arith, e .2, s .pre .1), omega (arith, e .3, s .pre .1)),
     )
 
-mul-short : tie.Need-mul-short Inv-loop μ-loop
-mul-short c = search needs
+mul-near : tie.Need-mul-near Inv-loop μ-loop
+mul-near c = search needs
 
-slice-write-short : tie.Need-slice-write-short Inv-loop μ-loop
-slice-write-short c = let m = counted (made (done c .before)) in omega (arith, low (m .before), loop m .loop .inv .1 .size)
+slice-write-near : tie.Need-slice-write-near Inv-loop μ-loop
+slice-write-near c = let m = counted (made (done c .before)) in omega (arith, low (m .before), loop m .loop .inv .1 .size)
 
 add-j : tie.Need-add-j Inv-loop μ-loop
 add-j c = search needs
@@ -169,20 +170,20 @@ loop-again c =
     let i = l .loop .inv in
     let j : ℕ = l .loop .j in (
       omega (arith, low (counted m .before)),
-      filled-more (l .loop .short) (m .before .short-word .result) (λ k. ltb k (a .m) && test l k) j (low (counted m .before)) (short-word m) (i .1),
+      filled-more (l .loop .near) (m .before .near-word .result) (λ k. ltb k (a .m) && test l k) j (low (counted m .before)) (near-word m) (i .1),
       dropped-word (far m) j (λ k. ltb k (a .m) && not (test l k)) (far-word m .0) (far-word m .1) (i .2) (d .drop-edges .ensures .0),
       (d .drop-edges .kept .1 .1 .1 .0 ∙ i .3 .0, d .drop-edges .kept .1 .1 .1 .1 .0 ∙ i .3 .1),
       d .drop-edges .ensures .1,
     )
 
 same-length : tie.Need-same-length Inv-loop μ-loop
-same-length c = c .before .loop .inv .1 .size ∙ sym (ap length (start (c .before) .pre .1) ∙ length-replicate {A = ℕ} 64 0)
+same-length c = c .before .loop .inv .1 .size ∙ sym (ap length (start (c .before) .pre .2) ∙ length-replicate {A = ℕ} 64 0)
 
 same-length-2 : tie.Need-same-length-2 Inv-loop μ-loop
-same-length-2 c = c .before .loop .inv .3 .0 ∙ sym (start (c .before) .pre .2 .0)
+same-length-2 c = c .before .loop .inv .3 .0 ∙ sym (start (c .before) .pre .3 .0)
 
 same-length-3 : tie.Need-same-length-3 Inv-loop μ-loop
-same-length-3 c = c .before .loop .inv .3 .1 ∙ sym (start (c .before) .pre .2 .1)
+same-length-3 c = c .before .loop .inv .3 .1 ∙ sym (start (c .before) .pre .3 .1)
 
 returns : tie.Need-returns Inv-loop μ-loop
 returns c =
@@ -194,8 +195,8 @@ returns c =
     let all : (k : ℕ) → T (f k) → k < b = λ k t. omega (arith, c .loop-test .left, ltb→lt k m (and-left (ltb k m) (not (test l k)) t)) in
     (filled-end (test l) m b (omega (arith, c .loop-test .left)) (i .1), (dropped-end f b all (i .2), i .4))
 
-pub drop-long-spec : {M : Type 1} → statement M
-drop-long-spec =
+pub drop-far-spec : {M : Type 1} → statement M
+drop-far-spec =
     tie.close
     (tie.spec
     Inv-loop
@@ -206,14 +207,14 @@ drop-long-spec =
     sub-if1
     mul-count
     sub-count
-    mul-short-word
-    short-word-requires
+    mul-near-word
+    near-word-requires
     sub-all
     shr-all
     mul-drop-edges
     drop-edges-requires
-    mul-short
-    slice-write-short
+    mul-near
+    slice-write-near
     add-j
     loop-less
     loop-again
