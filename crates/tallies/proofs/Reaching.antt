@@ -5,7 +5,7 @@
 --     entry-below                        what a near test makes of a reach has room
 --     reach-none, reach-more             one edge, for the groups of the first words: of none, and of one more; reach-done: of all that begin below a bound
 --     reaches-none, reaches-more         the first edges: none, and one more
---     groups-reach                     the reaches by the rows are the groups' reaches
+--     groups-reach                       the reaches by the rows are the groups' reaches
 use Prim.Native.Nat.{ℕ, zero, suc, _+_, _*_, _≤_, _<_, _/_, min, max}
 use native.Mathlib.Omega.{arith}
 use native.Mathlib.Decide.{ℕ-discrete}
