@@ -1,7 +1,7 @@
 -- The examples of the papers: the definitions compute to what the papers say.
 use mathlib.Core.Path.{refl}
 use Rattle.image.specs.Image.{headerOf, mu}
-use Rattle.image.specs.Near.{proximity, neighbour, olderNeighbour}
+use Rattle.near.specs.Near.{proximity, neighbour, olderNeighbour}
 use Rattle.image.specs.Questions.{openOf}
 use Rattle.community.specs.Network.{neighbourhoodSize, commonNeighbours, similar, cores, communities, role}
 use Rattle.community.specs.Tables.{startTable}

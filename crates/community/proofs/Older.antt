@@ -3,7 +3,7 @@ use Prim.Native.Nat.{ℕ}
 use mathlib.Core.Path.{_≡_, sym, ap, subst}
 use mathlib.Core.List.{List}
 use Rattle.image.specs.Image.{handsetCount, epsilonNum, epsilonDen, mu}
-use Rattle.image.proofs.Near.{neighbour-older}
+use Rattle.near.proofs.Near.{neighbour-older}
 use Rattle.community.specs.Network.{Network, neighbourhoodSize, IsCommunity, cores, communities, role}
 use Rattle.community.specs.Site.{network}
 use Rattle.community.specs.Older.{olderNetwork, SameAsOlder}

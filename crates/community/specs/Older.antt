@@ -7,7 +7,7 @@ use mathlib.Core.Path.{_≡_}
 use mathlib.Core.Logic.{_↔_}
 use mathlib.Core.List.{List}
 use Rattle.image.specs.Image.{handsetCount, epsilonNum, epsilonDen, mu}
-use Rattle.image.specs.Near.{olderNeighbour}
+use Rattle.near.specs.Near.{olderNeighbour}
 use Rattle.community.specs.Network.{Network, neighbourhoodSize, IsCommunity, cores, communities, role}
 use Rattle.community.specs.Site.{network}
 

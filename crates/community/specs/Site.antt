@@ -4,7 +4,7 @@
 use mathlib.Core.List.{List}
 use Prim.Native.Nat.{ℕ}
 use Rattle.image.specs.Image.{handsetCount, epsilonNum, epsilonDen, mu}
-use Rattle.image.specs.Near.{neighbour}
+use Rattle.near.specs.Near.{neighbour}
 use Rattle.community.specs.Network.{Network}
 
 abbrev pub network : List ℕ → Network

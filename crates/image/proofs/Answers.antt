@@ -1,16 +1,14 @@
 -- Two answers with the same number, place and values are the same answer: a header has values and a refusal none, and each is made of its parts.
 use Prim.Native.Nat.{ℕ}
 use native.Mathlib.Omega.{arith}
-use mathlib.Core.Path.{_≡_, refl, sym, ap, ap₂}
+use mathlib.Core.Path.{_≡_, sym, ap, ap₂}
 use mathlib.Core.List.{List, [], _∷_}
 use lib.ListN.{getD}
-use Rattle.image.specs.Answers.{Answer, refused, given, openAnswer, proximityAnswer, OneAnswer}
+use Rattle.image.specs.Answers.{Answer, refused, given, openAnswer, OneAnswer}
 use Rattle.image.specs.declared.Header.{Header}
 use Rattle.image.specs.declared.Refusal.{Refusal}
 use Rattle.image.specs.declared.Opened.{Opened}
 use Rattle.image.specs.declared.Opened.the-variants.{Site, Refused}
-use Rattle.image.specs.declared.Proximity.{Proximity}
-use Rattle.image.specs.declared.Proximity.the-variants.{Near, NotNear}
 
 -- values are none of a refusal's
 pub given-refused : {A : Type 0} (x : ℕ) (xs : List ℕ) (r : Refusal) → given (x ∷ xs) ≡ refused r → A
@@ -49,11 +47,5 @@ open-same (Site h) (Refused r) e = given-refused _ _ r e
 open-same (Refused r) (Site h) e = given-refused _ _ r (sym e)
 open-same (Refused r) (Refused q) e = ap Refused (refused-same r q e)
 
-pub proximity-same : (a b : Proximity) → proximityAnswer a ≡ proximityAnswer b → a ≡ b
-proximity-same (Near d) (Near e) q = ap (λ (a : Answer). Near (getD (a .values) 1 0)) q
-proximity-same (Near d) NotNear q = let z : _≡_ {A = ℕ} 1 0 = ap (λ (a : Answer). getD (a .values) 0 0) q in absurd (omega arith)
-proximity-same NotNear (Near d) q = let z : _≡_ {A = ℕ} 0 1 = ap (λ (a : Answer). getD (a .values) 0 0) q in absurd (omega arith)
-proximity-same NotNear NotNear q = refl
-
 pub one-answer : OneAnswer
-one-answer = record { opened = open-same; proximity = proximity-same }
+one-answer = record { opened = open-same }

@@ -1,5 +1,4 @@
 pub mod Answers
-pub mod Near
 pub mod Records
 pub mod Acceptance
 pub mod Signed

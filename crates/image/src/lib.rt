@@ -1,7 +1,7 @@
 // The site image: its header and records, and the reader that puts questions 1 to 10 to it.
 //
 // `open` answers the header of an image that is accepted, or the number and place of the first no. `open_rows` also leaves behind what reading the edges
-// makes: a row for each handset, with itself and those that it is adjacent to, and the size of each row. `proximity_of` is the one near test of two handsets.
+// makes: a row for each handset, with itself and those that it is adjacent to, and the size of each row.
 // Callers read the records themselves, and cite proofs/Answers (`open-same`), proofs/Acceptance (what an accepted image keeps to) and proofs/Records
 // (a record is the part of its table that it is read from).
 ghost use mathlib.Core.Path.{_≡_};
@@ -14,9 +14,8 @@ ghost use Rattle.sets.specs.Bits.{cell, withBit};
 ghost use Rattle.sets.specs.Rows.{Table, Counted};
 ghost use Rattle.fields.specs.Fields.{handsetBytes, edgeBytes};
 ghost use Rattle.image.specs.Image.{headerOf, endA, endB};
-ghost use Rattle.image.specs.Near.{proximityOf};
 ghost use Rattle.image.specs.Questions.{tablesFit, outOfLimits, ask, askEdges, askRecords, askHeader, askImage, openOf, refusalOf};
-ghost use Rattle.image.specs.Answers.{openAnswer, proximityAnswer};
+ghost use Rattle.image.specs.Answers.{openAnswer};
 ghost use Rattle.image.specs.Rows.{Room, Cleared, related, Held, Reading};
 ghost use Rattle.image.specs.Scan.{badRecord, Stand, linked, Added};
 
@@ -50,12 +49,6 @@ pub struct Refusal {
 pub enum Opened {
     Site(Header),
     Refused(Refusal),
-}
-
-// What the near test of two handsets answers: near with the squared distance, or not near.
-pub enum Proximity {
-    Near(u64),
-    NotNear,
 }
 
 // The header's numbers as they stand; 0 for one that is not there.
@@ -168,29 +161,6 @@ fn first_bad(question: u32, part: &[u8], count: usize, n: usize) -> usize
         k += 1;
     }
     k
-}
-
-// The near test of two handsets, by their records: near with their squared distance where that is at most the limit, else not near. What is left of the limit
-// wraps only where they are not near.
-pub fn proximity_of(a: &[u8], b: &[u8], limit: u64) -> Proximity
-    ensures { λ r. ⌜ proximityAnswer r ≡ proximityAnswer (proximityOf (now (a .entry)) (now (b .entry)) limit) ⌝ }
-{
-    let mut fits = true;
-    let mut room = limit;
-    let mut i: usize = 0;
-    while i < fields::COORDINATES {
-        let at = fields::COORDINATE_BYTES * i;
-        let d = fields::squared_gap(fields::coordinate(a, at), fields::coordinate(b, at));
-        let covered = d <= room;
-        fits = fits & covered;
-        room = std::num::wrapping_sub_u64(room, d);
-        i += 1;
-    }
-    if fits {
-        Proximity::Near(limit - room)
-    } else {
-        Proximity::NotNear
-    }
 }
 
 // Whether v is in row u.

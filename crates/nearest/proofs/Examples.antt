@@ -1,7 +1,7 @@
 -- The examples: the definitions compute to these answers.
 use mathlib.Core.Path.{refl}
 use Rattle.image.specs.Image.{headerOf, mu}
-use Rattle.image.specs.Near.{neighbour}
+use Rattle.near.specs.Near.{neighbour}
 use Rattle.community.specs.Network.{communities}
 use Rattle.planner.specs.Plan.{communitiesOf}
 use Rattle.nearest.specs.Nearest.{nearestOf}

@@ -21,7 +21,7 @@ ghost use Rattle.planner.specs.Held.{WordOf, HasEnds, inWord, EdgeSet, e
 use fields::Ends;
 use image::Header;
 use image::Opened;
-use image::Proximity;
+use near::Proximity;
 
 // Takes v out of row u, if it is in it.
 fn take_out(table: &mut [u64], sizes: &mut [u32], u: usize, v: usize)
@@ -56,7 +56,7 @@ fn test_edge<'a>(handsets: &'a [u8], edges: &'a [u8], k: usize, limit: u64) -> P
     let a_past = a + fields::HANDSET_BYTES;
     let b = fields::HANDSET_BYTES * e.b;
     let b_past = b + fields::HANDSET_BYTES;
-    image::proximity_of(&handsets[a..a_past], &handsets[b..b_past], limit)
+    near::proximity_of(&handsets[a..a_past], &handsets[b..b_past], limit)
 }
 
 // The edges from `base` on whose ends are near, as a word: of `count` edges, at most 64. It is made from its highest bit down, without a branch on the test.

@@ -19,8 +19,8 @@ use Rattle.sets.specs.Rows.{SetOf}
 use Rattle.image.specs.Image.{headerOf, handsetCount}
 use Rattle.image.specs.Questions.{Accepted}
 use Rattle.image.specs.declared.Header.{Header}
-use Rattle.image.specs.declared.Proximity.{Proximity}
-use Rattle.image.specs.declared.Proximity.the-variants.{Near, NotNear}
+use Rattle.near.specs.declared.Proximity.{Proximity}
+use Rattle.near.specs.declared.Proximity.the-variants.{Near, NotNear}
 use Rattle.community.specs.Network.{isCore, communities}
 use Rattle.community.specs.Scores.{pairs}
 use Rattle.community.specs.Site.{network}

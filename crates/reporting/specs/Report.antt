@@ -39,8 +39,8 @@ use Rattle.image.specs.Answers.{Answer, refused, refusal, given, Injective}
 use Rattle.image.specs.declared.Refusal.{Refusal}
 use Rattle.image.specs.declared.Opened.{Opened}
 use Rattle.image.specs.declared.Opened.the-variants as O
-use Rattle.image.specs.declared.Proximity.{Proximity}
-use Rattle.image.specs.declared.Proximity.the-variants.{Near, NotNear}
+use Rattle.near.specs.declared.Proximity.{Proximity}
+use Rattle.near.specs.declared.Proximity.the-variants.{Near, NotNear}
 use Rattle.community.specs.Network.{Network, communities, cores, role}
 use Rattle.community.specs.Tables.{memberTable}
 use Rattle.community.specs.Reach.{reach}

@@ -1,8 +1,8 @@
 // The report: the text of a site's plan, written into a lent buffer, and the text that the report program prints.
 use image::Header;
 use image::Opened;
-use image::Proximity;
 use image::Refusal;
+use near::Proximity;
 use scores::Score;
 use scores::Tally;
 use tables::Counts;

@@ -21,7 +21,7 @@ use lib.ListN.{length, getD}
 use Rattle.sets.specs.Below.{bit, count}
 use Rattle.sets.specs.Bits.{bitOf, cell}
 use Rattle.image.specs.Image.{endA, endB}
-use Rattle.image.specs.declared.Proximity.the-variants.{NotNear}
+use Rattle.near.specs.declared.Proximity.the-variants.{NotNear}
 use Rattle.community.specs.Network.{contains}
 use Rattle.community.specs.Scores.{justOne}
 use Rattle.community.specs.Reach.{farthest}

@@ -18,9 +18,9 @@ use lib.ListN.{length, getD}
 use Rattle.sets.specs.Below.{count}
 use Rattle.fields.specs.Fields.{handsetBytes, edgeBytes, limitSquaredMost}
 use Rattle.image.specs.Image.{handsetRecord, endA, endB}
-use Rattle.image.specs.Near.{proximityOf}
-use Rattle.image.specs.declared.Proximity.{Proximity}
-use Rattle.image.specs.declared.Proximity.the-variants.{Near, NotNear}
+use Rattle.near.specs.Near.{proximityOf}
+use Rattle.near.specs.declared.Proximity.{Proximity}
+use Rattle.near.specs.declared.Proximity.the-variants.{Near, NotNear}
 use Rattle.community.specs.Network.{contains}
 use Rattle.community.specs.Scores.{justOne}
 use Rattle.community.specs.Reach.{farthest}

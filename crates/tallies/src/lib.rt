@@ -15,7 +15,7 @@ ghost use Rattle.fields.specs.Fields.{edgeBytes, limitSquaredMost};
 ghost use Rattle.lookup.specs.Lookup.{membersOf};
 ghost use Rattle.tallies.specs.Tallies.{endsProximity, GroupsCounted, GroupsReach};
 ghost use Rattle.tallies.specs.Held.{GroupAdded, Raised, CountsBelow, EdgeCounted, EdgesCounted, RaisedTo, edgeOf, EdgeRaised, EdgesRaised};
-use image::Proximity;
+use near::Proximity;
 
 // An edge: its two ends, and what a table of reaches holds of it, which is one more than its squared distance, or 0 where its ends are not near.
 struct Edge {
@@ -118,7 +118,7 @@ fn test_ends(handsets: &[u8], u: usize, v: usize, limit: u64) -> Proximity
         let a_past = a + fields::HANDSET_BYTES;
         let b = fields::HANDSET_BYTES * v;
         let b_past = b + fields::HANDSET_BYTES;
-        return image::proximity_of(&handsets[a..a_past], &handsets[b..b_past], limit);
+        return near::proximity_of(&handsets[a..a_past], &handsets[b..b_past], limit);
     }
     Proximity::NotNear
 }

@@ -11,10 +11,10 @@ use borrow.Author.Needs.{needs}
 use Rattle.sets.proofs.Tests.{and-left, and-right}
 use Rattle.fields.specs.Fields.{handsetBytes}
 use Rattle.image.specs.Image.{handsetRecord}
-use Rattle.image.specs.Near.{proximityOf}
-use Rattle.image.specs.declared.Proximity.{Proximity}
-use Rattle.image.specs.declared.Proximity.the-variants.{NotNear}
-use Rattle.image.proofs.Answers.{proximity-same}
+use Rattle.near.specs.Near.{proximityOf}
+use Rattle.near.specs.declared.Proximity.{Proximity}
+use Rattle.near.specs.declared.Proximity.the-variants.{NotNear}
+use Rattle.near.proofs.Near.{proximity-same}
 use Rattle.image.proofs.Records.{handset-part}
 use Rattle.tallies.specs.Tallies.{handsetsIn, endsProximity}
 use Rattle.tallies.proofs.test_ends.Statement.{statement}

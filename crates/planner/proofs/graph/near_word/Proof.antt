@@ -13,8 +13,8 @@ use borrow.Author.Tests.{lt-ltb, le-ltb}
 use Rattle.sets.specs.Below.{bit}
 use Rattle.sets.specs.Bits.{bitOf}
 use Rattle.sets.proofs.Bits.{bitOf-none}
-use Rattle.image.specs.Near.{isNear}
-use Rattle.image.specs.declared.Proximity.{Proximity}
+use Rattle.near.specs.Near.{isNear}
+use Rattle.near.specs.declared.Proximity.{Proximity}
 use Rattle.planner.specs.Held.{isNearEdge}
 use Rattle.planner.proofs.Words.{below-lt, below-first, below-rest}
 use Rattle.planner.proofs.graph.near_word.Statement.{statement}

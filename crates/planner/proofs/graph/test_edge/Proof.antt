@@ -4,9 +4,9 @@ use mathlib.Core.Path.{ap₂, _∙_}
 use mathlib.Core.List.{List}
 use borrow.Author.Needs.{needs}
 use Rattle.image.specs.Image.{handsetRecord}
-use Rattle.image.specs.Near.{proximityOf}
-use Rattle.image.specs.declared.Proximity.{Proximity}
-use Rattle.image.proofs.Answers.{proximity-same}
+use Rattle.near.specs.Near.{proximityOf}
+use Rattle.near.specs.declared.Proximity.{Proximity}
+use Rattle.near.proofs.Near.{proximity-same}
 use Rattle.image.proofs.Records.{handset-part}
 use Rattle.planner.proofs.graph.test_edge.Statement.{statement}
 use Rattle.planner.proofs.graph.test_edge.Tie as tie

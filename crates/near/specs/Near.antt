@@ -6,15 +6,18 @@
 --     isNear x                 the test answers near
 --     neighbour s u v          u and v are neighbours: their test answers near (the paper: near)
 --     olderNeighbour s u v     the older near test, which told no distance (paper 01): u is v, or they are adjacent and no farther apart than gamma
---     NearTest                 the theorems: what the test answers, and that it answers near exactly when the older one did (proved in proofs/Near)
+--     proximityAnswer x        the answer's values: 1 and the squared distance, or 0 twice where it is not near
+--     OneAnswer                the theorem: the values leave nothing of the answer free (proved in proofs/Near, as is NearTest)
+--     NearTest                 the theorems: what the test answers, and that it answers near exactly when the older one did
 use Prim.Native.Nat.{ℕ}
 use mathlib.Core.Path.{_≡_}
 use mathlib.Core.Bool.{Bool, true, false, _&&_, _||_, cond}
-use mathlib.Core.List.{List}
+use mathlib.Core.List.{List, [], _∷_}
 use lib.Dec.{leb, eqb}
 use Rattle.image.specs.Image.{limitSquared, handsetRecords, handsetRecord, distanceBetween, distanceSquared, adjacent}
-use Rattle.image.specs.declared.Proximity.{Proximity}
-use Rattle.image.specs.declared.Proximity.the-variants.{Near, NotNear}
+use Rattle.image.specs.Answers.{Answer, given, Injective}
+use Rattle.near.specs.declared.Proximity.{Proximity}
+use Rattle.near.specs.declared.Proximity.the-variants.{Near, NotNear}
 
 unfoldable pub proximityOf : List ℕ → List ℕ → ℕ → Proximity
 unfolding distanceBetween
@@ -38,6 +41,13 @@ neighbour s u v = isNear (proximity s u v)
 unfoldable pub olderNeighbour : List ℕ → ℕ → ℕ → Bool
 unfolding adjacent distanceSquared
 olderNeighbour s u v = eqb u v || (adjacent s u v && leb (distanceSquared s u v) (limitSquared s))
+
+abbrev pub proximityAnswer : Proximity → Answer
+proximityAnswer (Near d) = given (1 ∷ d ∷ [])
+proximityAnswer NotNear = given (0 ∷ 0 ∷ [])
+
+pub record OneAnswer : Type 0 where
+  pub proximity : Injective proximityAnswer
 
 pub record NearTest : Type 0 where
   -- near exactly when the older test said yes, and then with the squared distance of the two

@@ -1,4 +1,4 @@
--- `image::proximity_of` meets its contract. While the squares so far fit, what is left of the limit and their sum make the limit, so the next square fits in
+-- `near::proximity_of` meets its contract. While the squares so far fit, what is left of the limit and their sum make the limit, so the next square fits in
 -- what is left just where the sum with it keeps the limit, and a sum past the limit stays past it; in the end the sum is what is gone of the limit. The
 -- measure is what is left of the coordinates.
 use Prim.Native.Nat.{ℕ, _+_, _*_, _-_, _%_, _^_, _≤_, _<_}
@@ -12,12 +12,11 @@ use borrow.Author.Needs.{needs}
 use Rattle.sets.specs.Below.{sum}
 use Rattle.sets.proofs.Tests.{T-true, T-ext, and-make, and-left, and-right}
 use Rattle.fields.specs.Fields.{coordinateCount, gap}
 use Rattle.image.specs.Image.{coordinateOf, gapSquared, distanceBetween}
-use Rattle.image.specs.Near.{proximityOf}
-use Rattle.image.specs.Answers.{proximityAnswer}
-use Rattle.image.specs.declared.Proximity.the-variants.{Near, NotNear}
-use Rattle.image.proofs.proximity_of.Statement.{statement}
-use Rattle.image.proofs.proximity_of.Tie as tie
+use Rattle.near.specs.Near.{proximityOf, proximityAnswer}
+use Rattle.near.specs.declared.Proximity.the-variants.{Near, NotNear}
+use Rattle.near.proofs.proximity_of.Statement.{statement}
+use Rattle.near.proofs.proximity_of.Tie as tie
 
 -- whether a sum of squares keeps the limit, and what is left of it
 pub record Left (total limit : ℕ) (fits : Bool) (room : ℕ) : Type 0 where

@@ -1,6 +1,7 @@
 -- The near test of two handsets. It answers near exactly when the older test said yes, and then with the squared distance of the two.
 --
 --     near-apart, near-same     not near is not near at some distance, and near at one distance is not near at another
+--     proximity-same            two answers with the same values are the same
 --     near-most                 a test by records that answers near: the distance that it tells is that of the records, and at most the limit
 --     adjacent-comm             adjacent, either way round
 --     proximity-comm            the test, either way round
@@ -16,16 +17,18 @@ use mathlib.Core.Logic.{_⊎_, inl, inr, ⊎-elim}
 use mathlib.Core.Bool.{Bool, true, false, _&&_, _||_, cond}
 use mathlib.Core.List.{List}
 use lib.Dec.{T, leb, eqb, eqb→eq}
+use lib.ListN.{getD}
 use borrow.Author.Tests.{leb-true, le-leb, eqb-true, eq-eqb}
 use Rattle.sets.proofs.Tests.{and-left, or-cases, T-true, T-false, any-make, any-cong, eqb-comm}
 use Rattle.sets.proofs.Counting.{sum-cong, sum-zero}
 use Rattle.fields.specs.Fields.{coordinateCount, gap}
 use Rattle.image.specs.Image.{edgeCount, limitSquared, handsetRecords, handsetRecord, edgeRecords, coordinateOf, gapSquared, distanceBetween, distanceSquared, endA, endB, joins, adjacent}
+use Rattle.image.specs.Answers.{Answer}
 use Rattle.image.specs.Questions.{Accepted, isLoop}
-use Rattle.image.specs.Near.{proximityOf, proximity, isNear, neighbour, olderNeighbour, NearTest}
-use Rattle.image.specs.declared.Proximity.{Proximity}
-use Rattle.image.specs.declared.Proximity.the-variants.{Near, NotNear}
+use Rattle.near.specs.Near.{proximityOf, proximity, isNear, neighbour, olderNeighbour, proximityAnswer, OneAnswer, NearTest}
+use Rattle.near.specs.declared.Proximity.{Proximity}
+use Rattle.near.specs.declared.Proximity.the-variants.{Near, NotNear}
 use Rattle.image.proofs.Edges.{joins-one, joins-comm}
 
 -- ---- the cases of an answer
 
@@ -40,6 +43,15 @@ near-apart d e = absurd (subst (λ (p : Proximity). T (isNear p)) (sym e) tt)
 
 pub near-same : {d e : ℕ} → Near d ≡ Near e → d ≡ e
 near-same e = ap distanceIn e
+
+pub proximity-same : (a b : Proximity) → proximityAnswer a ≡ proximityAnswer b → a ≡ b
+proximity-same (Near d) (Near e) q = ap (λ (a : Answer). Near (getD (a .values) 1 0)) q
+proximity-same (Near d) NotNear q = let z : _≡_ {A = ℕ} 1 0 = ap (λ (a : Answer). getD (a .values) 0 0) q in absurd (omega arith)
+proximity-same NotNear (Near d) q = let z : _≡_ {A = ℕ} 0 1 = ap (λ (a : Answer). getD (a .values) 0 0) q in absurd (omega arith)
+proximity-same NotNear NotNear q = refl
+
+pub one-answer : OneAnswer
+one-answer = record { proximity = proximity-same }
 
 -- ---- the test by records
 
