@@ -14,9 +14,9 @@ use Rattle.sets.proofs.Tests.{and-make, and-left, and-right, or-left, or-right,
 use Rattle.sets.proofs.Selecting.{map-append, select-yes, select-no, length-select}
 use Rattle.sets.proofs.Counting.{count-pairs, count-le, count-false, count-eqb, count-or, count-swap, sum-le, sum-add, sum-const}
 use Rattle.image.specs.Image.{adjacent, edgeCount, edgeRecords, handsetCount, joins, endA, endB}
-use Rattle.near.specs.Near.{neighbour}
 use Rattle.image.specs.Questions.{Accepted}
 use Rattle.near.proofs.Near.{neighbour-cases}
+use Rattle.near.specs.Near.{neighbour}
 use Rattle.community.specs.Network.{Network, similar, meetsEpsilon, commonNeighbours, neighbourhoodSize, isCore, step, Reachable, one, more, reachable, isLeader, leaders, members, communities}
 use Rattle.community.specs.Tables.{memberTable}
 use Rattle.community.specs.Renumbered.{SamePair}

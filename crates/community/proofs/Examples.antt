@@ -1,8 +1,8 @@
 -- The examples of the papers: the definitions compute to what the papers say.
 use mathlib.Core.Path.{refl}
 use Rattle.image.specs.Image.{headerOf, mu}
-use Rattle.near.specs.Near.{proximity, neighbour, olderNeighbour}
 use Rattle.image.specs.Questions.{openOf}
+use Rattle.near.specs.Near.{proximity, neighbour, olderNeighbour}
 use Rattle.community.specs.Network.{neighbourhoodSize, commonNeighbours, similar, cores, communities, role}
 use Rattle.community.specs.Tables.{startTable}
 use Rattle.community.specs.Reach.{reach}

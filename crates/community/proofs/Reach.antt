@@ -13,8 +13,8 @@ use mathlib.Core.List.{List, [], _∷_}
 use lib.Dec.{T, eqb, eqb→eq, T-not}
 use Rattle.sets.proofs.Tests.{and-make, and-left, and-right, or-cases, T-true, any-make, any-take, eqb-of, below}
 use Rattle.image.specs.Image.{edgeCount, edgeRecords, endA, endB, joins, adjacent}
-use Rattle.near.specs.Near.{proximity}
 use Rattle.image.specs.Questions.{Accepted, isLoop}
+use Rattle.near.specs.Near.{proximity}
 use Rattle.near.specs.declared.Proximity.{Proximity}
 use Rattle.near.specs.declared.Proximity.the-variants.{Near, NotNear}
 use Rattle.image.proofs.Edges.{joins-cases, joins-one}

@@ -23,9 +23,9 @@ use Rattle.bytes.specs.Bytes.{number}
 use Rattle.fields.specs.Fields.{handsetBytes, coreSize}
 use Rattle.bytes.proofs.Bytes.{number-cong}
 use Rattle.image.specs.Image.{headerOf, handsetCount, edgeCount, limitSquared, mu, handsetRecords, edgeRecords, handsetRecord, endA, endB, joins, adjacent}
-use Rattle.near.specs.Near.{proximity, isNear, neighbour}
 use Rattle.image.specs.Questions.{outOfLimits, badEnd, isLoop, repeatsEarlier, HeaderAccepted, Accepted}
 use Rattle.image.specs.declared.Header.{Header}
+use Rattle.near.specs.Near.{proximity, isNear, neighbour}
 use Rattle.image.proofs.Acceptance.{handsets-length, ends-below}
 use Rattle.community.specs.Network.{Network, IsCommunity, isLeader, reachable, communities, role, neighbourhoodSize}
 use Rattle.community.specs.Tables.{memberTable}

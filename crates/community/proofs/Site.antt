@@ -6,11 +6,11 @@ use mathlib.Core.List.{List}
 use lib.Dec.{T}
 use Rattle.fields.specs.Fields.{coreSize}
 use Rattle.image.specs.Image.{headerOf, epsilonNum, epsilonDen, mu}
-use Rattle.near.specs.Near.{isNear, neighbour}
 use Rattle.image.specs.Questions.{Accepted}
+use Rattle.near.specs.Near.{isNear, neighbour}
 use Rattle.near.specs.declared.Proximity.{Proximity}
-use Rattle.near.proofs.Near.{proximity-comm, near-itself}
 use Rattle.image.proofs.Acceptance.{accepted-fits}
+use Rattle.near.proofs.Near.{proximity-comm, near-itself}
 use Rattle.community.specs.Site.{network}
 use Rattle.community.specs.Held.{Sound}
 

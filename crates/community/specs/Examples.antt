@@ -13,9 +13,9 @@ use mathlib.Core.Path.{_≡_}
 use mathlib.Core.Bool.{true, false}
 use mathlib.Core.List.{List, [], _∷_}
 use Rattle.image.specs.Image.{headerOf}
-use Rattle.near.specs.Near.{proximity, olderNeighbour}
 use Rattle.image.specs.Questions.{openOf}
 use Rattle.image.specs.declared.Opened.the-variants.{Site}
+use Rattle.near.specs.Near.{proximity, olderNeighbour}
 use Rattle.near.specs.declared.Proximity.the-variants.{Near, NotNear}
 use Rattle.community.specs.Network.{neighbourhoodSize, commonNeighbours, similar, cores, communities, role}
 use Rattle.community.specs.Tables.{startTable}

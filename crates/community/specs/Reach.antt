@@ -14,8 +14,8 @@ use mathlib.Core.Bool.{Bool, _&&_, cond}
 use mathlib.Core.List.{List, [], _∷_}
 use lib.Dec.{T}
 use Rattle.image.specs.Image.{edgeCount, limitSquared, edgeRecords, endA, endB, adjacent}
-use Rattle.near.specs.Near.{proximity}
 use Rattle.image.specs.Questions.{Accepted}
+use Rattle.near.specs.Near.{proximity}
 use Rattle.near.specs.declared.Proximity.{Proximity}
 use Rattle.near.specs.declared.Proximity.the-variants.{Near, NotNear}
 use Rattle.community.specs.Network.{contains}

@@ -24,7 +24,6 @@ use Rattle.sets.proofs.Tests.{and-make, and-left, and-right, or-left, or-right,
 use Rattle.sets.proofs.Counting.{bit-false, count-cong, count-sum, count-wide, count-at, sum-cong}
 use Rattle.fields.specs.Fields.{coreSize, handsetBytes}
 use Rattle.image.specs.Image.{headerOf, handsetCount, edgeCount, limitSquared, epsilonNum, epsilonDen, mu, handsetRecords, edgeRecords, endA, endB, joins, adjacent}
-use Rattle.near.specs.Near.{isNear, neighbour}
 use Rattle.image.specs.Questions.{Accepted, openOf}
 use Rattle.image.specs.Answers.{openAnswer}
 use Rattle.image.specs.Rows.{Room, related, Reading}
@@ -32,12 +31,13 @@ use Rattle.image.specs.declared.Header.{Header}
 use Rattle.image.specs.declared.Refusal.{Refusal}
 use Rattle.image.specs.declared.Opened.{Opened}
 use Rattle.image.specs.declared.Opened.the-variants as O
+use Rattle.near.specs.Near.{isNear, neighbour}
 use Rattle.image.proofs.Acceptance.{Fits, accepted-fits, accepted, length-is, handsets-length, edges-length, ends-below}
 use Rattle.image.proofs.Answers.{given-refused, open-same}
 use Rattle.image.proofs.Edges.{joins-cases}
-use Rattle.near.proofs.Near.{adjacent-comm, neighbour-cases, edge-proximity}
 use Rattle.image.proofs.Records.{edgePart, handsetPart, edgePart-is, handsetPart-is}
 use Rattle.image.proofs.Rows.{table-cong}
+use Rattle.near.proofs.Near.{adjacent-comm, neighbour-cases, edge-proximity}
 use Rattle.community.specs.Network.{Network, neighbourhoodSize, commonNeighbours, meetsEpsilon, similar, isCore}
 use Rattle.community.specs.Site.{network}
 use Rattle.community.proofs.Similarity.{similar-sym, similar-self}

@@ -22,12 +22,12 @@ use Rattle.sets.specs.Bits.{bitOf, bitAt, cell}
 use Rattle.sets.specs.Rows.{Table, Counted}
 use Rattle.fields.specs.Fields.{edgeBytes}
 use Rattle.image.specs.Image.{headerOf, edgeCount, edgeRecords, endA, endB, joins, handsetRecord}
-use Rattle.near.specs.Near.{proximityOf, isNear, neighbour}
 use Rattle.image.specs.Questions.{Accepted, openOf}
 use Rattle.image.specs.Rows.{Room}
 use Rattle.image.specs.declared.Header.{Header}
 use Rattle.image.specs.declared.Opened.{Opened}
 use Rattle.image.specs.declared.Opened.the-variants.{Site}
+use Rattle.near.specs.Near.{proximityOf, isNear, neighbour}
 use Rattle.near.specs.declared.Proximity.{Proximity}
 use Rattle.community.specs.Network.{Network, meetsEpsilon}
 use Rattle.community.specs.Site.{network}

@@ -19,13 +19,13 @@ use Rattle.sets.proofs.Counting.{count-le, count-cong, count-at}
 use Rattle.sets.proofs.Selecting.{length-select}
 use Rattle.fields.specs.Fields.{limitSquaredMost}
 use Rattle.image.specs.Image.{handsetCount, edgeCount, limitSquared, handsetRecords, edgeRecords, handsetRecord, endA, endB}
-use Rattle.near.specs.Near.{proximityOf, proximity}
 use Rattle.image.specs.declared.Header.{Header}
+use Rattle.near.specs.Near.{proximityOf, proximity}
 use Rattle.near.specs.declared.Proximity.{Proximity}
 use Rattle.near.specs.declared.Proximity.the-variants.{Near, NotNear}
 use Rattle.image.proofs.Acceptance.{accepted-fits, handsets-length, edges-length, ends-below}
-use Rattle.near.proofs.Near.{edge-proximity}
 use Rattle.image.proofs.Records.{edgePart, handsetPart, edgePart-is, handsetPart-is}
+use Rattle.near.proofs.Near.{edge-proximity}
 use Rattle.community.specs.Network.{Network, isCore, members, reachable, communities, cores, contains, role}
 use Rattle.community.specs.Scores.{pairs, everyEdge, joinedPairs, justOne, leaving}
 use Rattle.community.specs.Reach.{farthest, inside, reach}

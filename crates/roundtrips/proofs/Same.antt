@@ -13,12 +13,12 @@ use lib.ListN.{length, getD}
 use Rattle.sets.specs.Below.{any, count}
 use Rattle.fields.specs.Fields.{coreSize}
 use Rattle.image.specs.Image.{headerOf, handsetRecord, endA, endB, joins, adjacent, mu}
-use Rattle.near.specs.Near.{proximityOf, proximity, isNear, neighbour}
 use Rattle.image.specs.Signed.{raised}
 use Rattle.image.specs.Answers.{Answer, refusal, Injective}
 use Rattle.image.specs.Questions.{openOf, Accepted}
 use Rattle.image.specs.declared.Opened.{Opened}
 use Rattle.image.specs.declared.Opened.the-variants.{Site}
+use Rattle.near.specs.Near.{proximityOf, proximity, isNear, neighbour}
 use Rattle.near.specs.declared.Proximity.{Proximity}
 use Rattle.near.specs.declared.Proximity.the-variants.{Near, NotNear}
 use Rattle.image.proofs.Acceptance.{opened}

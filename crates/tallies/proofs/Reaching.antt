@@ -23,10 +23,10 @@ use Rattle.sets.proofs.Lowest.{Lowest, cleared, cleared-same}
 use Rattle.sets.proofs.Counting.{bit-le}
 use Rattle.fields.specs.Fields.{limitSquaredMost}
 use Rattle.image.specs.Image.{handsetRecord, endA, endB}
+use Rattle.near.proofs.Near.{near-apart, near-most}
 use Rattle.near.specs.Near.{proximityOf}
 use Rattle.near.specs.declared.Proximity.{Proximity}
 use Rattle.near.specs.declared.Proximity.the-variants.{Near, NotNear}
-use Rattle.near.proofs.Near.{near-apart, near-most}
 use Rattle.community.specs.Network.{contains}
 use Rattle.community.specs.Reach.{farther, farthest}
 use Rattle.community.proofs.Reach.{farthest-none, farthest-more, farthest-cong}

@@ -6,8 +6,8 @@ use borrow.Author.Needs.{needs}
 use Rattle.image.specs.Image.{handsetRecord}
 use Rattle.near.specs.Near.{proximityOf}
 use Rattle.near.specs.declared.Proximity.{Proximity}
-use Rattle.near.proofs.Near.{proximity-same}
 use Rattle.image.proofs.Records.{handset-part}
+use Rattle.near.proofs.Near.{proximity-same}
 use Rattle.planner.proofs.graph.test_edge.Statement.{statement}
 use Rattle.planner.proofs.graph.test_edge.Tie as tie
 
