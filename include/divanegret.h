@@ -52,13 +52,15 @@ extern "C" {
 #define DVG_TOO_SHORT 1      /* Are there at least 32 bytes, the header? */
 #define DVG_WRONG_LENGTH 2   /* Is the header's length the lent length? */
 #define DVG_COUNTS 3         /* Are there at most 512 handsets and at most 4,096 ties? */
-#define DVG_RESERVED 4       /* Are bytes 30 and 31 zero? */
-#define DVG_THRESHOLDS 5     /* Is G at most 8,000,000,000,000, 1 <= p <= q <= 1,000, and mu at
+#define DVG_WIDTH 4          /* Do bytes 30 and 31 hold 12, the width of a handset record? (An older
+                                image, whose handsets have no z, has 0 there: it is to be written anew,
+                                with z = 0.) */
+#define DVG_THRESHOLDS 5     /* Is G at most 12,000,000,000,000, 1 <= p <= q <= 1,000, and mu at
                                 most 512? (A mu of 0 is blank and means 4.) */
 #define DVG_TABLES 6         /* Is each table past the header, in the image, clear of the other?
-                                dvg_write: has each table just the numbers that the counts need, 2 n
+                                dvg_write: has each table just the numbers that the counts need, 3 n
                                 coordinates and 2 m ends, no fewer and no more? */
-#define DVG_COORDINATE 7     /* Is every x and y from -1,000,000 to 1,000,000? Place: a handset. */
+#define DVG_COORDINATE 7     /* Is every x, y and z from -1,000,000 to 1,000,000? Place: a handset. */
 #define DVG_NO_HANDSET 8     /* Is each end of every tie below n? Place: a tie. */
 #define DVG_LOOP 9           /* Do the ends of every tie differ? Place: a tie. */
 #define DVG_REPEATED 10      /* Is no pair tied twice, either way round? Place: the later tie. */
@@ -71,7 +73,7 @@ extern "C" {
                                 of the chosen plan's tables alone. */
 #define DVG_LONG_INPUT 15    /* The report program alone: does its input end within 65,536 bytes? */
 #define DVG_TEXT_SHORT 16    /* dvg_report: does the buffer hold the whole text? */
-#define DVG_SPOT 17          /* dvg_nearest: are x and y from -1,000,000 to 1,000,000? */
+#define DVG_SPOT 17          /* dvg_nearest: are x, y and z from -1,000,000 to 1,000,000? */
 #define DVG_DATE 18          /* dvg_members_at: is the year from 1600 to 9999, and is there such a date
                                 in the Gregorian calendar? */
 #define DVG_MINUTES 19       /* dvg_members_at: is the minute at most 1,439, closing at most 1,440, and
@@ -84,8 +86,8 @@ extern "C" {
 #define DVG_MEMBERS 8704
 
 /* A buffer of DVG_IMAGE bytes suffices for every image that dvg_write writes; for given counts,
- * 32 + 8 n + 4 m do. */
-#define DVG_IMAGE 20512
+ * 32 + 12 n + 4 m do. */
+#define DVG_IMAGE 22560
 
 /* The text of the report: its length, or the refusal's number (1 to 10, 16) made negative. A group's
  * line tells its scores, its reach (the largest squared distance of a near tie between two members, or a
@@ -125,11 +127,11 @@ int64_t dvg_scores(const uint8_t *image, size_t image_len, const uint16_t *list,
 int64_t dvg_members(const uint32_t *starts, size_t starts_len, const uint16_t *members,
                     size_t members_len, uint64_t k);
 
-/* The group that stands nearest to the spot x, y, in metres: found + 2 * group + 65536 * squared
+/* The group that stands nearest to the spot x, y, z, in metres: found + 2 * group + 65536 * squared
  * distance, the distance from the spot to the group's nearest member. Of groups at the same least
  * distance it is the one with the lowest number. Found is 1; the result is 0 where the plan has no
  * groups, and only there. Refusals 1 to 10, 17. */
-int64_t dvg_nearest(const uint8_t *image, size_t image_len, int32_t x, int32_t y);
+int64_t dvg_nearest(const uint8_t *image, size_t image_len, int32_t x, int32_t y, int32_t z);
 #define DVG_FOUND(r) ((int32_t)((r) % 2))
 #define DVG_NEAREST_GROUP(r) ((int32_t)((r) / 2 % 32768))
 #define DVG_SQUARED_DISTANCE(r) ((int64_t)((r) / 65536))
@@ -161,11 +163,12 @@ int64_t dvg_members_at(uint32_t year, uint32_t month, uint32_t day, uint32_t min
  * and report, and is no longer than it was.
  *
  * handsets, ties and near_squared are n, m and G of the header, p, q and mu its own; a mu of 0 is
- * written as 0, which is blank. coordinates is the coordinate table, x and y of handset 0, then of
- * handset 1, and so on: 2 n numbers. ends is the tie table, the two handsets of tie 0, then of tie 1,
+ * written as 0, which is blank. coordinates is the coordinate table, x, y and z of handset 0, then of
+ * handset 1, and so on: 3 n numbers. ends is the tie table, the two handsets of tie 0, then of tie 1,
  * and so on: 2 m numbers. Both hold plain numbers of C, no bytes of an image; their lengths are counted
  * in numbers, and they are only read. Any numbers may come in, also ones that no field of the header
- * holds: none is cut off before it is asked.
+ * holds: none is cut off before it is asked. Bytes 30 and 31 are written as 12, the width of a handset
+ * record.
  *
  * Refusals 3, 5, 6, 7, 8, 9, 10, 20, asked in this order, each of the whole tables before the next: 7
  * with the place of a handset, 8 to 10 with that of a tie. A refused call keeps every byte of the

@@ -8,9 +8,20 @@
 
 #define HANDSETS 7
 #define TIES 8
-#define HANDSETS_AT 32
-#define TIES_AT (HANDSETS_AT + 8 * HANDSETS)
-#define LENGTH (TIES_AT + 4 * TIES)
+#define HEADER 32
+#define COORDINATES 3
+#define HANDSET_BYTES (4 * COORDINATES)
+#define TIE_BYTES 4
+#define NEAR_AT 16
+#define WIDTH_AT 30
+#define HANDSETS_AT HEADER
+#define TIES_AT (HANDSETS_AT + HANDSET_BYTES * HANDSETS)
+#define LENGTH (TIES_AT + TIE_BYTES * TIES)
+#define MOST_NEAR UINT64_C(12000000000000)
+/* As images were before: records of x and y alone. */
+#define OLD_HANDSET_BYTES 8
+#define OLD_TIES_AT (HANDSETS_AT + OLD_HANDSET_BYTES * HANDSETS)
+#define OLD_LENGTH (OLD_TIES_AT + TIE_BYTES * TIES)
 
 static const char report_of_s[] = "handsets 7 ties 8 groups 2 memberships 8\n"
                                   "group 0 density 2/6 conductance 1/9 reach 0: 0 1 2 3\n"
@@ -50,27 +61,48 @@ static void put(uint8_t *at, int width, uint64_t value)
     }
 }
 
+/* Places handset k of site S. */
+static void place(uint8_t image[LENGTH], int k, int32_t x, int32_t y, int32_t z)
+{
+    uint8_t *record = image + HANDSETS_AT + HANDSET_BYTES * k;
+    put(record, 4, (uint32_t)x);
+    put(record + 4, 4, (uint32_t)y);
+    put(record + 8, 4, (uint32_t)z);
+}
+
 static const uint16_t ties[TIES][2] = {{0, 1}, {0, 2}, {1, 2}, {2, 3},
                                        {3, 4}, {4, 5}, {4, 6}, {5, 6}};
 
-/* Seven handsets at one place, gamma 0, epsilon 1/2, mu 4. */
-static void build_site(uint8_t image[LENGTH])
+/* The header of n handsets and m ties in an image without gaps: gamma 0, epsilon 1/2, mu 4. */
+static void put_header(uint8_t *image, uint32_t n, uint32_t m, uint32_t length)
 {
-    int i;
-    memset(image, 0, LENGTH);
-    put(image + 0, 2, HANDSETS);
-    put(image + 2, 2, TIES);
+    memset(image, 0, HEADER);
+    put(image + 0, 2, n);
+    put(image + 2, 2, m);
     put(image + 4, 4, HANDSETS_AT);
-    put(image + 8, 4, TIES_AT);
-    put(image + 12, 4, LENGTH);
-    put(image + 16, 8, 0);
+    put(image + 8, 4, length - TIE_BYTES * m);
+    put(image + 12, 4, length);
     put(image + 24, 2, 1);
     put(image + 26, 2, 2);
     put(image + 28, 2, 4);
+    put(image + WIDTH_AT, 2, HANDSET_BYTES);
+}
+
+static void put_ties(uint8_t *at)
+{
+    int i;
     for (i = 0; i < TIES; i++) {
-        put(image + TIES_AT + 4 * i, 2, ties[i][0]);
-        put(image + TIES_AT + 4 * i + 2, 2, ties[i][1]);
+        put(at + TIE_BYTES * i, 2, ties[i][0]);
+        put(at + TIE_BYTES * i + 2, 2, ties[i][1]);
     }
+}
+
+/* Seven handsets at one place. */
+static void build_site(uint8_t image[LENGTH])
+{
+    memset(image, 0, LENGTH);
+    put_header(image, HANDSETS, TIES, LENGTH);
+    put_ties(image + TIES_AT);
 }
 
 static void check_open(const uint8_t *image)
@@ -118,25 +150,57 @@ static void check_reach(const uint8_t *image)
     uint8_t other[LENGTH];
     uint8_t text[256];
     memcpy(other, image, LENGTH);
-    put(other + HANDSETS_AT, 4, 3); /* handset 0 at (3, -4) */
-    put(other + HANDSETS_AT + 4, 4, 0xfffffffc);
-    put(other + HANDSETS_AT + 8 * 6, 4, 0xffffffff); /* handset 6 at (-1, 2) */
-    put(other + HANDSETS_AT + 8 * 6 + 4, 4, 2);
-    put(other + 16, 8, 25);
+    place(other, 0, 3, -4, 0);
+    place(other, 6, -1, 2, 0);
+    put(other + NEAR_AT, 8, 25);
     check("report tells the reach of each group",
           dvg_report(other, LENGTH, text, sizeof text) == (int64_t)(sizeof stretched - 1) &&
               memcmp(text, stretched, sizeof stretched - 1) == 0);
-    memset(other, 0, 40); /* one handset, mu 1: a header and a handset record */
-    put(other, 2, 1);
-    put(other + 4, 4, 32);
-    put(other + 8, 4, 40);
-    put(other + 12, 4, 40);
-    put(other + 24, 2, 1);
-    put(other + 26, 2, 2);
+    place(other, 0, 0, 3, -4);
+    place(other, 6, 2, 0, -1);
+    check("x, y and z count alike for it",
+          dvg_report(other, LENGTH, text, sizeof text) == (int64_t)(sizeof stretched - 1) &&
+              memcmp(text, stretched, sizeof stretched - 1) == 0);
+    put_header(other, 1, 0, HEADER + HANDSET_BYTES);
     put(other + 28, 2, 1);
     check("report tells no reach of a group of one",
-          dvg_report(other, 40, text, sizeof text) == (int64_t)(sizeof alone - 1) &&
+          dvg_report(other, HEADER + HANDSET_BYTES, text, sizeof text) ==
+                  (int64_t)(sizeof alone - 1) &&
               memcmp(text, alone, sizeof alone - 1) == 0);
+}
+
+/* Whether an image of site S's length is refused with another width of its handset records. */
+static int refuses_width(const uint8_t *image, uint64_t width)
+{
+    uint8_t other[LENGTH];
+    memcpy(other, image, LENGTH);
+    put(other + WIDTH_AT, 2, width);
+    return dvg_open(other, LENGTH) == -DVG_WIDTH;
+}
+
+/* Bytes 30 and 31 hold the width of a handset's record. Images of before had records of x and y alone,
+ * and zero there. */
+static void check_width(const uint8_t *image)
+{
+    uint8_t old[OLD_LENGTH];
+    uint8_t text[256];
+    check("an image without the width is refused", refuses_width(image, 0));
+    check("so is the width of before", refuses_width(image, OLD_HANDSET_BYTES));
+    check("one less than the width", refuses_width(image, HANDSET_BYTES - 1));
+    check("one more", refuses_width(image, HANDSET_BYTES + 1));
+    check("and one byte of two", refuses_width(image, HANDSET_BYTES + 256) &&
+                                     refuses_width(image, 256 * HANDSET_BYTES));
+    memset(old, 0, sizeof old);
+    put_header(old, HANDSETS, TIES, OLD_LENGTH);
+    put_ties(old + OLD_TIES_AT);
+    check("records of before have no room for a z", dvg_open(old, OLD_LENGTH) == -DVG_TABLES);
+    put(old + WIDTH_AT, 2, 0);
+    check("an image of before is refused", dvg_open(old, OLD_LENGTH) == -DVG_WIDTH);
+    memset(text, 0xa5, sizeof text);
+    check("so is its report", dvg_report(old, OLD_LENGTH, text, sizeof text) == -DVG_WIDTH &&
+                                  untouched(text, sizeof text, 0xa5));
+    check("and a spot beyond the limits after it",
+          dvg_nearest(old, OLD_LENGTH, 0, 0, 1000001) == -DVG_WIDTH);
 }
 
 static void check_refused(const uint8_t *image)
@@ -147,8 +211,8 @@ static void check_refused(const uint8_t *image)
     uint16_t members[DVG_MEMBERS];
     int64_t refused;
     memcpy(bad, image, LENGTH);
-    put(bad + TIES_AT + 4 * 5, 2, 1); /* tie 5 is now 1-0, as tie 0 the other way round */
-    put(bad + TIES_AT + 4 * 5 + 2, 2, 0);
+    put(bad + TIES_AT + TIE_BYTES * 5, 2, 1); /* tie 5 is now 1-0, as tie 0 the other way round */
+    put(bad + TIES_AT + TIE_BYTES * 5 + 2, 2, 0);
     refused = dvg_open(bad, LENGTH);
     check("open refuses a repeated tie",
           DVG_NUMBER(refused) == DVG_REPEATED && DVG_PLACE(refused) == 5);
@@ -164,8 +228,41 @@ static void check_refused(const uint8_t *image)
     check("report leaves the buffer as it was", untouched(text, sizeof text, 0xa5));
     check("open refuses a length that is not the image's",
           dvg_open(image, LENGTH - 1) == -DVG_WRONG_LENGTH);
-    check("open refuses less than a header", dvg_open(image, 31) == -DVG_TOO_SHORT);
+    check("open refuses less than a header", dvg_open(image, HEADER - 1) == -DVG_TOO_SHORT);
     check("open refuses no bytes at all", dvg_open(image, 0) == -DVG_TOO_SHORT);
+}
+
+/* Whether an image of site S's length is refused for the coordinates of this handset. */
+static int refuses_position(const uint8_t *image, int32_t handset)
+{
+    int64_t refused = dvg_open(image, LENGTH);
+    return refused < 0 && DVG_NUMBER(refused) == DVG_COORDINATE && DVG_PLACE(refused) == handset;
+}
+
+/* The limits of coordinates and of G. */
+static void check_limits(const uint8_t *image)
+{
+    uint8_t other[LENGTH];
+    int64_t accepted = dvg_open(image, LENGTH);
+    memcpy(other, image, LENGTH);
+    place(other, 0, -1000000, 1000000, -1000000);
+    place(other, 6, 1000000, -1000000, 1000000);
+    check("coordinates may be at their limits", dvg_open(other, LENGTH) == accepted);
+    place(other, 6, 0, 0, 1000001);
+    check("no z may be beyond", refuses_position(other, 6));
+    place(other, 5, 0, 0, -1000001);
+    check("nor on the other side", refuses_position(other, 5));
+    place(other, 4, 0, 1000001, 0);
+    check("no y", refuses_position(other, 4));
+    place(other, 3, -1000001, 0, 0);
+    check("and no x", refuses_position(other, 3));
+    place(other, 1, 0, 0, INT32_MIN);
+    check("the first of several is told", refuses_position(other, 1));
+    memcpy(other, image, LENGTH);
+    put(other + NEAR_AT, 8, MOST_NEAR);
+    check("G may be 12,000,000,000,000", dvg_open(other, LENGTH) == accepted);
+    put(other + NEAR_AT, 8, MOST_NEAR + 1);
+    check("and no more", dvg_open(other, LENGTH) == -DVG_THRESHOLDS);
 }
 
 static void check_plan(const uint8_t *image)
@@ -226,6 +323,33 @@ static void check_roles(const uint8_t *image)
           has_role(dvg_role(other, LENGTH, 3), DVG_OUTLIER, 0, 3));
 }
 
+/* Porters one above the other, on floors 1 and 9: handset 1 of site S stands 32 metres above all others,
+ * of which 0 and 2 are tied to it. */
+static void check_floors(const uint8_t *image)
+{
+    uint8_t other[LENGTH];
+    uint32_t starts[DVG_STARTS];
+    uint16_t members[DVG_MEMBERS];
+    int64_t plan;
+    memcpy(other, image, LENGTH);
+    place(other, 1, 0, 0, 32);
+    check("no two on different floors are near with gamma 0",
+          has_role(dvg_role(other, LENGTH, 1), DVG_OUTLIER, 0, 1));
+    put(other + NEAR_AT, 8, 32 * 32 - 1);
+    check("nor with one less than the square of z between them",
+          has_role(dvg_role(other, LENGTH, 1), DVG_OUTLIER, 0, 1));
+    plan = dvg_plan(other, LENGTH, starts, DVG_STARTS, members, DVG_MEMBERS);
+    check("then the plan has one group", DVG_GROUPS(plan) == 1 && DVG_MEMBERSHIPS(plan) == 4);
+    put(other + NEAR_AT, 8, 32 * 32);
+    check("with that square they are", has_role(dvg_role(other, LENGTH, 1), DVG_BORDER, 1, 3));
+    plan = dvg_plan(other, LENGTH, starts, DVG_STARTS, members, DVG_MEMBERS);
+    check("and the plan has both groups", DVG_GROUPS(plan) == 2 && DVG_MEMBERSHIPS(plan) == 8);
+    place(other, 1, 0, 0, -32);
+    check("below the ground too", has_role(dvg_role(other, LENGTH, 1), DVG_BORDER, 1, 3));
+    place(other, 1, 0, 0, -33);
+    check("but no deeper", has_role(dvg_role(other, LENGTH, 1), DVG_OUTLIER, 0, 1));
+}
+
 /* A blank mu, 0, means 4; a site that wants the groups of mu 3 writes 3. */
 static void check_blank_mu(const uint8_t *image)
 {
@@ -281,35 +405,38 @@ static int stands_nearest(int64_t answer, int32_t group, int64_t distance)
 static void check_nearest(const uint8_t *image)
 {
     uint8_t other[LENGTH];
-    int64_t nearest = dvg_nearest(image, LENGTH, 3, -4);
+    int64_t nearest = dvg_nearest(image, LENGTH, 3, -4, 0);
     check("of two groups as near to a spot the lower one", stands_nearest(nearest, 0, 25));
     check("as the header encodes it", nearest == 1 + 65536 * 25);
-    check("a group at the spot itself", dvg_nearest(image, LENGTH, 0, 0) == 1);
-    nearest = dvg_nearest(image, LENGTH, -1000000, 1000000);
-    check("a spot at the limits", stands_nearest(nearest, 0, INT64_C(2000000000000)));
-    check("a spot beyond x", dvg_nearest(image, LENGTH, 1000001, 0) == -DVG_SPOT);
-    check("a spot beyond y", dvg_nearest(image, LENGTH, 0, -1000001) == -DVG_SPOT);
-    check("a spot far beyond", dvg_nearest(image, LENGTH, INT32_MIN, INT32_MAX) == -DVG_SPOT);
+    check("a group at the spot itself", dvg_nearest(image, LENGTH, 0, 0, 0) == 1);
+    check("a spot twelve metres up", stands_nearest(dvg_nearest(image, LENGTH, 3, -4, 12), 0, 169));
+    nearest = dvg_nearest(image, LENGTH, -1000000, 1000000, -1000000);
+    check("a spot at the limits", stands_nearest(nearest, 0, INT64_C(3000000000000)));
+    check("a spot beyond x", dvg_nearest(image, LENGTH, 1000001, 0, 0) == -DVG_SPOT);
+    check("a spot beyond y", dvg_nearest(image, LENGTH, 0, -1000001, 0) == -DVG_SPOT);
+    check("a spot beyond z", dvg_nearest(image, LENGTH, 0, 0, 1000001) == -DVG_SPOT);
+    check("and on the other side", dvg_nearest(image, LENGTH, 0, 0, -1000001) == -DVG_SPOT);
+    check("a spot far beyond",
+          dvg_nearest(image, LENGTH, INT32_MIN, INT32_MAX, INT32_MIN) == -DVG_SPOT);
     memcpy(other, image, LENGTH);
-    put(other + HANDSETS_AT + 8 * 6 + 4, 4, 0xffffffff); /* handset 6, of group 1, at (0, -1) */
-    put(other + 16, 8, 1);
+    place(other, 6, 0, -1, 0); /* of group 1 */
+    put(other + NEAR_AT, 8, 1);
     check("the nearer group has the higher number",
-          stands_nearest(dvg_nearest(other, LENGTH, 3, -4), 1, 18));
+          stands_nearest(dvg_nearest(other, LENGTH, 3, -4, 0), 1, 18));
+    place(other, 6, 0, 0, -1);
+    check("also where z alone tells which is nearer",
+          stands_nearest(dvg_nearest(other, LENGTH, 0, 0, -2), 1, 1) &&
+              stands_nearest(dvg_nearest(other, LENGTH, 0, 0, 2), 0, 4));
     put(other + 28, 2, 512);
-    check("no groups with mu 512", dvg_nearest(other, LENGTH, 3, -4) == 0);
-    put(other + HANDSETS_AT + 8 * 2, 4, 1000001);
-    nearest = dvg_nearest(other, LENGTH, 1000001, 0);
+    check("no groups with mu 512", dvg_nearest(other, LENGTH, 3, -4, 0) == 0);
+    place(other, 2, 1000001, 0, 0);
+    nearest = dvg_nearest(other, LENGTH, 1000001, 0, 0);
     check("a refused image before a spot beyond the limits",
           DVG_NUMBER(nearest) == DVG_COORDINATE && DVG_PLACE(nearest) == 2);
-    memset(other, 0, 32); /* the empty image: a header, and both tables empty behind it */
-    put(other + 4, 4, 32);
-    put(other + 8, 4, 32);
-    put(other + 12, 4, 32);
-    put(other + 24, 2, 1);
-    put(other + 26, 2, 2);
-    check("no groups without handsets", dvg_nearest(other, 32, 3, -4) == 0);
+    put_header(other, 0, 0, HEADER); /* the empty image: both tables empty behind the header */
+    check("no groups without handsets", dvg_nearest(other, HEADER, 3, -4, 0) == 0);
     check("a spot beyond the limits is refused there too",
-          dvg_nearest(other, 32, 3, -1000001) == -DVG_SPOT);
+          dvg_nearest(other, HEADER, 3, -4, -1000001) == -DVG_SPOT);
 }
 
 /* The two plans of a site as the firmware keeps them: those of site S with mu 4 and with mu 3. */
@@ -397,7 +524,7 @@ static void check_members_at(void)
 /* What the writer gets, to be changed: site S, with room for one number more in each table. */
 struct numbers {
     uint64_t handsets, ties, near_squared, p, q, mu;
-    int32_t coordinates[2 * HANDSETS + 1];
+    int32_t coordinates[COORDINATES * HANDSETS + 1];
     size_t coordinates_len;
     uint16_t ends[2 * TIES + 1];
     size_t ends_len;
@@ -405,7 +532,7 @@ struct numbers {
 
 static struct numbers numbers_of_s(void)
 {
-    struct numbers s = {HANDSETS, TIES, 0, 1, 2, 4, {0}, 2 * HANDSETS, {0}, 2 * TIES};
+    struct numbers s = {HANDSETS, TIES, 0, 1, 2, 4, {0}, COORDINATES * HANDSETS, {0}, 2 * TIES};
     memcpy(s.ends, ties, sizeof ties);
     return s;
 }
@@ -435,6 +562,7 @@ static void check_write(const uint8_t *image)
     memset(buffer, 0xa5, sizeof buffer);
     check("write answers the image's length", write_site(&s, buffer, sizeof buffer) == LENGTH);
     check("write makes the image of site S", memcmp(buffer, image, LENGTH) == 0);
+    check("with the width of a handset's record", buffer[30] == 12 && buffer[31] == 0);
     check("write keeps what is past the image",
           untouched(buffer + LENGTH, sizeof buffer - LENGTH, 0xa5));
     check("write leaves the tables as they were",
@@ -452,27 +580,39 @@ static void check_write(const uint8_t *image)
     s.handsets = s.ties = 0;
     s.coordinates_len = s.ends_len = 0;
     check("write makes an image without handsets",
-          write_site(&s, buffer, 32) == 32 && dvg_open(buffer, 32) == 0);
+          write_site(&s, buffer, HEADER) == HEADER && dvg_open(buffer, HEADER) == 0);
+    check("which has the width too", buffer[30] == 12 && buffer[31] == 0);
+    check("DVG_IMAGE is the length of the longest",
+          DVG_IMAGE == HEADER + HANDSET_BYTES * 512 + TIE_BYTES * 4096);
 }
 
 /* Two handsets at the limits and a tie, byte by byte. */
 static void check_write_signs(void)
 {
-    static const uint8_t expected[52] = {
-        2, 0, 1, 0, 32, 0, 0, 0, 48, 0, 0, 0, 52, 0, 0, 0,             /* n, m, both offsets, L */
-        0, 0x80, 0x28, 0xa5, 0x46, 0x07, 0, 0, 0xe7, 3, 0xe8, 3, 0, 2, 0, 0, /* G, p, q, mu */
-        0xc0, 0xbd, 0xf0, 0xff, 0x40, 0x42, 0x0f, 0, /* handset 0 at (-1,000,000, 1,000,000) */
-        0xfd, 0xff, 0xff, 0xff, 2, 1, 0, 0,          /* handset 1 at (-3, 258) */
-        1, 0, 0, 0};                                 /* tie 0: 1 and 0 */
-    static const int32_t coordinates[4] = {-1000000, 1000000, -3, 258};
+    static const uint8_t expected[60] = {
+        2, 0, 1, 0, 32, 0, 0, 0, 56, 0, 0, 0, 60, 0, 0, 0, /* n, m, both offsets, L */
+        0, 0xc0, 0xbc, 0xf7, 0xe9, 0x0a, 0, 0,             /* G */
+        0xe7, 3, 0xe8, 3, 0, 2, 12, 0,                     /* p, q, mu, a record's width */
+        0xc0, 0xbd, 0xf0, 0xff, 0x40, 0x42, 0x0f, 0, 0xc0, 0xbd, 0xf0, 0xff, /* handset 0 */
+        0xfd, 0xff, 0xff, 0xff, 2, 1, 0, 0, 0x40, 0x42, 0x0f, 0,             /* handset 1 */
+        1, 0, 0, 0};                                                         /* tie 0: 1 and 0 */
+    static const int32_t coordinates[6] = {-1000000, 1000000, -1000000, -3, 258, 1000000};
     static const uint16_t ends[2] = {1, 0};
-    uint8_t image[53];
+    uint8_t image[61];
     memset(image, 0xa5, sizeof image);
     check("write takes signs, the largest G, and mu 512",
-          dvg_write(2, 1, UINT64_C(8000000000000), 999, 1000, 512, coordinates, 4, ends, 2, image,
-                    sizeof image) == 52);
-    check("byte by byte", memcmp(image, expected, sizeof expected) == 0 && image[52] == 0xa5);
-    check("open accepts what was written", dvg_open(image, 52) == 2 + 65536);
+          dvg_write(2, 1, MOST_NEAR, 999, 1000, 512, coordinates, 6, ends, 2, image,
+                    sizeof image) == 60);
+    check("byte by byte", memcmp(image, expected, sizeof expected) == 0 && image[60] == 0xa5);
+    check("open accepts what was written", dvg_open(image, 60) == 2 + 65536);
+    memset(image, 0xa5, sizeof image);
+    check("write refuses a larger G",
+          dvg_write(2, 1, MOST_NEAR + 1, 999, 1000, 512, coordinates, 6, ends, 2, image,
+                    sizeof image) == -DVG_THRESHOLDS);
+    check("write refuses x and y alone",
+          dvg_write(2, 1, 0, 999, 1000, 512, coordinates, 4, ends, 2, image, sizeof image) ==
+              -DVG_TABLES);
+    check("and keeps the buffer", untouched(image, sizeof image, 0xa5));
 }
 
 /* The faults are made from the last question's to the first's, and stay: each is found before those of
@@ -481,7 +621,7 @@ static void check_write_refused(void)
 {
     struct numbers s = numbers_of_s();
     check("write refuses a buffer one byte short", write_refuses(&s, LENGTH - 1, DVG_BUFFER_SHORT, 0));
-    check("write refuses less than a header", write_refuses(&s, 31, DVG_BUFFER_SHORT, 0));
+    check("write refuses less than a header", write_refuses(&s, HEADER - 1, DVG_BUFFER_SHORT, 0));
     check("write refuses an empty buffer", write_refuses(&s, 0, DVG_BUFFER_SHORT, 0));
     s.ends[2 * 5] = 1; /* tie 5 is now 1-0, as tie 0 the other way round */
     s.ends[2 * 5 + 1] = 0;
@@ -491,17 +631,25 @@ static void check_write_refused(void)
     check("write refuses a loop", write_refuses(&s, 0, DVG_LOOP, 6));
     s.ends[2 * 7 + 1] = HANDSETS;
     check("write refuses a handset that is not there", write_refuses(&s, 0, DVG_NO_HANDSET, 7));
-    s.coordinates[2 * 6 + 1] = -1000001;
-    check("write refuses a y beyond", write_refuses(&s, 0, DVG_COORDINATE, 6));
-    s.coordinates[2 * 4] = INT32_MIN;
+    s.coordinates[COORDINATES * 6 + 2] = 1000001;
+    check("write refuses a z beyond", write_refuses(&s, 0, DVG_COORDINATE, 6));
+    s.coordinates[COORDINATES * 5 + 1] = -1000001;
+    check("write refuses a y beyond", write_refuses(&s, 0, DVG_COORDINATE, 5));
+    s.coordinates[COORDINATES * 4] = INT32_MIN;
     check("write refuses an x far beyond", write_refuses(&s, 0, DVG_COORDINATE, 4));
     s.ends_len = 2 * TIES - 1;
     check("write refuses half a tie less", write_refuses(&s, 0, DVG_TABLES, 0));
     s.ends_len = 2 * TIES;
-    s.coordinates_len = 2 * HANDSETS + 1;
+    s.coordinates_len = 2 * HANDSETS;
+    check("write refuses x and y alone", write_refuses(&s, 0, DVG_TABLES, 0));
+    s.coordinates_len = COORDINATES * HANDSETS + 1;
     check("write refuses a coordinate too many", write_refuses(&s, 0, DVG_TABLES, 0));
     s.p = 3;
     check("write refuses p above q", write_refuses(&s, 0, DVG_THRESHOLDS, 0));
+    s.p = 1;
+    s.near_squared = MOST_NEAR + 1;
+    check("write refuses a G beyond", write_refuses(&s, 0, DVG_THRESHOLDS, 0));
+    s.near_squared = 0;
     s.p = 65536 + 1;
     check("write refuses a p that no field holds", write_refuses(&s, 0, DVG_THRESHOLDS, 0));
     s.ties = 4097;
@@ -522,9 +670,12 @@ int main(void)
     check_open(image);
     check_report(image);
     check_reach(image);
+    check_width(image);
     check_refused(image);
+    check_limits(image);
     check_plan(image);
     check_roles(image);
+    check_floors(image);
     check_blank_mu(image);
     check_scores(image);
     check_nearest(image);

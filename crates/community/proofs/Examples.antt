@@ -45,4 +45,8 @@ examples = record {
   reach-4 = refl;
   reach-one-end = refl;
   reach-lone = refl;
+  planar-refused = refl;
+  accepted-floors = refl;
+  near-9-floors = refl;
+  apart-8-floors = refl;
 }

@@ -58,7 +58,7 @@ module _ (s t : List ℕ) (r : Renumbered s t) (ok : Accepted s) where
     p = head 2 24 (omega arith) i;
     q = head 2 26 (omega arith) i;
     mu = head 2 28 (omega arith) i;
-    reserved = head 2 30 (omega arith) i;
+    width = head 2 30 (omega arith) i;
   }
 
   pub same-handsets : handsetCount t ≡ handsetCount s

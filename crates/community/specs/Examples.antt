@@ -1,20 +1,28 @@
--- The examples of paper 01 that are theorems of the definitions, marked there with a diamond, as paper 02 changes them, and some of paper 02, order 6, from
--- the images' bytes: one list. The proof is proofs/Examples.
+-- The examples of paper 01 that are theorems of the definitions, marked there with a diamond, as paper 02 changes them, and some of paper 02, orders 6 and 7,
+-- from the images' bytes: one list. Every z of paper 01's is 0. The proof is proofs/Examples.
 --
---     siteS p q m    site S with epsilon p/q and mu m
---     pair G         two handsets, tied, at (0, 0) and (1, 2), with the square G of the near distance
---     pairNeg G      two handsets, tied, at (-1, -1) and (0, 1), with G
---     nobody         no handset
---     lone m         one handset, with mu m
---     seven          the handsets of site S
---     Examples       the theorems
-use Prim.Native.Nat.{ℕ, _/_, _%_}
+--     header n m ..    the 32 bytes of a header: n, m, the two offsets, L, G, p, q, mu, each but p and q below 256, and 12, a handset record's width
+--     small k, minus k the coordinates k and -k in four bytes, for k below 256 and from 1 to 256
+--     position x y z   a handset's record
+--     edgesS           the edges of site S
+--     siteS p q m      site S with epsilon p/q and mu m
+--     planarS           site S with mu 4 as it was written until paper 02, order 7: no z, and zero in bytes 30 and 31
+--     pair G           two handsets, tied, at (0, 0, 0) and (1, 2, 0), with the square G of the near distance
+--     pairNeg G        two handsets, tied, at (-1, -1, 0) and (0, 1, 0), with G
+--     floors G         two handsets, tied, one above the other, at (4, 5, -1) and (4, 5, 2), with G
+--     nobody           no handset
+--     lone m           one handset, with mu m
+--     seven            the handsets of site S
+--     Examples         the theorems
+use Prim.Native.Nat.{ℕ, _-_, _/_, _%_}
 use mathlib.Core.Path.{_≡_}
 use mathlib.Core.Bool.{true, false}
-use mathlib.Core.List.{List, [], _∷_}
+use mathlib.Core.List.{List, [], _∷_, _++_}
+use lib.ListN.{take, replicate}
 use Rattle.image.specs.Image.{headerOf}
 use Rattle.image.specs.Questions.{openOf}
-use Rattle.image.specs.declared.Opened.the-variants.{Site}
+use Rattle.image.specs.Answers.{refusal}
+use Rattle.image.specs.declared.Opened.the-variants.{Site, Refused}
 use Rattle.near.specs.Near.{proximity, olderNeighbour}
 use Rattle.near.specs.declared.Proximity.the-variants.{Near, NotNear}
 use Rattle.community.specs.Network.{neighbourhoodSize, commonNeighbours, similar, cores, communities, role}
@@ -23,20 +31,45 @@ use Rattle.community.specs.Site.{network}
 use Rattle.community.specs.Reach.{reach}
 use Rattle.community.specs.declared.Role.the-variants.{Border, Outlier}
 
+abbrev pub header : ℕ → ℕ → ℕ → ℕ → ℕ → ℕ → ℕ → ℕ → ℕ → List ℕ
+header n m handsets edges len G p q mu =
+    n ∷ 0 ∷ m ∷ 0 ∷ handsets ∷ 0 ∷ 0 ∷ 0 ∷ edges ∷ 0 ∷ 0 ∷ 0 ∷ len ∷ 0 ∷ 0 ∷ 0 ∷ G ∷ 0 ∷ 0 ∷ 0 ∷ 0 ∷ 0 ∷ 0 ∷ 0 ∷ p % 256 ∷ p / 256 ∷ q % 256 ∷ q / 256 ∷ mu ∷ 0
+    ∷ 12 ∷ 0 ∷ []
+
+abbrev pub small : ℕ → List ℕ
+small k = k ∷ 0 ∷ 0 ∷ 0 ∷ []
+
+abbrev pub minus : ℕ → List ℕ
+minus k = (256 - k) ∷ 255 ∷ 255 ∷ 255 ∷ []
+
+abbrev pub position : List ℕ → List ℕ → List ℕ → List ℕ
+position x y z = x ++ (y ++ z)
+
+abbrev pub edgesS : List ℕ
+edgesS = 0 ∷ 0 ∷ 1 ∷ 0 ∷ 0 ∷ 0 ∷ 2 ∷ 0 ∷ 1 ∷ 0 ∷ 2 ∷ 0 ∷ 2 ∷ 0 ∷ 3 ∷ 0 ∷ 3 ∷ 0 ∷ 4 ∷ 0 ∷ 4 ∷ 0 ∷ 5 ∷ 0 ∷ 4 ∷ 0 ∷ 6 ∷ 0 ∷ 5 ∷ 0 ∷ 6 ∷ 0 ∷ []
+
+-- seven records of twelve bytes that are 0
 abbrev pub siteS : ℕ → ℕ → ℕ → List ℕ
-siteS p q m = 7 ∷ 0 ∷ 8 ∷ 0 ∷ 32 ∷ 0 ∷ 0 ∷ 0 ∷ 88 ∷ 0 ∷ 0 ∷ 0 ∷ 120 ∷ 0 ∷ 0 ∷ 0 ∷ 0 ∷ 0 ∷ 0 ∷ 0 ∷ 0 ∷ 0 ∷ 0 ∷ 0 ∷ p % 256 ∷ p / 256 ∷ q % 256 ∷ q / 256 ∷ m ∷ 0 ∷ 0 ∷ 0 ∷ 0 ∷ 0 ∷ 0 ∷ 0 ∷ 0 ∷ 0 ∷ 0 ∷ 0 ∷ 0 ∷ 0 ∷ 0 ∷ 0 ∷ 0 ∷ 0 ∷ 0 ∷ 0 ∷ 0 ∷ 0 ∷ 0 ∷ 0 ∷ 0 ∷ 0 ∷ 0 ∷ 0 ∷ 0 ∷ 0 ∷ 0 ∷ 0 ∷ 0 ∷ 0 ∷ 0 ∷ 0 ∷ 0 ∷ 0 ∷ 0 ∷ 0 ∷ 0 ∷ 0 ∷ 0 ∷ 0 ∷ 0 ∷ 0 ∷ 0 ∷ 0 ∷ 0 ∷ 0 ∷ 0 ∷ 0 ∷ 0 ∷ 0 ∷ 0 ∷ 0 ∷ 0 ∷ 0 ∷ 0 ∷ 0 ∷ 0 ∷ 0 ∷ 1 ∷ 0 ∷ 0 ∷ 0 ∷ 2 ∷ 0 ∷ 1 ∷ 0 ∷ 2 ∷ 0 ∷ 2 ∷ 0 ∷ 3 ∷ 0 ∷ 3 ∷ 0 ∷ 4 ∷ 0 ∷ 4 ∷ 0 ∷ 5 ∷ 0 ∷ 4 ∷ 0 ∷ 6 ∷ 0 ∷ 5 ∷ 0 ∷ 6 ∷ 0 ∷ []
+siteS p q m = header 7 8 32 116 148 0 p q m ++ (replicate 84 0 ++ edgesS)
+
+-- seven records of eight
+abbrev pub planarS : List ℕ
+planarS = take 30 (header 7 8 32 88 120 0 1 2 4) ++ (0 ∷ 0 ∷ replicate 56 0 ++ edgesS)
 
 abbrev pub pair : ℕ → List ℕ
-pair G = 2 ∷ 0 ∷ 1 ∷ 0 ∷ 32 ∷ 0 ∷ 0 ∷ 0 ∷ 48 ∷ 0 ∷ 0 ∷ 0 ∷ 52 ∷ 0 ∷ 0 ∷ 0 ∷ G ∷ 0 ∷ 0 ∷ 0 ∷ 0 ∷ 0 ∷ 0 ∷ 0 ∷ 1 ∷ 0 ∷ 2 ∷ 0 ∷ 3 ∷ 0 ∷ 0 ∷ 0 ∷ 0 ∷ 0 ∷ 0 ∷ 0 ∷ 0 ∷ 0 ∷ 0 ∷ 0 ∷ 1 ∷ 0 ∷ 0 ∷ 0 ∷ 2 ∷ 0 ∷ 0 ∷ 0 ∷ 0 ∷ 0 ∷ 1 ∷ 0 ∷ []
+pair G = header 2 1 32 56 60 G 1 2 3 ++ (position (small 0) (small 0) (small 0) ++ (position (small 1) (small 2) (small 0) ++ (0 ∷ 0 ∷ 1 ∷ 0 ∷ [])))
 
 abbrev pub pairNeg : ℕ → List ℕ
-pairNeg G = 2 ∷ 0 ∷ 1 ∷ 0 ∷ 32 ∷ 0 ∷ 0 ∷ 0 ∷ 48 ∷ 0 ∷ 0 ∷ 0 ∷ 52 ∷ 0 ∷ 0 ∷ 0 ∷ G ∷ 0 ∷ 0 ∷ 0 ∷ 0 ∷ 0 ∷ 0 ∷ 0 ∷ 1 ∷ 0 ∷ 2 ∷ 0 ∷ 3 ∷ 0 ∷ 0 ∷ 0 ∷ 255 ∷ 255 ∷ 255 ∷ 255 ∷ 255 ∷ 255 ∷ 255 ∷ 255 ∷ 0 ∷ 0 ∷ 0 ∷ 0 ∷ 1 ∷ 0 ∷ 0 ∷ 0 ∷ 1 ∷ 0 ∷ 0 ∷ 0 ∷ []
+pairNeg G = header 2 1 32 56 60 G 1 2 3 ++ (position (minus 1) (minus 1) (small 0) ++ (position (small 0) (small 1) (small 0) ++ (1 ∷ 0 ∷ 0 ∷ 0 ∷ [])))
+
+abbrev pub floors : ℕ → List ℕ
+floors G = header 2 1 32 56 60 G 1 2 3 ++ (position (small 4) (small 5) (minus 1) ++ (position (small 4) (small 5) (small 2) ++ (0 ∷ 0 ∷ 1 ∷ 0 ∷ [])))
 
 abbrev pub nobody : List ℕ
-nobody = 0 ∷ 0 ∷ 0 ∷ 0 ∷ 32 ∷ 0 ∷ 0 ∷ 0 ∷ 32 ∷ 0 ∷ 0 ∷ 0 ∷ 32 ∷ 0 ∷ 0 ∷ 0 ∷ 0 ∷ 0 ∷ 0 ∷ 0 ∷ 0 ∷ 0 ∷ 0 ∷ 0 ∷ 1 ∷ 0 ∷ 2 ∷ 0 ∷ 3 ∷ 0 ∷ 0 ∷ 0 ∷ []
+nobody = header 0 0 32 32 32 0 1 2 3
 
 abbrev pub lone : ℕ → List ℕ
-lone m = 1 ∷ 0 ∷ 0 ∷ 0 ∷ 32 ∷ 0 ∷ 0 ∷ 0 ∷ 40 ∷ 0 ∷ 0 ∷ 0 ∷ 40 ∷ 0 ∷ 0 ∷ 0 ∷ 0 ∷ 0 ∷ 0 ∷ 0 ∷ 0 ∷ 0 ∷ 0 ∷ 0 ∷ 1 ∷ 0 ∷ 2 ∷ 0 ∷ m ∷ 0 ∷ 0 ∷ 0 ∷ 0 ∷ 0 ∷ 0 ∷ 0 ∷ 0 ∷ 0 ∷ 0 ∷ 0 ∷ []
+lone m = header 1 0 32 44 44 0 1 2 m ++ position (small 0) (small 0) (small 0)
 
 abbrev pub seven : List ℕ
 seven = 0 ∷ 1 ∷ 2 ∷ 3 ∷ 4 ∷ 5 ∷ 6 ∷ []
@@ -64,7 +97,7 @@ pub record Examples : Type 0 where
   pub size-3 : neighbourhoodSize (network (siteS 577 1000 4)) 3 ≡ 3
   pub similar-577 : similar (network (siteS 577 1000 4)) 2 3 ≡ true
   pub dissimilar-578 : similar (network (siteS 578 1000 4)) 2 3 ≡ false
-  -- tied at (0,0) and (1,2): near at G = 5, not at 4; the same at (-1,-1) and (0,1)
+  -- tied at (0,0,0) and (1,2,0): near at G = 5, not at 4; the same at (-1,-1,0) and (0,1,0)
   pub near-5 : proximity (pair 5) 0 1 ≡ Near 5
   pub apart-4 : proximity (pair 4) 0 1 ≡ NotNear
   pub near-5-negative : proximity (pairNeg 5) 0 1 ≡ Near 5
@@ -85,3 +118,8 @@ pub record Examples : Type 0 where
   pub reach-4 : reach (pair 4) (0 ∷ 1 ∷ []) ≡ NotNear
   pub reach-one-end : reach (pair 5) (1 ∷ []) ≡ NotNear
   pub reach-lone : reach (lone 1) (0 ∷ []) ≡ NotNear
+  -- paper 02, order 7: an image of before is refused with 4; two that differ in z alone are near at the limit, 3², and not one below
+  pub planar-refused : openOf planarS ≡ Refused (refusal 4)
+  pub accepted-floors : openOf (floors 9) ≡ Site (headerOf (floors 9))
+  pub near-9-floors : proximity (floors 9) 0 1 ≡ Near 9
+  pub apart-8-floors : proximity (floors 8) 0 1 ≡ NotNear

@@ -13,7 +13,7 @@ use mathlib.Core.List.{List}
 use lib.ListN.{length, getD}
 use Rattle.sets.specs.Renumbering.{Renumbering}
 use Rattle.fields.specs.Fields.{handsetBytes}
-use Rattle.image.specs.Image.{handsetCount, edgeCount, handsetRecords, edgeRecords, endA, endB}
+use Rattle.image.specs.Image.{headerBytes, handsetCount, edgeCount, handsetRecords, edgeRecords, endA, endB}
 use Rattle.community.specs.declared.Role.{Role}
 use Rattle.community.specs.declared.Role.the-variants.{Core, Border, Outlier}
 
@@ -24,7 +24,7 @@ pub record Renumbered (s t : List ℕ) : Type 0 where
   pub map : Renumbering (handsetCount s)
   pub order : Renumbering (edgeCount s)
   pub same-length : length t ≡ length s
-  pub header : (i : ℕ) → i < 32 → getD t i 0 ≡ getD s i 0
+  pub header : (i : ℕ) → i < headerBytes → getD t i 0 ≡ getD s i 0
   pub records : (v i : ℕ) → v < handsetCount s → i < handsetBytes
       → getD (handsetRecords t) (handsetBytes * map .to v + i) 0 ≡ getD (handsetRecords s) (handsetBytes * v + i) 0
   pub ends : (k : ℕ) → k < edgeCount s

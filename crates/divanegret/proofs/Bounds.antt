@@ -19,9 +19,9 @@ use lib.ListN.{length, getD, drop, length-take, length-drop}
 use Rattle.sets.specs.Below.{any, find, count}
 use Rattle.sets.proofs.Tests.{or-right, decide, find-law, find-none, not-any}
 use Rattle.sets.proofs.Counting.{bit-le, count-le, sum-le, sum-const}
-use Rattle.fields.specs.Fields.{coordinateCount, countsFit, thresholdsFit}
+use Rattle.fields.specs.Fields.{coordinateCount, handsetBytes, countsFit, thresholdsFit}
 use Rattle.image.specs.Image.{headerBytes, headerOf, handsetCount, edgeCount, handsetRecords, edgeRecords, handsetRecord, endA, endB}
-use Rattle.image.specs.Questions.{reservedValue, tablesFit, outOfLimits, badEnd, isLoop, repeatsEarlier, ask, askEach, askEdges, askRecords, askHeader, openOf, Accepted}
+use Rattle.image.specs.Questions.{tablesFit, outOfLimits, badEnd, isLoop, repeatsEarlier, ask, askEach, askEdges, askRecords, askHeader, openOf, Accepted}
 use Rattle.image.specs.Answers.{refusal}
 use Rattle.image.specs.declared.Header.{Header}
 use Rattle.image.specs.declared.Refusal.{Refusal}
@@ -117,7 +117,7 @@ open-small s =
     (λ q2. ask-small (countsFit (h .n) (h .m)) 3 0 _ (omega arith) (omega arith) (omega arith)
     (λ q3.
     let c = counts-limits (h .n) (h .m) q3 in
-    ask-small (eqb (h .reserved) reservedValue) 4 0 _ (omega arith) (omega arith) (omega arith)
+    ask-small (eqb (h .width) handsetBytes) 4 0 _ (omega arith) (omega arith) (omega arith)
     (λ q4. ask-small (thresholdsFit (h .limit) (h .p) (h .q) (h .mu)) 5 0 _ (omega arith) (omega arith) (omega arith)
     (λ q5. ask-small (tablesFit h) 6 0 _ (omega arith) (omega arith) (omega arith)
     (λ q6. records-small (handsetRecords s) (edgeRecords s) h (c .0) (c .1)))))))

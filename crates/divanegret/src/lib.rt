@@ -20,7 +20,7 @@ use schedule::Window;
 // The report of an image, in the text buffer.
 #[no_mangle]
 pub extern "C" fn dvg_report(image: &[u8], text: &mut [u8]) -> i64
-    ensures { λ z. ⌜ (z ≡ reportCode (reportOf (now (image .entry)) (length (now (text .entry))))) × (now (text .exit) ≡ textAfter (now (image .entry)) (now (text .entry))) ⌝ }
+    ensures { λ r. ⌜ (r ≡ reportCode (reportOf (now (image .entry)) (length (now (text .entry))))) × (now (text .exit) ≡ textAfter (now (image .entry)) (now (text .entry))) ⌝ }
 {
     codes::report_code(reporting::report(image, text))
 }
@@ -28,7 +28,7 @@ pub extern "C" fn dvg_report(image: &[u8], text: &mut [u8]) -> i64
 // Questions 1 to 10.
 #[no_mangle]
 pub extern "C" fn dvg_open(image: &[u8]) -> i64
-    ensures { λ z. ⌜ z ≡ openCode (openOf (now (image .entry))) ⌝ }
+    ensures { λ r. ⌜ r ≡ openCode (openOf (now (image .entry))) ⌝ }
 {
     codes::open_code(image::open(image))
 }
@@ -36,7 +36,7 @@ pub extern "C" fn dvg_open(image: &[u8]) -> i64
 // The plan in both tables.
 #[no_mangle]
 pub extern "C" fn dvg_plan(image: &[u8], starts: &mut [u32], members: &mut [u16]) -> i64
-    ensures { λ z. ⌜ (z ≡ planCode (planOf (now (image .entry)) (length (now (starts .entry))) (length (now (members .entry))))) × (now (starts .exit) ≡ startsAfter (now (image .entry)) (now (starts .entry)) (length (now (members .entry)))) × (now (members .exit) ≡ membersAfter (now (image .entry)) (length (now (starts .entry))) (now (members .entry))) ⌝ }
+    ensures { λ r. ⌜ (r ≡ planCode (planOf (now (image .entry)) (length (now (starts .entry))) (length (now (members .entry))))) × (now (starts .exit) ≡ startsAfter (now (image .entry)) (now (starts .entry)) (length (now (members .entry)))) × (now (members .exit) ≡ membersAfter (now (image .entry)) (length (now (starts .entry))) (now (members .entry))) ⌝ }
 {
     codes::plan_code(planner::plan(image, starts, members))
 }
@@ -44,7 +44,7 @@ pub extern "C" fn dvg_plan(image: &[u8], starts: &mut [u32], members: &mut [u16]
 // The role of a handset.
 #[no_mangle]
 pub extern "C" fn dvg_role(image: &[u8], handset: usize) -> i64
-    ensures { λ z. ⌜ z ≡ roleCode (knownOf (now (image .entry)) handset) ⌝ }
+    ensures { λ r. ⌜ r ≡ roleCode (knownOf (now (image .entry)) handset) ⌝ }
 {
     codes::role_code(planner::role(image, handset))
 }
@@ -52,7 +52,7 @@ pub extern "C" fn dvg_role(image: &[u8], handset: usize) -> i64
 // s, t and o of a list.
 #[no_mangle]
 pub extern "C" fn dvg_scores(image: &[u8], list: &[u16]) -> i64
-    ensures { λ z. ⌜ z ≡ tallyCode (talliedOf (now (image .entry)) (now (list .entry))) ⌝ }
+    ensures { λ r. ⌜ r ≡ tallyCode (talliedOf (now (image .entry)) (now (list .entry))) ⌝ }
 {
     codes::tally_code(scores::tally_list(image, list))
 }
@@ -60,7 +60,7 @@ pub extern "C" fn dvg_scores(image: &[u8], list: &[u16]) -> i64
 // The count of members of group k.
 #[no_mangle]
 pub extern "C" fn dvg_members(starts: &[u32], members: &[u16], k: usize) -> i64
-    ensures { λ z. ⌜ z ≡ lookedCode (lookedOf (now (starts .entry)) (now (members .entry)) k) ⌝ }
+    ensures { λ r. ⌜ r ≡ lookedCode (lookedOf (now (starts .entry)) (now (members .entry)) k) ⌝ }
 {
     codes::looked_code(lookup::find_group(starts, members, k))
 }
@@ -80,7 +80,7 @@ pub extern "C" fn dvg_members_at(
     restday_starts: &[u32],
     restday_members: &[u16],
 ) -> i64
-    ensures { λ z. ⌜ z ≡ scheduledCode (scheduledOf (choiceOf (record { year = year; month = month; day = day; minute = minute }) (record { opening = opening; closing = closing })) (lookedOf (now («workday_starts» .entry)) (now («workday_members» .entry)) k) (lookedOf (now («restday_starts» .entry)) (now («restday_members» .entry)) k)) ⌝ }
+    ensures { λ r. ⌜ r ≡ scheduledCode (scheduledOf (choiceOf (record { year = year; month = month; day = day; minute = minute }) (record { opening = opening; closing = closing })) (lookedOf (now («workday_starts» .entry)) (now («workday_members» .entry)) k) (lookedOf (now («restday_starts» .entry)) (now («restday_members» .entry)) k)) ⌝ }
 {
     let time = Time {
         year: year,
@@ -105,10 +105,10 @@ pub extern "C" fn dvg_members_at(
 
 // The group nearest to a point.
 #[no_mangle]
-pub extern "C" fn dvg_nearest(image: &[u8], x: i32, y: i32) -> i64
-    ensures { λ z. ⌜ z ≡ nearestCode (nearestOf (now (image .entry)) (x ∷ y ∷ [])) ⌝ }
+pub extern "C" fn dvg_nearest(image: &[u8], x: i32, y: i32, z: i32) -> i64
+    ensures { λ r. ⌜ r ≡ nearestCode (nearestOf (now (image .entry)) (x ∷ y ∷ z ∷ [])) ⌝ }
 {
-    codes::nearest_code(nearest::nearest_group(image, x, y))
+    codes::nearest_code(nearest::nearest_group(image, x, y, z))
 }
 
 // The image of a site, written into the buffer.
@@ -124,7 +124,7 @@ pub extern "C" fn dvg_write(
     ends: &[u16],
     buffer: &mut [u8],
 ) -> i64
-    ensures { λ z. ⌜ (z ≡ encodedCode (encodedOf (record { n = n; m = m; limit = limit; p = p; q = q; mu = mu }) (now (coordinates .entry)) (now (ends .entry)) (length (now (buffer .entry))))) × (now (buffer .exit) ≡ bufferAfter (record { n = n; m = m; limit = limit; p = p; q = q; mu = mu }) (now (coordinates .entry)) (now (ends .entry)) (now (buffer .entry))) ⌝ }
+    ensures { λ r. ⌜ (r ≡ encodedCode (encodedOf (record { n = n; m = m; limit = limit; p = p; q = q; mu = mu }) (now (coordinates .entry)) (now (ends .entry)) (length (now (buffer .entry))))) × (now (buffer .exit) ≡ bufferAfter (record { n = n; m = m; limit = limit; p = p; q = q; mu = mu }) (now (coordinates .entry)) (now (ends .entry)) (now (buffer .entry))) ⌝ }
 {
     let x = Parameters {
         n: n,

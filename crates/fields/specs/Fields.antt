@@ -1,7 +1,7 @@
 -- What the fields of the image mean (paper 01, "The site image"), how many bytes a record has, and the limits of coordinates, counts and thresholds.
 --
 --     coordinateBytes    how many bytes a coordinate has
---     coordinateCount    how many coordinates a handset has
+--     coordinateCount    how many coordinates a handset has: x and y in paper 01, x, y and z since paper 02, order 7
 --     handsetBytes       how many bytes a handset's record has
 --     endBytes           how many bytes an end has
 --     endCount           how many ends an edge has
@@ -13,7 +13,7 @@
 --     inLimits x         a coordinate, plus 2 ^ 31, is from -1,000,000 to 1,000,000 (image/specs/Signed: exactly when the signed number is)
 --     gap a b            how far apart two numbers are
 --     endsOf r           the two ends of an edge, from its record
---     limitSquaredMost   the most that G may be
+--     limitSquaredMost   the most that G may be (paper 02, order 7)
 --     handsetsMost       the most handsets, and edgesMost the most edges, that a site may have
 --     countsFit n m      question 3: the counts of handsets and edges are within their limits
 --     thresholdsFit ..   question 5: so are G, p, q and mu
@@ -28,7 +28,7 @@ abbrev pub coordinateBytes : ℕ
 coordinateBytes = 4
 
 abbrev pub coordinateCount : ℕ
-coordinateCount = 2
+coordinateCount = 3
 
 abbrev pub handsetBytes : ℕ
 handsetBytes = coordinateBytes * coordinateCount
@@ -69,7 +69,7 @@ unfolding number
 endsOf r = record { a = number endBytes r 0; b = number endBytes r endBytes }
 
 abbrev pub limitSquaredMost : ℕ
-limitSquaredMost = 8000000000000
+limitSquaredMost = 12000000000000
 
 abbrev pub handsetsMost : ℕ
 handsetsMost = 512

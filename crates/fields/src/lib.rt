@@ -9,8 +9,8 @@ ghost use Rattle.fields.specs.Fields.{coordinateBytes, coreSize, shifted
 // How many bytes a coordinate has.
 pub const COORDINATE_BYTES: usize = 4;
 
-// How many coordinates a handset's record has, and how many bytes that makes.
-pub const COORDINATES: usize = 2;
+// How many coordinates a handset's record has, x, y and z, and how many bytes that makes, the record's width.
+pub const COORDINATES: usize = 3;
 
 pub const HANDSET_BYTES: usize = COORDINATE_BYTES * COORDINATES;
 
@@ -30,7 +30,7 @@ pub const HANDSETS_MOST: usize = 512;
 pub const EDGES_MOST: usize = 4096;
 
 // The most that G, the square of the near distance, may be.
-pub const LIMIT_SQUARED_MOST: u64 = 8000000000000;
+pub const LIMIT_SQUARED_MOST: u64 = 12000000000000;
 
 // What a blank mu, 0, means.
 const BLANK_MU: u16 = 4;

@@ -26,7 +26,7 @@ use Rattle.sets.specs.Below.{any}
 use Rattle.sets.proofs.Tests.{and-left, and-right, or-cases, any-none, none-any, eqb-of}
 use Rattle.fields.specs.Fields.{coordinateCount, handsetBytes, edgeBytes, coordinateLimit, inLimits, limitSquaredMost, countsFit, thresholdsFit}
 use Rattle.image.specs.Image.{headerBytes, headerOf, handsetCount, edgeCount, handsetRecords, edgeRecords, handsetRecord, coordinateOf, endA, endB}
-use Rattle.image.specs.Questions.{reservedValue, tablesFit, outOfLimits, badEnd, isLoop, repeatsEarlier, ask, askEach, askEdges, askRecords, askHeader, askImage, openOf, HeaderAccepted, Accepted}
+use Rattle.image.specs.Questions.{tablesFit, outOfLimits, badEnd, isLoop, repeatsEarlier, ask, askEach, askEdges, askRecords, askHeader, askImage, openOf, HeaderAccepted, Accepted}
 use Rattle.image.specs.Acceptance.{Acceptance}
 use Rattle.image.specs.declared.Header.{Header}
 use Rattle.image.specs.declared.Refusal.{Refusal}
@@ -73,7 +73,7 @@ module _ (s : List ℕ) (next : Opened) where
       let a1 = pass (leb 32 (length s)) _ _ _ e in
       let a2 = pass (eqb (headerOf s .len) (length s)) _ _ _ (a1 .1) in
       let a3 = pass (countsFit (headerOf s .n) (headerOf s .m)) _ _ _ (a2 .1) in
-      let a4 = pass (eqb (headerOf s .reserved) reservedValue) _ _ _ (a3 .1) in
+      let a4 = pass (eqb (headerOf s .width) handsetBytes) _ _ _ (a3 .1) in
       let a5 = pass (thresholdsFit (headerOf s .limit) (headerOf s .p) (headerOf s .q) (headerOf s .mu)) _ _ _ (a4 .1) in
       let a6 = pass (tablesFit (headerOf s)) _ _ _ (a5 .1) in
       (record { q1 = a1 .0; q2 = a2 .0; q3 = a3 .0; q4 = a4 .0; q5 = a5 .0; q6 = a6 .0 }, a6 .1)
@@ -85,7 +85,7 @@ module _ (s : List ℕ) (next : Opened) where
       go-on (leb 32 (length s)) _ _ _ (a .q1)
       ∙ go-on (eqb (headerOf s .len) (length s)) _ _ _ (a .q2)
       ∙ go-on (countsFit (headerOf s .n) (headerOf s .m)) _ _ _ (a .q3)
-      ∙ go-on (eqb (headerOf s .reserved) reservedValue) _ _ _ (a .q4)
+      ∙ go-on (eqb (headerOf s .width) handsetBytes) _ _ _ (a .q4)
       ∙ go-on (thresholdsFit (headerOf s .limit) (headerOf s .p) (headerOf s .q) (headerOf s .mu)) _ _ _ (a .q5)
       ∙ go-on (tablesFit (headerOf s)) _ _ _ (a .q6)
 
@@ -199,7 +199,7 @@ header-no s r e =
     stop (leb 32 (length s)) _ _ _ _
     (stop (eqb (headerOf s .len) (length s)) _ _ _ _
     (stop (countsFit (headerOf s .n) (headerOf s .m)) _ _ _ _
-    (stop (eqb (headerOf s .reserved) reservedValue) _ _ _ _
+    (stop (eqb (headerOf s .width) handsetBytes) _ _ _ _
     (stop (thresholdsFit (headerOf s .limit) (headerOf s .p) (headerOf s .q) (headerOf s .mu)) _ _ _ _
     (stop (tablesFit (headerOf s)) _ _ (Site (headerOf s)) _ (λ z. let w : _≡_ {A = ℕ} 0 1 = cc in absurd (omega arith))))))) e
 

@@ -41,7 +41,7 @@ open-same (Site h) (Site g) e =
       p = getD l 6 0;
       q = getD l 7 0;
       mu = getD l 8 0;
-      reserved = getD l 9 0;
+      width = getD l 9 0;
     }
 open-same (Site h) (Refused r) e = given-refused _ _ r e
 open-same (Refused r) (Site h) e = given-refused _ _ r (sym e)

@@ -2,6 +2,7 @@ pub mod Answers
 pub mod Records
 pub mod Acceptance
 pub mod Signed
+pub mod Planar
 pub mod Scanning
 pub mod Rows
 pub mod Edges

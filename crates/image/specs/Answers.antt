@@ -29,7 +29,7 @@ abbrev pub given : List ℕ → Answer
 given vs = record { number = 0; place = 0; values = vs }
 
 abbrev pub openAnswer : Opened → Answer
-openAnswer (Site h) = given (h .n ∷ h .m ∷ h .handsets ∷ h .edges ∷ h .len ∷ h .limit ∷ h .p ∷ h .q ∷ h .mu ∷ h .reserved ∷ [])
+openAnswer (Site h) = given (h .n ∷ h .m ∷ h .handsets ∷ h .edges ∷ h .len ∷ h .limit ∷ h .p ∷ h .q ∷ h .mu ∷ h .width ∷ [])
 openAnswer (Refused r) = refused r
 
 abbrev pub Injective : {A B : Type 0} → (A → B) → Type 0

@@ -3,5 +3,6 @@ pub mod Questions
 pub mod Acceptance
 pub mod Signed
 pub mod Answers
+pub mod Planar
 pub mod Rows
 pub mod Scan

@@ -1,13 +1,13 @@
 -- The ten questions put to an image (paper 01, "Questions put to an image"), and the reader's answer.
 --
---     reservedValue            what the reserved bytes, 30 and 31, hold
 --     tablesFit h              question 6: the two tables lie past the header and within the image, and do not overlap
 --     outOfLimits r            question 7 gets a no for a handset's record: some coordinate is out of its limits
 --     badEnd part n k          question 8 gets a no for edge k: an end is no handset
 --     isLoop part k            question 9 gets a no: its two ends are the same
 --     repeatsEarlier part k    question 10 gets a no: it joins what an earlier edge joins
 --     ask, askEach             a question, and a question to each record: a yes goes on, a no is the refusal
---     askImage, askHeader      questions 1 to 6 and 3 to 6, in their order; 3 and 5 are in fields/specs/Fields
+--     askImage, askHeader      questions 1 to 6 and 3 to 6, in their order; 3 and 5 are in fields/specs/Fields, and 4 asks whether bytes 30 and 31 hold the width
+--                              of a handset's record (paper 02, order 7)
 --     askRecords, askEdges     questions 7 to 10 and 8 to 10
 --     openOf s                 the questions in the paper's order, each of the whole image before the next: the header, or the number and
 --                              place of the first no
@@ -26,9 +26,6 @@ use Rattle.image.specs.declared.Header.{Header}
 use Rattle.image.specs.declared.Refusal.{Refusal}
 use Rattle.image.specs.declared.Opened.{Opened}
 use Rattle.image.specs.declared.Opened.the-variants.{Site, Refused}
-
-abbrev pub reservedValue : ℕ
-reservedValue = 0
 
 abbrev pub tablesFit : Header → Bool
 tablesFit h =
@@ -80,7 +77,7 @@ unfoldable pub askHeader : Header → Opened → Opened
 unfolding ask
 askHeader h next =
     ask (countsFit (h .n) (h .m)) 3 0
-    (ask (eqb (h .reserved) reservedValue) 4 0
+    (ask (eqb (h .width) handsetBytes) 4 0
     (ask (thresholdsFit (h .limit) (h .p) (h .q) (h .mu)) 5 0
     (ask (tablesFit h) 6 0
     next)))
@@ -106,7 +103,7 @@ pub record HeaderAccepted (s : List ℕ) : Type 0 where
   pub q1 : T (leb headerBytes (length s))
   pub q2 : T (eqb (headerOf s .len) (length s))
   pub q3 : T (countsFit (headerOf s .n) (headerOf s .m))
-  pub q4 : T (eqb (headerOf s .reserved) reservedValue)
+  pub q4 : T (eqb (headerOf s .width) handsetBytes)
   pub q5 : T (thresholdsFit (headerOf s .limit) (headerOf s .p) (headerOf s .q) (headerOf s .mu))
   pub q6 : T (tablesFit (headerOf s))
 

@@ -22,10 +22,7 @@ ghost use Rattle.image.specs.Scan.{badRecord, Stand, linked, Added};
 // How many bytes the header has.
 pub const HEADER_BYTES: usize = 32;
 
-// What the reserved bytes, 30 and 31, hold.
-pub const RESERVED: u16 = 0;
-
-// The header's numbers as they stand: `limit` is G, and a blank `mu` is still 0 (`fields::core_size`).
+// The header's numbers as they stand: `limit` is G, a blank `mu` is still 0 (`fields::core_size`), and `width` is that of a handset's record.
 pub struct Header {
     pub n: u16,
     pub m: u16,
@@ -36,7 +33,7 @@ pub struct Header {
     pub p: u16,
     pub q: u16,
     pub mu: u16,
-    pub reserved: u16,
+    pub width: u16,
 }
 
 // The paper's number and place.
@@ -65,7 +62,7 @@ fn read_header(s: &[u8]) -> Header
         p: bytes::read2(s, 24),
         q: bytes::read2(s, 26),
         mu: bytes::read2(s, 28),
-        reserved: bytes::read2(s, 30),
+        width: bytes::read2(s, 30),
     }
 }
 
@@ -104,7 +101,7 @@ fn ask_header(h: Header) -> Opened
     let q6 = put_question(tables_fit(h), 6, 0, Opened::Site(h));
     let thresholds = fields::thresholds_fit(h.limit, h.p as u64, h.q as u64, h.mu as u64);
     let q5 = put_question(thresholds, 5, 0, q6);
-    let q4 = put_question(h.reserved == RESERVED, 4, 0, q5);
+    let q4 = put_question(h.width as usize == fields::HANDSET_BYTES, 4, 0, q5);
     put_question(fields::counts_fit(h.n as u64, h.m as u64), 3, 0, q4)
 }
 

@@ -22,7 +22,7 @@ use Rattle.bytes.specs.Bytes.{number, leBytes, Below}
 use Rattle.bytes.proofs.Writing.{le-bytes-below, append-below, table-bytes-below, number-at, length-table-bytes}
 use Rattle.fields.specs.Fields.{coordinateBytes, coordinateCount, handsetBytes, endBytes, endCount, edgeBytes, countsFit, thresholdsFit}
 use Rattle.image.specs.Image.{headerBytes, headerOf, handsetRecords, edgeRecords}
-use Rattle.image.specs.Questions.{reservedValue, tablesFit, askRecords, openOf, HeaderAccepted}
+use Rattle.image.specs.Questions.{tablesFit, askRecords, openOf, HeaderAccepted}
 use Rattle.image.specs.declared.Header.{Header}
 use Rattle.image.proofs.Acceptance.{fits, go-on-header}
 use Rattle.layout.specs.Layout.{headerFor, headerPart, word32, handsetPart, edgePart, imageOf, lengthsFit}
@@ -49,7 +49,7 @@ module _ (x : Parameters) (coords : List ℤ) (ends : List ℕ) where
   pub image-below : Below 256 image
   unfolding imageOf headerPart
   image-below =
-      let l9 : List ℕ = leBytes 2 (h .reserved) in
+      let l9 : List ℕ = leBytes 2 (h .width) in
       let l8 : List ℕ = leBytes 2 (h .mu) ++ l9 in
       let l7 : List ℕ = leBytes 2 (h .q) ++ l8 in
       let l6 : List ℕ = leBytes 2 (h .p) ++ l7 in
@@ -60,7 +60,7 @@ module _ (x : Parameters) (coords : List ℤ) (ends : List ℕ) where
       let l1 : List ℕ = leBytes 2 (h .m) ++ l2 in
       append-below 256 (leBytes 2 (h .n) ++ l1) (handsetPart coords ++ edgePart ends)
       (put 2 (h .n) l1 (put 2 (h .m) l2 (put 4 (h .handsets) l3 (put 4 (h .edges) l4 (put 4 (h .len) l5 (put 8 (h .limit) l6 (put 2 (h .p) l7 (put 2 (h .q) l8
-      (put 2 (h .mu) l9 (le-bytes-below 2 (h .reserved)))))))))))
+      (put 2 (h .mu) l9 (le-bytes-below 2 (h .width)))))))))))
       (append-below 256 (handsetPart coords) (edgePart ends) (table-bytes-below coordinateBytes (map word32 coords)) (table-bytes-below endBytes ends))
     where
       put : (w v : ℕ) (rest : List ℕ) → Below 256 rest → Below 256 (leBytes w v ++ rest)
@@ -117,7 +117,7 @@ module _ (x : Parameters) (coords : List ℤ) (ends : List ℕ) (ok : Asked x co
         p = read 2 (x .p) 24 _ (omega (arith, f .p-q, f .q-limit)) (omega arith) refl i;
         q = read 2 (x .q) 26 _ (omega (arith, f .q-limit)) (omega arith) refl i;
         mu = read 2 (x .mu) 28 _ (omega (arith, f .mu-limit)) (omega arith) refl i;
-        reserved = read 2 (made .reserved) 30 _ (omega arith) (omega arith) refl i;
+        width = read 2 (made .width) 30 _ (omega arith) (omega arith) refl i;
       }
 
   handsets-long : length (handsetPart coords) ≡ handsetBytes * x .n
@@ -149,7 +149,7 @@ module _ (x : Parameters) (coords : List ℤ) (ends : List ℕ) (ok : Asked x co
         q1 = le→leb headerBytes (length image) (omega (arith, asked-length));
         q2 = eqb-of (headerOf image .len) (length image) (ap (λ (g : Header). g .len) header-read ∙ sym asked-length);
         q3 = subst (λ (g : Header). T (countsFit (g .n) (g .m))) (sym header-read) (ok .q3);
-        q4 = eqb-of (headerOf image .reserved) reservedValue (ap (λ (g : Header). g .reserved) header-read);
+        q4 = eqb-of (headerOf image .width) handsetBytes (ap (λ (g : Header). g .width) header-read);
         q5 = subst (λ (g : Header). T (thresholdsFit (g .limit) (g .p) (g .q) (g .mu))) (sym header-read) (ok .q5);
         q6 = subst (λ (g : Header). T (tablesFit g)) (sym header-read) (tables-fit x);
       }

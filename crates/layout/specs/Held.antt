@@ -2,14 +2,13 @@
 -- The two halves of the header, as two functions write them, and the length of the writer's draft.
 --
 --     countsPart n m ..      the first half: the counts, where the records of handsets and of edges begin, and the length
---     thresholdsPart G ..    the second half: G, p, q, mu and the reserved bytes
+--     thresholdsPart G ..    the second half: G, p, q, mu and the width of a handset's record
 --     imageMost              the length of the longest image
 use Prim.Native.Nat.{ℕ, _+_, _*_}
 use mathlib.Core.List.{List, _++_}
 use Rattle.bytes.specs.Bytes.{leBytes}
 use Rattle.fields.specs.Fields.{handsetBytes, edgeBytes, handsetsMost, edgesMost}
 use Rattle.image.specs.Image.{headerBytes}
-use Rattle.image.specs.Questions.{reservedValue}
 
 unfoldable pub countsPart : ℕ → ℕ → ℕ → ℕ → List ℕ
 unfolding leBytes
@@ -17,7 +16,7 @@ countsPart n m edges len = leBytes 2 n ++ (leBytes 2 m ++ (leBytes 4 headerBytes
 
 unfoldable pub thresholdsPart : ℕ → ℕ → ℕ → ℕ → List ℕ
 unfolding leBytes
-thresholdsPart limit p q mu = leBytes 8 limit ++ (leBytes 2 p ++ (leBytes 2 q ++ (leBytes 2 mu ++ leBytes 2 reservedValue)))
+thresholdsPart limit p q mu = leBytes 8 limit ++ (leBytes 2 p ++ (leBytes 2 q ++ (leBytes 2 mu ++ leBytes 2 handsetBytes)))
 
 abbrev pub imageMost : ℕ
 imageMost = headerBytes + handsetBytes * handsetsMost + edgeBytes * edgesMost

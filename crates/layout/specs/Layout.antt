@@ -3,8 +3,8 @@
 --
 --     headerFor x             the header of the parameters x: n, m, G, p, q and mu as given, a blank mu left blank
 --     headerPart h            the bytes of a header
---     word32 z                a signed number of 32 bits as the number in its bytes, two's complement
---     handsetPart coords      the handset records of a coordinate table, which has the coordinates of each handset in turn: x, then y
+--     word32 c                a signed number of 32 bits as the number in its bytes, two's complement
+--     handsetPart coords      the handset records of a coordinate table, which has the coordinates of each handset in turn: x, then y, then z
 --     edgePart ends           the edge records of a table that has the two ends of each edge in turn (paper 02: the tie table)
 --     imageOf x coords ends   the whole image
 --     lengthsFit x a b        question 6 of the writer: tables of a coordinates and b ends have just the numbers that n handsets and m edges need
@@ -28,7 +28,7 @@ use Rattle.bytes.specs.Bytes.{leBytes, tableBytes, Below}
 use Rattle.fields.specs.Fields.{coordinateBytes, coordinateCount, handsetBytes, endBytes, endCount, edgeBytes, countsFit}
 use Rattle.image.specs.Image.{headerBytes, handsetRecord, coordinateOf, endA, endB}
 use Rattle.image.specs.Signed.{raised, withinLimits}
-use Rattle.image.specs.Questions.{reservedValue, outOfLimits}
+use Rattle.image.specs.Questions.{outOfLimits}
 use Rattle.image.specs.declared.Header.{Header}
 use Rattle.layout.specs.declared.Parameters.{Parameters}
 
@@ -43,14 +43,14 @@ headerFor x = record {
   p = x .p;
   q = x .q;
   mu = x .mu;
-  reserved = reservedValue;
+  width = handsetBytes;
 }
 
 unfoldable pub headerPart : Header → List ℕ
 unfolding leBytes
 headerPart h =
     leBytes 2 (h .n) ++ (leBytes 2 (h .m) ++ (leBytes 4 (h .handsets) ++ (leBytes 4 (h .edges) ++ (leBytes 4 (h .len) ++ (leBytes 8 (h .limit)
-    ++ (leBytes 2 (h .p) ++ (leBytes 2 (h .q) ++ (leBytes 2 (h .mu) ++ leBytes 2 (h .reserved)))))))))
+    ++ (leBytes 2 (h .p) ++ (leBytes 2 (h .q) ++ (leBytes 2 (h .mu) ++ leBytes 2 (h .width)))))))))
 
 unfoldable pub word32 : ℤ → ℕ
 word32 (pos x) = x

@@ -55,7 +55,7 @@ fn put_counts(s: &mut [u8], n: u64, m: u64, edges: u64, len: u64)
     bytes::write(s, 12, 4, len);
 }
 
-// Writes the thresholds and the reserved bytes: the second half of the header.
+// Writes the thresholds and the width of a handset's record: the second half of the header.
 fn put_thresholds(s: &mut [u8], limit: u64, p: u64, q: u64, mu: u64)
     requires { ⌜ headerBytes ≤ length (now s) ⌝ }
     ensures { λ _. ⌜ now (s .exit) ≡ sets (now (s .entry)) 16 (thresholdsPart limit p q mu) ⌝ }
@@ -64,7 +64,7 @@ fn put_thresholds(s: &mut [u8], limit: u64, p: u64, q: u64, mu: u64)
     bytes::write(s, 24, 2, p);
     bytes::write(s, 26, 2, q);
     bytes::write(s, 28, 2, mu);
-    bytes::write(s, 30, 2, image::RESERVED as u64);
+    bytes::write(s, 30, 2, fields::HANDSET_BYTES as u64);
 }
 
 // Writes the coordinates of the handsets, one after the other, directly after the header.

@@ -1,11 +1,12 @@
--- The near test of two handsets (paper 01, "Near, alike, core"; paper 02, order 6): near with the squared distance, or not near.
+-- The near test of two handsets (paper 01, "Near, alike, core"; paper 02, orders 6 and 7): near with the squared distance, or not near.
 --
 --     proximityOf a b limit    the test by the records of two handsets: near where their squared distance is at most the limit
 --     proximity s u v          the test of two handsets of an image: a handset is near itself at 0, those that are adjacent are tested by their records
 --                              and G, and no others are near
 --     isNear x                 the test answers near
 --     neighbour s u v          u and v are neighbours: their test answers near (the paper: near)
---     olderNeighbour s u v     the older near test, which told no distance (paper 01): u is v, or they are adjacent and no farther apart than gamma
+--     olderNeighbour s u v     the near test until order 6, which told no distance, over the positions of today: u is v, or they are adjacent and no farther
+--                              apart than gamma
 --     proximityAnswer x        the answer's values: 1 and the squared distance, or 0 twice where it is not near
 --     OneAnswer                the theorem: the values leave nothing of the answer free (proved in proofs/Near, as is NearTest)
 --     NearTest                 the theorems: what the test answers, and that it answers near exactly when the older one did

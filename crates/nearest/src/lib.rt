@@ -68,13 +68,13 @@ fn find_nearest<'a>(
 }
 
 // The nearest group of an accepted image with the header h. Its plan fits the two tables, so that it is never refused.
-fn nearest_site(image: &[u8], h: Header, x: i32, y: i32) -> Nearest
-    requires { ⌜ PointHeld (now image) h (x ∷ y ∷ []) ⌝ }
-    ensures { λ r. ⌜ r ≡ nearestOf (now (image .entry)) (x ∷ y ∷ []) ⌝ }
+fn nearest_site(image: &[u8], h: Header, x: i32, y: i32, z: i32) -> Nearest
+    requires { ⌜ PointHeld (now image) h (x ∷ y ∷ z ∷ []) ⌝ }
+    ensures { λ r. ⌜ r ≡ nearestOf (now (image .entry)) (x ∷ y ∷ z ∷ []) ⌝ }
 {
     let a = h.handsets as usize;
     let b = a + fields::HANDSET_BYTES * (h.n as usize);
-    let point = points::raise_point(x, y);
+    let point = points::raise_point(x, y, z);
     let mut starts = [0u32; 513];
     let mut members = [0u16; 8704];
     let planned = planner::plan(image, &mut starts, &mut members);
@@ -86,17 +86,17 @@ fn nearest_site(image: &[u8], h: Header, x: i32, y: i32) -> Nearest
     }
 }
 
-// The group that stands nearest to the point x, y, and the squared distance of its nearest member; of groups at the same distance the lowest. A refused
+// The group that stands nearest to the point x, y, z, and the squared distance of its nearest member; of groups at the same distance the lowest. A refused
 // image ends the call with its refusal, a point out of the limits with 17.
-pub fn nearest_group(image: &[u8], x: i32, y: i32) -> Nearest
-    ensures { λ r. ⌜ nearestAnswer r ≡ nearestAnswer (nearestOf (now (image .entry)) (x ∷ y ∷ [])) ⌝ }
+pub fn nearest_group(image: &[u8], x: i32, y: i32, z: i32) -> Nearest
+    ensures { λ r. ⌜ nearestAnswer r ≡ nearestAnswer (nearestOf (now (image .entry)) (x ∷ y ∷ z ∷ [])) ⌝ }
 {
     let opened = image::open(image);
     let Opened::Site(h) = opened else {
         return Nearest::Refused(image::refusal_of(opened));
     };
-    if points::in_limits(x, y) {
-        return nearest_site(image, h, x, y);
+    if points::in_limits(x, y, z) {
+        return nearest_site(image, h, x, y, z);
     }
     Nearest::Refused(Refusal {
         number: 17,

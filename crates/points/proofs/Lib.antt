@@ -1,3 +1,4 @@
+pub mod Handed
 pub mod Limits
 pub mod Distances
 pub mod Signed

@@ -1,9 +1,9 @@
--- A point of the site (paper 02, order 2: a spot), as the list of its signed coordinates: x, then y.
+-- A point of the site (paper 02, order 2: a spot), as the list of its signed coordinates: x, y, z.
 --
 --     pointInLimits p            question 17: every coordinate is from -1,000,000 to 1,000,000
 --     distanceFrom q r           the squared distance from a point to a handset, by the point's coordinates plus 2 ^ 31 and the handset's record
 --     distanceTo s p v           the squared distance from the point p to handset v of the image s
---     signedDistanceTo s p v     the same with signed numbers: dx² + dy²
+--     signedDistanceTo s p v     the same with signed numbers: dx² + dy² + dz²
 --     SignedPoint                the theorem: for every list of bytes and every point within the limits, the two are the same (proved in proofs/Signed)
 use Prim.Native.Nat.{ℕ}
 use mathlib.Core.Path.{_≡_}
@@ -19,7 +19,7 @@ use Rattle.image.specs.Signed.{raised, withinLimits, signedCoordinate, signedAp
 
 abbrev pub pointInLimits : List ℤ → Bool
 pointInLimits [] = true
-pointInLimits (z ∷ p) = withinLimits z && pointInLimits p
+pointInLimits (c ∷ p) = withinLimits c && pointInLimits p
 
 unfoldable pub distanceFrom : List ℕ → List ℕ → ℕ
 unfolding sum coordinateOf

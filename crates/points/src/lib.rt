@@ -1,4 +1,4 @@
-// A point of the site, such as a berth: two signed coordinates, question 17, and the squared distance to a handset.
+// A point of the site, such as a berth: three signed coordinates, question 17, and the squared distance to a handset.
 //
 // The definitions are in specs/Points. Each coordinate is taken plus 2 ^ 31, as the image's are, so that the distance is computed with numbers that are never
 // negative; callers cite proofs/Distances, where the distance is exact for a point and a handset within the limits.
@@ -16,18 +16,18 @@ pub fn raise(x: i32) -> u32
     (x as i64 + 2147483648) as u32
 }
 
-// Question 17: whether both coordinates of a point are within the limits.
-pub fn in_limits(x: i32, y: i32) -> bool
-    ensures { λ r. ⌜ r ≡ pointInLimits (x ∷ y ∷ []) ⌝ }
+// Question 17: whether every coordinate of a point is within the limits.
+pub fn in_limits(x: i32, y: i32, z: i32) -> bool
+    ensures { λ r. ⌜ r ≡ pointInLimits (x ∷ y ∷ z ∷ []) ⌝ }
 {
-    fields::in_limits(raise(x)) & fields::in_limits(raise(y))
+    fields::in_limits(raise(x)) & (fields::in_limits(raise(y)) & fields::in_limits(raise(z)))
 }
 
 // The coordinates of a point, each plus 2 ^ 31.
-pub fn raise_point(x: i32, y: i32) -> [u32; fields::COORDINATES]
-    ensures { λ r. ⌜ r ≡ raised x ∷ raised y ∷ [] ⌝ }
+pub fn raise_point(x: i32, y: i32, z: i32) -> [u32; fields::COORDINATES]
+    ensures { λ r. ⌜ r ≡ raised x ∷ raised y ∷ raised z ∷ [] ⌝ }
 {
-    [raise(x), raise(y)]
+    [raise(x), raise(y), raise(z)]
 }
 
 // The squared distance from a point, by its raised coordinates, to handset v of the handset records; a coordinate that is not there counts as 0. Exact below

@@ -2,4 +2,5 @@ pub mod Tables
 pub mod Openings
 pub mod Same
 pub mod RoundTrips
+pub mod TakenOver
 pub mod Examples

@@ -4,7 +4,8 @@
 --     Granted, encoded-length      what a length as the answer says
 --     answer-is, buffer-is         the call's answer, and the buffer after it
 --     granted, front, reads-back   what is written is read back
---     asked-of, records-of         the tables that an image holds pass 3, 5 and 6, and their image has its records
+--     asked-by                     tables of a header's counts pass 3, 5 and 6 where the header's counts and thresholds fit
+--     asked-of, records-of         so do the tables that an image holds, and their image has its records
 --     image-opening                so the two are both accepted, or refused with the same number and place; accepted-image: the first where one is
 --     writer-too, image-too        a refusal of such an image is the writer's, and one of the writer's is the image's, but for 20
 --     no-longer                    the image written is no longer than one that holds its tables
@@ -116,7 +117,7 @@ module _ (x : Parameters) (coords : List ℤ) (ends l : List ℕ) (k : ℕ) (l�
   long : length image ≡ k
   long = asked-length x coords ends (granted .asked) ∙ sym (granted .size)
 
-  front : take k l′ ≡ image
+  pub front : take k l′ ≡ image
   front = ap (take k) (buffer-is x coords ends l (E.Length k) l′ call) ∙ take-at image (drop k l) k long
 
   reads-back : Signed32 coords → Below 65536 ends → ReadsBack x coords ends l k l′
@@ -141,15 +142,19 @@ no-longer s x coords ends ok held =
     (λ t. omega (arith, f .edges-from, f .handsets-to, header-length s ok, leb→le (h .edges + edgeBytes * h .m) (h .handsets) t))
     (tables-clear s ok)
 
+pub asked-by : (h : Header) (x : Parameters) (coords : List ℤ) (ends : List ℕ) → parametersOf h ≡ x → T (countsFit (h .n) (h .m))
+    → T (thresholdsFit (h .limit) (h .p) (h .q) (h .mu)) → length coords ≡ coordinateCount * x .n → length ends ≡ endCount * x .m → Asked x coords ends
+asked-by h x coords ends e q3 q5 a b = record {
+  q3 = subst (λ (y : Parameters). T (countsFit (y .n) (y .m))) e q3;
+  q5 = subst (λ (y : Parameters). T (thresholdsFit (y .limit) (y .p) (y .q) (y .mu))) e q5;
+  q6 = and-make (eqb (length coords) (coordinateCount * x .n)) (eqb (length ends) (endCount * x .m))
+      (eqb-of (length coords) (coordinateCount * x .n) a) (eqb-of (length ends) (endCount * x .m) b);
+}
+
 module _ (s : List ℕ) (x : Parameters) (coords : List ℤ) (ends : List ℕ) (ok : HeaderAccepted s) (small : Below 256 s)
     (held : Holds s x coords ends) where
   asked-of : Asked x coords ends
-  asked-of = record {
-    q3 = subst (λ (y : Parameters). T (countsFit (y .n) (y .m))) (held .parameters) (ok .q3);
-    q5 = subst (λ (y : Parameters). T (thresholdsFit (y .limit) (y .p) (y .q) (y .mu))) (held .parameters) (ok .q5);
-    q6 = and-make (eqb (length coords) (coordinateCount * x .n)) (eqb (length ends) (endCount * x .m))
-        (eqb-of (length coords) (coordinateCount * x .n) (held .coordinate-count)) (eqb-of (length ends) (endCount * x .m) (held .end-count));
-  }
+  asked-of = asked-by (headerOf s) x coords ends (held .parameters) (ok .q3) (ok .q5) (held .coordinate-count) (held .end-count)
 
   records-of : SameRecords s (imageOf x coords ends)
   records-of = record {

@@ -1,13 +1,19 @@
 -- The numbers of a site's two tables in the records of an image. Number j of the one table is coordinate j % coordinateCount of handset j / coordinateCount,
 -- and number j of the other an end of edge j / endCount (layout/proofs/Numbers).
 --
+--     every-entry                              what holds of each number of a list, and of what stands for one past its end, holds of all that is read
+--     edges-below                              every number of the edge records is a byte
+--     EndTable part m ends                     the ends of the m edges of a part stand in a table
+--     ends-low, ends-are                       each is a number of 16 bits, and the part is the table in bytes
 --     handsets-are, edges-are                  the records of an image that holds two tables are the tables in bytes
 --     image-holds                              the image of two tables holds them
 --     tabulated k f                            the list of f 0 to f (k - 1)
+--     endsIn part m, ends-in                   the table of the ends of a part's m edges
+--     coordinatesBy n f                        the table of coordinates f v i of n handsets; coordinates-length, coordinate-at: its length, and what stands in it
 --     tables-of                                the tables that an image has
 use Prim.Native.Nat.{ℕ, zero, suc, _+_, _*_, _/_, _%_, _<_}
 use native.Mathlib.Omega.{arith}
-use mathlib.Core.Path.{_≡_, refl, sym, ap, ap₂, _∙_}
+use mathlib.Core.Path.{_≡_, refl, sym, ap, ap₂, _∙_, subst}
 use mathlib.Core.Logic.{_⊎_, inl, inr, ⊎-elim}
 use mathlib.Core.List.{List, [], _∷_, map}
 use lib.IntN.{ℤ, pos}
@@ -17,7 +23,7 @@ use Rattle.sets.proofs.Tests.{three}
 use Rattle.bytes.specs.Bytes.{number, Below}
 use Rattle.bytes.proofs.Writing.{take-below, drop-below, number-below, table-bytes-is}
 use Rattle.fields.specs.Fields.{coordinateBytes, coordinateCount, endBytes, endCount, edgeBytes}
-use Rattle.image.specs.Image.{headerOf, handsetCount, edgeCount, handsetRecords, edgeRecords}
+use Rattle.image.specs.Image.{headerOf, handsetCount, edgeCount, handsetRecords, edgeRecords, endA, endB}
 use Rattle.image.specs.Signed.{signed32, signedCoordinate}
 use Rattle.image.specs.Questions.{HeaderAccepted}
 use Rattle.image.proofs.Acceptance.{handsets-length, edges-length}
@@ -29,15 +35,44 @@ use Rattle.layout.proofs.Storing.{getD-word}
 use Rattle.layout.proofs.Reading.{Asked, coords-length, ends-length, header-read, handsets-read, edges-read}
 use Rattle.roundtrips.specs.RoundTrips.{parametersOf, Holds}
 
--- ---- the records of an image
+pub every-entry : {A : Type 0} (P : A → Type 0) (l : List A) (d : A) → P d → ((j : ℕ) → j < length l → P (getD l j d)) → (j : ℕ) → P (getD l j d)
+every-entry P [] d p f j = p
+every-entry P (a ∷ l) d p f zero = f 0 (omega arith)
+every-entry P (a ∷ l) d p f (suc j) = every-entry P l d p (λ i h. f (suc i) (omega arith)) j
 
-edges-below : (s : List ℕ) → Below 256 s → Below 256 (edgeRecords s)
+-- ---- the ends of a part's edges
+
+pub edges-below : (s : List ℕ) → Below 256 s → Below 256 (edgeRecords s)
 unfolding edgeRecords
 edges-below s small = take-below 256 (edgeBytes * edgeCount s) (drop (headerOf s .edges) s) (drop-below 256 (headerOf s .edges) s small)
+
+pub record EndTable (part : List ℕ) (m : ℕ) (ends : List ℕ) : Type 0 where
+  pub end-count : length ends ≡ endCount * m
+  pub first-ends : (k : ℕ) → k < m → endA part k ≡ getD ends (endCount * k) 0
+  pub second-ends : (k : ℕ) → k < m → endB part k ≡ getD ends (endCount * k + 1) 0
 
 which-end : (j : ℕ) → (j ≡ endCount * (j / endCount)) ⊎ (j ≡ endCount * (j / endCount) + 1)
 which-end j =
     ⊎-elim (λ e. inr (omega arith)) (λ o. ⊎-elim (λ l. inl (omega arith)) (λ g. absurd (omega arith)) o) (three (j % endCount) 1)
+
+module _ (part : List ℕ) (m : ℕ) (ends : List ℕ) (small : Below 256 part) (held : EndTable part m ends) where
+  end-is : (j : ℕ) → j < length ends → number endBytes part (endBytes * j) ≡ getD ends j 0
+  end-is j h =
+      let k : ℕ = j / endCount in
+      let edge : k < m = omega (arith, held .end-count) in
+      let at : ℕ → ℕ = λ y. number endBytes part (endBytes * y) in
+      ⊎-elim
+      (λ e. ap at e ∙ sym (first-place part k) ∙ held .first-ends k edge ∙ ap (λ (y : ℕ). getD ends y 0) (sym e))
+      (λ e. ap at e ∙ sym (second-place part k) ∙ held .second-ends k edge ∙ ap (λ (y : ℕ). getD ends y 0) (sym e))
+      (which-end j)
+
+  pub ends-low : Below 65536 ends
+  ends-low = every-entry (λ y. y < 65536) ends 0 (omega arith) (λ j h. omega (arith, end-is j h, number-below endBytes part (endBytes * j) small))
+
+  pub ends-are : length part ≡ edgeBytes * m → part ≡ edgePart ends
+  ends-are long = sym (table-bytes-is endBytes ends part small (omega (arith, held .end-count)) end-is)
+
+-- ---- the records of an image
 
 module _ (s : List ℕ) (x : Parameters) (coords : List ℤ) (ends : List ℕ) (ok : HeaderAccepted s) (small : Below 256 s)
     (held : Holds s x coords ends) where
@@ -64,19 +99,10 @@ module _ (s : List ℕ) (x : Parameters) (coords : List ℤ) (ends : List ℕ) (
       (omega (arith, handsets-length s ok, n-is, held .coordinate-count, length-map coords word32))
       (λ j h. coordinate-is j (omega (arith, length-map coords word32)) ∙ getD-word coords j))
 
-  end-is : (j : ℕ) → j < length ends → number endBytes (edgeRecords s) (endBytes * j) ≡ getD ends j 0
-  end-is j h =
-      let k : ℕ = j / endCount in
-      let edge : k < x .m = omega (arith, held .end-count) in
-      let at : ℕ → ℕ = λ y. number endBytes (edgeRecords s) (endBytes * y) in
-      ⊎-elim
-      (λ e. ap at e ∙ sym (first-place (edgeRecords s) k) ∙ held .first-ends k edge ∙ ap (λ (y : ℕ). getD ends y 0) (sym e))
-      (λ e. ap at e ∙ sym (second-place (edgeRecords s) k) ∙ held .second-ends k edge ∙ ap (λ (y : ℕ). getD ends y 0) (sym e))
-      (which-end j)
-
   pub edges-are : edgeRecords s ≡ edgePart ends
   edges-are =
-      sym (table-bytes-is endBytes ends (edgeRecords s) (edges-below s small) (omega (arith, edges-length s ok, m-is, held .end-count)) end-is)
+      ends-are (edgeRecords s) (x .m) ends (edges-below s small)
+      (record { end-count = held .end-count; first-ends = held .first-ends; second-ends = held .second-ends }) (omega (arith, edges-length s ok, m-is))
 
 -- ---- the image of two tables
 
@@ -122,41 +148,64 @@ getD-tabulated zero f i d h = absurd (omega arith)
 getD-tabulated (suc k) f zero d h = refl
 getD-tabulated (suc k) f (suc i) d h = getD-tabulated k (λ j. f (suc j)) i d (omega arith)
 
-every-tabulated : {A : Type 0} (P : A → Type 0) (k : ℕ) (f : ℕ → A) (d : A) → P d → ((j : ℕ) → P (f j)) → (i : ℕ) → P (getD (tabulated k f) i d)
-every-tabulated P zero f d p g i = p
-every-tabulated P (suc k) f d p g zero = g 0
-every-tabulated P (suc k) f d p g (suc i) = every-tabulated P k (λ j. f (suc j)) d p (λ j. g (suc j)) i
+abbrev pub endsIn : List ℕ → ℕ → List ℕ
+endsIn part m = tabulated (endCount * m) (λ j. number endBytes part (endBytes * j))
+
+pub ends-in : (part : List ℕ) (m : ℕ) → EndTable part m (endsIn part m)
+ends-in part m = record {
+  end-count = length-tabulated (endCount * m) _;
+  first-ends = λ k h. first-place part k ∙ at (endCount * k) (omega arith);
+  second-ends = λ k h. second-place part k ∙ at (endCount * k + 1) (omega arith);
+}
+  where
+    at : (j : ℕ) → j < endCount * m → number endBytes part (endBytes * j) ≡ getD (endsIn part m) j 0
+    at j h = sym (getD-tabulated (endCount * m) (λ i. number endBytes part (endBytes * i)) j 0 h)
+
+abbrev pub coordinatesBy : ℕ → (ℕ → ℕ → ℤ) → List ℤ
+coordinatesBy n f = tabulated (coordinateCount * n) (λ j. f (j / coordinateCount) (j % coordinateCount))
+
+module _ (n : ℕ) (f : ℕ → ℕ → ℤ) where
+  pub coordinates-length : length (coordinatesBy n f) ≡ coordinateCount * n
+  coordinates-length = length-tabulated (coordinateCount * n) _
+
+  pub coordinate-at : (v i : ℕ) → v < n → i < coordinateCount → getD (coordinatesBy n f) (coordinateCount * v + i) (pos 0) ≡ f v i
+  coordinate-at v i h l =
+      let j : ℕ = coordinateCount * v + i in
+      let handset : j / coordinateCount ≡ v = omega arith in
+      let coordinate : j % coordinateCount ≡ i = omega arith in
+      getD-tabulated (coordinateCount * n) (λ k. f (k / coordinateCount) (k % coordinateCount)) j (pos 0) (omega arith) ∙ ap₂ f handset coordinate
 
 module _ (s : List ℕ) (small : Below 256 s) where
   abbrev x : Parameters
   x = parametersOf (headerOf s)
 
   abbrev coords : List ℤ
-  coords = tabulated (coordinateCount * x .n) (λ j. signedCoordinate s (j / coordinateCount) (j % coordinateCount))
+  coords = coordinatesBy (x .n) (signedCoordinate s)
 
   abbrev ends : List ℕ
-  ends = tabulated (endCount * x .m) (λ j. number endBytes (edgeRecords s) (endBytes * j))
+  ends = endsIn (edgeRecords s) (x .m)
 
-  end-of : (j : ℕ) → j < endCount * x .m → number endBytes (edgeRecords s) (endBytes * j) ≡ getD ends j 0
-  end-of j h = sym (getD-tabulated (endCount * x .m) (λ j. number endBytes (edgeRecords s) (endBytes * j)) j 0 h)
+  coords-small : Signed32 coords
+  coords-small =
+      every-entry (λ z. mag z < 2147483648) coords (pos 0) (omega arith)
+      (λ j h.
+      subst (λ (z : ℤ). mag z < 2147483648)
+      (sym (getD-tabulated (coordinateCount * x .n) _ j (pos 0) (omega (arith, coordinates-length (x .n) (signedCoordinate s)))))
+      (coordinate-small s small (j / coordinateCount) (j % coordinateCount)))
 
   pub tables-of : (coords : List ℤ) × (ends : List ℕ) × Signed32 coords × Below 65536 ends × Holds s x coords ends
-  tables-of = (
-    coords,
-    ends,
-    every-tabulated (λ z. mag z < 2147483648) (coordinateCount * x .n) _ (pos 0) (omega arith) (λ j. coordinate-small s small _ _),
-    every-tabulated (λ y. y < 65536) (endCount * x .m) _ 0 (omega arith)
-        (λ j. number-below endBytes (edgeRecords s) (endBytes * j) (edges-below s small)),
-    record {
-      parameters = refl;
-      coordinate-count = length-tabulated (coordinateCount * x .n) _;
-      end-count = length-tabulated (endCount * x .m) _;
-      coordinates = λ v i h l.
-          let j : ℕ = coordinateCount * v + i in
-          let handset : v ≡ j / coordinateCount = omega arith in
-          let coordinate : i ≡ j % coordinateCount = omega arith in
-          ap₂ (signedCoordinate s) handset coordinate ∙ sym (getD-tabulated (coordinateCount * x .n) _ j (pos 0) (omega arith));
-      first-ends = λ k h. first-place (edgeRecords s) k ∙ end-of (endCount * k) (omega arith);
-      second-ends = λ k h. second-place (edgeRecords s) k ∙ end-of (endCount * k + 1) (omega arith);
-    },
-  )
+  tables-of =
+      let table : EndTable (edgeRecords s) (x .m) ends = ends-in (edgeRecords s) (x .m) in (
+        coords,
+        ends,
+        coords-small,
+        ends-low (edgeRecords s) (x .m) ends (edges-below s small) table,
+        record {
+          parameters = refl;
+          coordinate-count = coordinates-length (x .n) (signedCoordinate s);
+          end-count = table .end-count;
+          coordinates = λ v i h l. sym (coordinate-at (x .n) (signedCoordinate s) v i h l);
+          first-ends = table .first-ends;
+          second-ends = table .second-ends;
+        },
+      )

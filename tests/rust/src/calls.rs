@@ -45,8 +45,8 @@ pub struct Scores {
     pub leaving: u64,
 }
 
-/// The x and the y of a point that the call for the nearest community gets, within the limits or not.
-pub type Point = (i32, i32);
+/// The x, the y and the z of a point that the call for the nearest community gets, within the limits or not.
+pub type Point = [i32; 3];
 
 /// The community nearest to a point, and the squared distance from the point to its nearest member.
 #[derive(Clone, Copy, Debug, PartialEq, Eq)]
@@ -119,7 +119,7 @@ pub struct Parameters {
     pub mu: u64,
 }
 
-/// What the writer of an image gets: x and y of each handset in turn, and the two ends of each tie, or
+/// What the writer of an image gets: x, y and z of each handset in turn, and the two ends of each tie, or
 /// tables of any other length.
 #[derive(Clone, Copy, Debug, PartialEq, Eq)]
 pub struct Contents<'a> {

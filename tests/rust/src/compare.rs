@@ -14,7 +14,10 @@ use crate::calls::{
 };
 use crate::numbers::{self, Numbers, MOST_IMAGE};
 use crate::reference::{self, Community, Findings};
-use crate::sites::{self, Rng, Site, Tables, MOST_COORDINATE, MOST_HANDSETS};
+use crate::sites::{
+    self, Rng, Site, Tables, COORDINATES, COORDINATE_BYTES, HANDSET_BYTES, HEADER, MOST_COORDINATE,
+    MOST_HANDSETS, TIE_BYTES,
+};
 use crate::times;
 
 /// Agreement, or what differs.
@@ -380,27 +383,30 @@ fn nearest(planner: &dyn Planner, image: &[u8], found: &Findings, rng: &mut Rng)
 fn is_nearest(
     sets: &[Vec<u16>],
     positions: &[Point],
-    (x, y): Point,
+    point: Point,
     answer: Option<Nearest>,
 ) -> bool {
     let Some(Nearest { community, squared_distance }) = answer else {
         return sets.is_empty();
     };
-    let distance = |&member: &u16| {
-        let (other_x, other_y) = positions[usize::from(member)];
-        let (dx, dy) = (i128::from(x) - i128::from(other_x), i128::from(y) - i128::from(other_y));
-        dx * dx + dy * dy
-    };
+    let distance = |&member: &u16| exact_squared_distance(point, positions[usize::from(member)]);
     let at = |set: &Vec<u16>| set.iter().any(|u| distance(u) == squared_distance.into());
     let nearer = |set: &Vec<u16>| set.iter().any(|u| distance(u) < squared_distance.into());
     sets.iter().position(at) == Some(community as usize) && !sets.iter().any(nearer)
 }
 
+/// In so many bits that nothing wraps, whatever the coordinates.
+fn exact_squared_distance([x, y, z]: Point, [other_x, other_y, other_z]: Point) -> i128 {
+    let square = |here: i32, there: i32| (i128::from(here) - i128::from(there)).pow(2);
+    square(x, other_x) + square(y, other_y) + square(z, other_z)
+}
+
 /// The positions in an accepted image.
 fn positions(image: &[u8]) -> Vec<Point> {
-    let (records, _) = image[Tables::of(image).handset_bytes()].as_chunks::<8>();
-    let position = |&[a, b, c, d, e, f, g, h]: &[u8; 8]| {
-        (i32::from_le_bytes([a, b, c, d]), i32::from_le_bytes([e, f, g, h]))
+    let (records, _) = image[Tables::of(image).handset_bytes()].as_chunks::<HANDSET_BYTES>();
+    let position = |record: &[u8; HANDSET_BYTES]| {
+        let (fields, _) = record.as_chunks::<COORDINATE_BYTES>();
+        std::array::from_fn(|axis| i32::from_le_bytes(fields[axis]))
     };
     records.iter().map(position).collect()
 }
@@ -408,23 +414,24 @@ fn positions(image: &[u8]) -> Vec<Point> {
 /// Coordinates beyond the limits.
 const BEYOND: [i32; 4] = [MOST_COORDINATE + 1, -MOST_COORDINATE - 1, i32::MAX, i32::MIN];
 
-/// Points to ask for: anywhere, near handsets and on them, on borders that communities share, as far from
-/// one community as from another, at the limits, and beyond them.
+/// Points to ask for: anywhere, near handsets, on them, above and below them, on borders that
+/// communities share, as far from one community as from another, at the limits, and beyond them.
 pub fn points(found: &Findings, rng: &mut Rng) -> Vec<Point> {
     let far = MOST_COORDINATE;
-    let mut points = vec![point_inside(rng), (far, far), (far, -far), (-far, far), (-far, -far)];
+    let mut points = vec![point_inside(rng), [far; COORDINATES], [-far; COORDINATES]];
+    points.extend([(); 2].map(|()| [(); COORDINATES].map(|()| rng.pick(&[far, -far]))));
     for limit in [far, -far].into_iter().chain(BEYOND) {
-        let (x, y) = point_inside(rng);
-        points.extend([(limit, y), (x, limit)]);
+        points.extend((0..COORDINATES).map(|axis| with(point_inside(rng), axis, limit)));
     }
-    points.push((rng.pick(&BEYOND), rng.pick(&BEYOND)));
+    points.push([(); COORDINATES].map(|()| rng.pick(&BEYOND)));
     let positions: Vec<Point> =
-        found.site().positions.iter().map(|&(x, y)| (x as i32, y as i32)).collect();
+        found.site().positions.iter().map(|position| position.map(|x| x as i32)).collect();
     if !positions.is_empty() {
         for _ in 0..4 {
-            let ((x, y), reach) = (rng.pick(&positions), rng.pick(&[1, 8, 90]));
-            let mut near = |z: i32| (z + rng.between(-reach, reach)).clamp(-far, far);
-            points.extend([(x, y), (near(x), near(y))]);
+            let (position, reach) = (rng.pick(&positions), rng.pick(&[1, 8, 90]));
+            let mut near = |x: i32| (x + rng.between(-reach, reach)).clamp(-far, far);
+            points.extend([position, position.map(&mut near)]);
+            points.push(with(position, 2, near(position[2])));
         }
     }
     let mut members = found.member_table();
@@ -437,9 +444,16 @@ pub fn points(found: &Findings, rng: &mut Rng) -> Vec<Point> {
     points
 }
 
-/// Points as far from a member of one community as from a member of another, where they have whole numbers:
-/// halfway between the two, and a third corner of the square on whose diagonal they stand. Half of the time
-/// the two are close to each other, so that hardly a member is nearer to the point.
+/// A point with another coordinate on one axis.
+fn with(mut point: Point, axis: usize, coordinate: i32) -> Point {
+    point[axis] = coordinate;
+    point
+}
+
+/// Points as far from a member of one community as from a member of another, where they have whole
+/// numbers: halfway between the two, and some way off from there at a right angle to the way from one to
+/// the other. Half of the time the two are close to each other, so that hardly a member is nearer to the
+/// point.
 fn equidistant(found: &Findings, positions: &[Point], rng: &mut Rng) -> Vec<Point> {
     let communities = found.communities();
     if communities.len() < 2 {
@@ -457,11 +471,12 @@ fn equidistant(found: &Findings, positions: &[Point], rng: &mut Rng) -> Vec<Poin
         there = nearest_to(here, &others);
         here = nearest_to(there, &these);
     }
-    let (dx, dy) = (there.0 - here.0, there.1 - here.1);
-    let (x, y) = (here.0 + there.0, here.1 + there.1);
-    let doubled = [(x, y), (x - dy, y + dx)];
-    let whole = doubled.into_iter().filter(|(x, y)| x % 2 == 0 && y % 2 == 0);
-    whole.map(|(x, y)| (x / 2, y / 2)).collect()
+    let [dx, dy, dz] = std::array::from_fn(|axis| there[axis] - here[axis]);
+    let [x, y, z] = std::array::from_fn(|axis| here[axis] + there[axis]);
+    let aside = [[x - dy, y + dx, z], [x, y - dz, z + dy], [x + dz, y, z - dx]];
+    let doubled = [[x, y, z], rng.pick(&aside)];
+    let whole = doubled.into_iter().filter(|point| point.iter().all(|x| x % 2 == 0));
+    whole.map(|point| point.map(|x| x / 2)).collect()
 }
 
 fn nearest_to(point: Point, others: &[Point]) -> Point {
@@ -469,17 +484,18 @@ fn nearest_to(point: Point, others: &[Point]) -> Point {
     *others.iter().min_by_key(distance).expect("a community has members")
 }
 
-/// Both coordinates within the limits.
+/// Every coordinate within the limits.
 fn point_inside(rng: &mut Rng) -> Point {
-    let mut coordinate = || rng.between(-MOST_COORDINATE, MOST_COORDINATE);
-    (coordinate(), coordinate())
+    [(); COORDINATES].map(|()| rng.between(-MOST_COORDINATE, MOST_COORDINATE))
 }
 
-/// One coordinate beyond the limits, or both.
+/// One coordinate beyond the limits, or all.
 fn point_outside(rng: &mut Rng) -> Point {
-    let (x, y) = point_inside(rng);
     let beyond = rng.pick(&BEYOND);
-    rng.pick(&[(beyond, y), (x, beyond), (beyond, beyond)])
+    match rng.below(COORDINATES + 1) {
+        COORDINATES => [beyond; COORDINATES],
+        axis => with(point_inside(rng), axis, beyond),
+    }
 }
 
 /// Reports into buffers of just the text's length, longer, one short and empty.
@@ -531,14 +547,12 @@ struct NearTie {
 /// The near ties of an accepted image, by its bytes.
 fn near_ties(image: &[u8]) -> Vec<NearTie> {
     let (positions, (records, _)) =
-        (positions(image), image[Tables::of(image).tie_bytes()].as_chunks::<4>());
+        (positions(image), image[Tables::of(image).tie_bytes()].as_chunks::<TIE_BYTES>());
     let gamma_squared = i128::from(u64::from_le_bytes(*image[16..].first_chunk().expect("G")));
-    let near_tie = |&[a, b, c, d]: &[u8; 4]| {
+    let near_tie = |&[a, b, c, d]: &[u8; TIE_BYTES]| {
         let ends = (u16::from_le_bytes([a, b]), u16::from_le_bytes([c, d]));
         let (one, other) = (positions[usize::from(ends.0)], positions[usize::from(ends.1)]);
-        let dx = i128::from(one.0) - i128::from(other.0);
-        let dy = i128::from(one.1) - i128::from(other.1);
-        let squared = dx * dx + dy * dy;
+        let squared = exact_squared_distance(one, other);
         (squared <= gamma_squared).then_some(NearTie { ends, squared_distance: squared as u64 })
     };
     records.iter().filter_map(near_tie).collect()
@@ -590,7 +604,7 @@ fn group_lines(planner: &dyn Planner, image: &[u8]) -> Result<Vec<GroupLine>, St
 // ---------------------------------------------------------------- the writer
 
 /// Lengths of buffers: two that hold no image, and one that holds every image.
-const ROOMS: [usize; 3] = [0, 31, MOST_IMAGE];
+const ROOMS: [usize; 3] = [0, HEADER - 1, MOST_IMAGE];
 /// How many times the numbers of a site are changed.
 const CHANGED: usize = 8;
 
@@ -603,7 +617,7 @@ pub fn writing(planner: &dyn Planner, site: &Site, rng: &mut Rng) -> Outcome {
     for room in [length, length + 1, length + rng.below(99), MOST_IMAGE] {
         write_into(planner, &numbers, room, &whole, rng)?;
     }
-    for room in [length - 1, rng.below(length), 31, 0] {
+    for room in [length - 1, rng.below(length), HEADER - 1, 0] {
         write_into(planner, &numbers, room, &short, rng)?;
     }
     (0..CHANGED).try_for_each(|_| changed(planner, &numbers::several(&numbers, rng), rng))
@@ -625,7 +639,7 @@ pub fn hostile_numbers(planner: &dyn Planner, rng: &mut Rng) -> Outcome {
 /// refuses the image of numbers that the writer refuses with 7 to 10, and accepts that of others.
 fn changed(planner: &dyn Planner, numbers: &Numbers, rng: &mut Rng) -> Outcome {
     let (contents, length) = (numbers.contents(), numbers.length());
-    let other = rng.pick(&[length + 9, length - 1, 31, 0]);
+    let other = rng.pick(&[length + 9, length - 1, HEADER - 1, 0]);
     for room in [length, other] {
         write_into(planner, numbers, room, &reference::written(contents, room), rng)?;
     }
@@ -779,6 +793,24 @@ fn plan_sets(
     Ok((sets, counts))
 }
 
+// ---------------------------------------------------------------- three coordinates
+
+/// x, y and z count alike: an accepted image with each handset's coordinates in another order has the
+/// same report, and the same community nearest to a point that is turned likewise. Both sides are the
+/// planner's own.
+pub fn turning(planner: &dyn Planner, first: &[u8], rng: &mut Rng) -> Outcome {
+    let turned = sites::turn(first);
+    let report = |image: &[u8]| {
+        let mut text = vec![0; 65_536];
+        let length = planner.report(image, &mut text);
+        length.map(|length| String::from_utf8_lossy(&text[..length as usize]).into_owned())
+    };
+    same("report after coordinates were turned", report(&turned), report(first))?;
+    let [x, y, z] = point_inside(rng);
+    let nearest = [planner.nearest(&turned, [y, z, x]), planner.nearest(first, [x, y, z])];
+    same(format_args!("nearest to {:?}, turned", [x, y, z]), nearest[0], nearest[1])
+}
+
 // ---------------------------------------------------------------- the report program
 
 /// The report program's standard output for an input.
@@ -801,9 +833,10 @@ pub fn program(path: &Path, input: &[u8]) -> Outcome {
 mod tests {
     use super::*;
     use crate::calls::{Date, Parameters, Record, Scores, Time};
+    use crate::damage;
     use crate::fast::Fast;
     use crate::reaches::WrongReach;
-    use crate::sites::{site_s, Layout};
+    use crate::sites::{site_s, Layout, MOST_TIES};
 
     /// The optimised planner with one mistake, each of a kind that the comparison must notice.
     #[derive(Clone, Copy, Debug, PartialEq)]
@@ -835,7 +868,27 @@ mod tests {
         CutsLengths,
         ForgetsTheLastTie,
         Reaches(WrongReach),
+        /// Of three coordinates: question 4 takes a width of 0, or looks at one byte of it; question 5
+        /// has the largest G of before.
+        TakesNoWidth,
+        TakesHalfAWidth,
+        KeepsTheOldLimit,
+        /// Question 7 or 17 is not put to z; z counts nowhere, or y for it.
+        AsksNoZ,
+        AsksNoZOfThePoint,
+        LeavesOutZ,
+        ReadsYForZ,
+        /// The writer leaves the width at 0, has the largest G of before, takes x and y alone, or writes
+        /// z before y.
+        WritesNoWidth,
+        WritesUpToTheOldLimit,
+        TakesTwoCoordinates,
+        WritesZBeforeY,
     }
+
+    const FAR: i32 = MOST_COORDINATE;
+    /// The largest G of before.
+    const OLD_GAMMA_SQUARED: u64 = 8_000_000_000_000;
 
     impl Planner for Mistake {
         fn name(&self) -> &'static str {
@@ -843,7 +896,7 @@ mod tests {
         }
 
         fn open(&self, image: &[u8]) -> Result<Opened, Refusal> {
-            Fast.open(image).map_err(|refusal| match self {
+            Fast.open(&self.seen(image)?).map_err(|refusal| match self {
                 Mistake::LosesPlace => Refusal { place: 0, ..refusal },
                 _ => refusal,
             })
@@ -855,7 +908,7 @@ mod tests {
             starts: &mut [u32],
             members: &mut [u16],
         ) -> Result<Counts, Refusal> {
-            let answer = Fast.plan(image, starts, members);
+            let answer = Fast.plan(&self.seen(image)?, starts, members);
             match (self, answer) {
                 (Mistake::WritesBeforeRefusing, Err(_)) => starts.iter_mut().for_each(|s| *s = 0),
                 (Mistake::WritesPastTheEnd, Ok(counts)) => {
@@ -868,7 +921,7 @@ mod tests {
         }
 
         fn role(&self, image: &[u8], handset: u64) -> Result<Record, Refusal> {
-            let record = Fast.role(image, handset)?;
+            let record = Fast.role(&self.seen(image)?, handset)?;
             let role = match record.role {
                 Role::Border(_) if *self == Mistake::OneGroupForABorder => Role::Border(1),
                 role => role,
@@ -892,8 +945,8 @@ mod tests {
             Fast.members(starts, members, k)
         }
 
-        fn nearest(&self, image: &[u8], point: Point) -> Result<Option<Nearest>, Refusal> {
-            let most = point.0.unsigned_abs().max(point.1.unsigned_abs());
+        fn nearest(&self, image: &[u8], mut point: Point) -> Result<Option<Nearest>, Refusal> {
+            let most = point.map(i32::unsigned_abs).into_iter().fold(0, u32::max);
             let refuses = match self {
                 Mistake::RefusesTheLimit => most == MOST_COORDINATE as u32,
                 Mistake::TestsPointBeforeImage => most > MOST_COORDINATE as u32,
@@ -902,7 +955,10 @@ mod tests {
             if refuses {
                 return Err(Refusal { number: 17, place: 0 });
             }
-            let nearest = Fast.nearest(image, point)?;
+            if *self == Mistake::AsksNoZOfThePoint {
+                point[2] = point[2].clamp(-MOST_COORDINATE, MOST_COORDINATE);
+            }
+            let nearest = Fast.nearest(&self.seen(image)?, point)?;
             // All handsets of site S are at one place.
             Ok(nearest.map(|nearest| match self {
                 Mistake::TakesLastOfEquals => Nearest { community: 1, ..nearest },
@@ -940,25 +996,18 @@ mod tests {
         }
 
         fn write(&self, contents: Contents, buffer: &mut [u8]) -> Result<u64, Refusal> {
-            if *self == Mistake::AsksRoomFirst && buffer.len() < 32 {
-                return Err(Refusal { number: 20, place: 0 });
-            }
+            self.ask_numbers(contents.parameters, buffer.len())?;
             if *self == Mistake::WritesAHeaderFirst {
                 buffer
                     .iter_mut()
                     .take(1)
                     .for_each(|byte| *byte = contents.parameters.handsets as u8);
             }
-            let length = Fast.write(self.taken(contents), buffer)?;
+            let (pairs, _) = contents.coordinates.as_chunks();
+            let grounded: Vec<i32> = pairs.iter().flat_map(|&[x, y]| [x, y, 0]).collect();
+            let length = Fast.write(self.taken(contents, &grounded), buffer)?;
             let (image, past) = buffer.split_at_mut(length as usize);
-            let last_tie = &mut image[(length as usize - 4)..];
-            match self {
-                Mistake::WritesPastTheImage => past.iter_mut().take(1).for_each(|byte| *byte = 0),
-                Mistake::SwapsTheEndsOfATie => last_tie.swap(0, 2),
-                Mistake::ForgetsTheLastTie => last_tie.fill(0),
-                Mistake::WritesTheMeaningOfMu if image[28] == 0 => image[28] = 4,
-                _ => {}
-            }
+            self.spoil(image, past);
             Ok(length)
         }
 
@@ -966,7 +1015,8 @@ mod tests {
             if let Mistake::Reaches(wrong) = self {
                 return report_with(*wrong, image, text);
             }
-            let length = Fast.report(image, text)?;
+            let seen = self.seen(image).map_err(|refusal| refusal.number)?;
+            let length = Fast.report(&seen, text)?;
             if *self == Mistake::CountsNoMultiple {
                 text[length as usize - 2] = b'0';
             }
@@ -975,18 +1025,81 @@ mod tests {
     }
 
     impl Mistake {
-        /// What the writer takes its arguments for.
-        fn taken<'a>(&self, contents: Contents<'a>) -> Contents<'a> {
+        /// What a reader takes an image for, or its refusal.
+        fn seen(&self, image: &[u8]) -> Result<Vec<u8>, Refusal> {
+            let mut seen = image.to_vec();
+            let Some(width) = seen.get_mut(sites::WIDTH_AT..HEADER) else {
+                return Ok(seen);
+            };
+            match self {
+                Mistake::TakesNoWidth if *width == [0, 0] => width[0] = HANDSET_BYTES as u8,
+                Mistake::TakesHalfAWidth => width[1] = 0,
+                Mistake::KeepsTheOldLimit if Fast.open(image).is_ok() => {
+                    let limit = Numbers::held(image).parameters.gamma_squared;
+                    let five = Err(Refusal { number: 5, place: 0 });
+                    return if limit > OLD_GAMMA_SQUARED { five } else { Ok(seen) };
+                }
+                Mistake::AsksNoZ => change_z(&mut seen, |[_, _, z]| z.clamp(-FAR, FAR)),
+                Mistake::LeavesOutZ if Fast.open(image).is_ok() => change_z(&mut seen, |_| 0),
+                Mistake::ReadsYForZ if Fast.open(image).is_ok() => {
+                    change_z(&mut seen, |[_, y, _]| y)
+                }
+                _ => {}
+            }
+            Ok(seen)
+        }
+
+        /// The writer's questions that are put too early, or have another limit.
+        fn ask_numbers(&self, parameters: Parameters, room: usize) -> Result<(), Refusal> {
+            let Parameters { handsets, ties, gamma_squared, .. } = parameters;
+            let counts_fit = handsets <= MOST_HANDSETS as u64 && ties <= MOST_TIES as u64;
+            let refused = match self {
+                Mistake::AsksRoomFirst if room < HEADER => 20,
+                Mistake::WritesUpToTheOldLimit if counts_fit => {
+                    5 * u64::from(gamma_squared > OLD_GAMMA_SQUARED)
+                }
+                _ => 0,
+            };
+            if refused > 0 {
+                Err(Refusal { number: refused, place: 0 })
+            } else {
+                Ok(())
+            }
+        }
+
+        /// What becomes of an image that is written, and of the bytes past it.
+        fn spoil(&self, image: &mut [u8], past: &mut [u8]) {
+            let (handsets, last_tie) = (Tables::of(image).handset_bytes(), image.len() - TIE_BYTES);
+            match self {
+                Mistake::WritesPastTheImage => past.iter_mut().take(1).for_each(|byte| *byte = 0),
+                Mistake::SwapsTheEndsOfATie => image[last_tie..].swap(0, 2),
+                Mistake::ForgetsTheLastTie => image[last_tie..].fill(0),
+                Mistake::WritesTheMeaningOfMu if image[28] == 0 => image[28] = 4,
+                Mistake::WritesNoWidth => image[sites::WIDTH_AT] = 0,
+                Mistake::WritesZBeforeY => {
+                    let records = image[handsets].chunks_mut(HANDSET_BYTES);
+                    records.for_each(|r| r[COORDINATE_BYTES..].rotate_left(COORDINATE_BYTES));
+                }
+                _ => {}
+            }
+        }
+
+        /// What the writer takes its arguments for. `grounded` is the coordinate table as one of x and y
+        /// alone, with a z of 0 after each two.
+        fn taken<'a>(&self, contents: Contents<'a>, grounded: &'a [i32]) -> Contents<'a> {
             let Contents { parameters, coordinates, ends } = contents;
             let Parameters { handsets, ties, .. } = parameters;
             let (n, m) = (handsets as usize, ties as usize);
-            let longer = coordinates.len() / 2 >= n && ends.len() / 2 >= m;
+            let longer = coordinates.len() / COORDINATES >= n && ends.len() / 2 >= m;
             match self {
                 Mistake::TakesLongerTables if longer => Contents {
-                    coordinates: &coordinates[..2 * n],
+                    coordinates: &coordinates[..COORDINATES * n],
                     ends: &ends[..2 * m],
                     ..contents
                 },
+                Mistake::TakesTwoCoordinates if coordinates.len() == 2 * n => {
+                    Contents { coordinates: grounded, ..contents }
+                }
                 Mistake::CutsCounts => {
                     let parameters = Parameters { handsets: handsets % 65_536, ..parameters };
                     Contents { parameters, ..contents }
@@ -996,6 +1109,17 @@ mod tests {
                     Contents { coordinates, ..contents }
                 }
                 _ => contents,
+            }
+        }
+    }
+
+    /// Another z for each handset of an image that has its tables.
+    fn change_z(image: &mut [u8], changed: fn(Point) -> i32) {
+        if matches!(Fast.open(image), Ok(_) | Err(Refusal { number: 7.., .. })) {
+            let (positions, handsets) = (positions(image), Tables::of(image).handset_bytes());
+            let records = image[handsets].chunks_mut(HANDSET_BYTES);
+            for (record, position) in records.zip(positions) {
+                record[2 * COORDINATE_BYTES..].copy_from_slice(&changed(position).to_le_bytes());
             }
         }
     }
@@ -1023,7 +1147,8 @@ mod tests {
         Ok(lines.len() as u64)
     }
 
-    /// Site S, the same with its last tie repeated, sites with reaches of every kind, times, and numbers.
+    /// Site S, the same with its last tie repeated, with faults, and as it was before; sites with
+    /// reaches of every kind, times, and numbers.
     fn outcome(planner: Mistake) -> Outcome {
         let mut rng = Rng::new(8);
         let good = site_s(4).image(Layout::any(&mut rng), &mut rng);
@@ -1032,6 +1157,13 @@ mod tests {
         image(&planner, &good, &mut rng)?;
         renumbering(&planner, &good, &mut rng)?;
         image(&planner, &repeated.plain_image(), &mut rng)?;
+        let (plain, edits) = (site_s(4).plain_image(), damage::edits(&good, &mut rng));
+        for edit in edits {
+            similar_image(&planner, &damage::apply(&good, &[edit]), &mut rng)?;
+        }
+        for old in damage::before(&plain).iter().chain(&damage::before_with_the_width(&plain)) {
+            image(&planner, old, &mut rng)?;
+        }
         for site in sites::reaching() {
             image(&planner, &site.plain_image(), &mut rng)?;
         }
@@ -1071,9 +1203,36 @@ mod tests {
             CutsCounts,
             CutsLengths,
             ForgetsTheLastTie,
+            TakesNoWidth,
+            TakesHalfAWidth,
+            KeepsTheOldLimit,
+            AsksNoZ,
+            AsksNoZOfThePoint,
+            LeavesOutZ,
+            ReadsYForZ,
+            WritesNoWidth,
+            WritesUpToTheOldLimit,
+            TakesTwoCoordinates,
+            WritesZBeforeY,
         ];
         for mistake in mistakes.into_iter().chain(WrongReach::ALL.map(Reaches)) {
             assert!(outcome(mistake).is_err(), "{mistake:?} was not noticed");
+        }
+    }
+
+    /// Without the reference: a planner that gives z another weight than x and y is noticed by turning
+    /// the axes.
+    #[test]
+    fn turning_notices_what_is_wrong_with_z() {
+        let noticed = |planner: &dyn Planner| {
+            let sites = [sites::tower(), sites::corners(), sites::porters(sites::PORTERS_APART)];
+            let mut turned = sites.iter().map(Site::plain_image);
+            turned.any(|image| turning(planner, &image, &mut Rng::new(8)).is_err())
+        };
+        assert!(!noticed(&Fast) && !noticed(&Mistake::None));
+        assert!(noticed(&Mistake::LeavesOutZ) && noticed(&Mistake::ReadsYForZ));
+        for wrong in [WrongReach::WithoutZ, WrongReach::YForZ, WrongReach::UnsignedZ] {
+            assert!(noticed(&Mistake::Reaches(wrong)), "{wrong:?} was not noticed");
         }
     }
 
@@ -1141,18 +1300,22 @@ mod tests {
     #[test]
     fn nearest_of_a_few_sets() {
         let sets = [vec![2, 3], vec![0, 1, 2]];
-        let positions = [(-1_000_000, 1_000_000), (0, 1), (3, 1), (3, 7), (3, 2)];
+        let far = 1_000_000;
+        let positions = [[-far, far, -far], [0, 1, 0], [3, 1, 0], [3, 7, 0], [3, 2, 0]];
         let right = |point, community, squared_distance| {
             is_nearest(&sets, &positions, point, Some(Nearest { community, squared_distance }))
         };
-        assert!(right((3, 3), 0, 4) && right((3, 1), 0, 0) && right((1, 1), 1, 1));
-        assert!(right((-1_000_000, 1_000_000), 1, 0));
+        assert!(right([3, 3, 0], 0, 4) && right([3, 1, 0], 0, 0) && right([1, 1, 0], 1, 1));
+        assert!(
+            right([-far, far, -far], 1, 0) && right([3, 3, 7], 0, 53) && right([1, 1, -2], 1, 5)
+        );
         // The other group, another distance, a member that is not the nearest, no group of that number.
-        assert!(!right((3, 3), 1, 4) && !right((3, 3), 0, 5) && !right((3, 3), 0, 16));
-        assert!(!right((1, 1), 0, 4) && !right((1, 1), 1, 0) && !right((1, 1), 2, 1));
+        assert!(!right([3, 3, 0], 1, 4) && !right([3, 3, 0], 0, 5) && !right([3, 3, 0], 0, 16));
+        assert!(!right([1, 1, 0], 0, 4) && !right([1, 1, 0], 1, 0) && !right([1, 1, 0], 2, 1));
+        assert!(!right([3, 3, 7], 0, 4) && !right([1, 1, -2], 1, 1));
         // Handset 4 is in no group.
-        assert!(!right((3, 2), 0, 0) && right((3, 2), 0, 1));
-        assert!(!is_nearest(&sets, &positions, (3, 3), None));
-        assert!(is_nearest(&[], &positions, (3, 3), None));
+        assert!(!right([3, 2, 0], 0, 0) && right([3, 2, 0], 0, 1));
+        assert!(!is_nearest(&sets, &positions, [3, 3, 0], None));
+        assert!(is_nearest(&[], &positions, [3, 3, 0], None));
     }
 }

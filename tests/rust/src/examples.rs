@@ -1,4 +1,5 @@
-//! The inputs stored with the report program, made again. The tests hold them equal.
+//! The inputs stored with the report program, made again. The tests hold them equal, and equal to what
+//! the writer of images makes of their numbers.
 
 use crate::sites;
 
@@ -33,7 +34,11 @@ pub fn examples() -> Vec<(&'static str, Vec<u8>)> {
 #[cfg(test)]
 mod tests {
     use super::*;
-    use crate::reference;
+    use crate::calls::Planner;
+    use crate::fast::Fast;
+    use crate::numbers::Numbers;
+    use crate::reference::{self, Reference};
+    use crate::sites::COORDINATES;
     use std::collections::BTreeMap;
     use std::fs;
     use std::path::{Path, PathBuf};
@@ -64,6 +69,41 @@ mod tests {
         assert_eq!(stored.keys().map(String::as_str).collect::<Vec<_>>(), made);
         for (name, image) in examples {
             assert_eq!(stored[name], image, "crates/{name}/stdin");
+        }
+    }
+
+    /// Each stored input that is accepted is what a writer writes from its numbers.
+    #[test]
+    fn stored_inputs_are_the_writers() {
+        let writers: [&dyn Planner; _] = [
+            #[cfg(feature = "proved")]
+            &crate::ffi::Proved,
+            &Fast,
+            &Reference,
+        ];
+        let mut written = 0;
+        for (name, image) in
+            stored().into_iter().filter(|(_, image)| reference::open(image).is_ok())
+        {
+            let numbers = Numbers::held(&image);
+            for writer in writers {
+                let mut buffer = vec![0xa5; image.len()];
+                let length = writer.write(numbers.contents(), &mut buffer);
+                assert_eq!(length, Ok(image.len() as u64), "{} of crates/{name}", writer.name());
+                assert_eq!(buffer, image, "{} of crates/{name}", writer.name());
+            }
+            written += 1;
+        }
+        assert_eq!(written, examples().len() - 1, "all but the one that is refused");
+    }
+
+    /// They are the sites of before, and their outputs those of before.
+    #[test]
+    fn stored_inputs_are_on_the_ground() {
+        for (name, image) in stored() {
+            let numbers = Numbers::held(&image);
+            let (positions, _) = numbers.coordinates.as_chunks::<COORDINATES>();
+            assert!(positions.iter().all(|position| position[2] == 0), "crates/{name}/stdin");
         }
     }
 

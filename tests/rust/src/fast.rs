@@ -20,9 +20,13 @@ use crate::calls::{
 };
 
 const HEADER: usize = 32;
+const COORDINATES: usize = 3;
+const HANDSET_WIDTH: usize = 4 * COORDINATES;
+const TIE_WIDTH: usize = 4;
 const MOST_HANDSETS: usize = 512;
 const MOST_TIES: usize = 4096;
 const MOST_COORDINATE: i32 = 1_000_000;
+const MOST_GAMMA_SQUARED: u64 = 12_000_000_000_000;
 
 fn refuse<T>(number: u64, place: usize) -> Result<T, Refusal> {
     Err(Refusal { number, place: place as u64 })
@@ -32,8 +36,8 @@ fn refuse<T>(number: u64, place: usize) -> Result<T, Refusal> {
 
 /// An image whose header has passed questions 1 to 6, and its two tables.
 struct Image<'a> {
-    handsets: &'a [[u8; 8]],
-    ties: &'a [[u8; 4]],
+    handsets: &'a [[u8; HANDSET_WIDTH]],
+    ties: &'a [[u8; TIE_WIDTH]],
     gamma_squared: u64,
     p: u64,
     q: u64,
@@ -42,7 +46,7 @@ struct Image<'a> {
 
 /// Beyond the limits of question 5.
 fn thresholds_are_bad(gamma_squared: u64, p: u64, q: u64, mu: u64) -> bool {
-    gamma_squared > 8_000_000_000_000 || p == 0 || p > q || q > 1000 || mu > 512
+    gamma_squared > MOST_GAMMA_SQUARED || p == 0 || p > q || q > 1000 || mu > 512
 }
 
 /// Beyond the limits of a coordinate.
@@ -50,9 +54,14 @@ fn outside(coordinate: i32) -> bool {
     coordinate.wrapping_add(MOST_COORDINATE) as u32 > 2 * MOST_COORDINATE as u32
 }
 
-fn squared_distance(here: [f64; 2], there: [f64; 2]) -> f64 {
-    let (dx, dy) = (here[0] - there[0], here[1] - there[1]);
-    dx * dx + dy * dy
+/// Where a handset stands, as the near test has it: x, y, z and a 0, so that two and two are computed at
+/// once. Coordinates fit in 21 bits, so that squares of their differences, and the sum of three, are
+/// exact in f64.
+type Place = [f64; 4];
+
+fn squared_distance(here: &Place, there: &Place) -> f64 {
+    let square = |axis: usize| (here[axis] - there[axis]) * (here[axis] - there[axis]);
+    (square(0) + square(2)) + (square(1) + square(3))
 }
 
 /// A tie record as it stands: the first end in the low half.
@@ -80,7 +89,7 @@ impl<'a> Image<'a> {
         if n > MOST_HANDSETS || m > MOST_TIES {
             return refuse(3, 0);
         }
-        if short(30) != 0 {
+        if usize::from(short(30)) != HANDSET_WIDTH {
             return refuse(4, 0);
         }
         let gamma_squared = long(16) | long(20) << 32;
@@ -89,7 +98,7 @@ impl<'a> Image<'a> {
             return refuse(5, 0);
         }
         let (handsets_at, ties_at) = (long(4) as usize, long(8) as usize);
-        let (handsets_end, ties_end) = (handsets_at + 8 * n, ties_at + 4 * m);
+        let (handsets_end, ties_end) = (handsets_at + HANDSET_WIDTH * n, ties_at + TIE_WIDTH * m);
         let apart = handsets_end <= ties_at || ties_end <= handsets_at;
         if handsets_at < HEADER || ties_at < HEADER || !apart {
             return refuse(6, 0);
@@ -116,10 +125,15 @@ impl<'a> Image<'a> {
         self.ties.len()
     }
 
-    fn positions(&self) -> impl Iterator<Item = [i32; 2]> + Clone + 'a {
+    /// All coordinates in a row, whosever they are.
+    fn coordinates(&self) -> impl Iterator<Item = i32> + Clone + 'a {
+        self.handsets.as_flattened().as_chunks().0.iter().map(|four| i32::from_le_bytes(*four))
+    }
+
+    fn positions(&self) -> impl Iterator<Item = [i32; COORDINATES]> + Clone + 'a {
         self.handsets.iter().map(|record| {
-            let both = u64::from_le_bytes(*record);
-            [both as i32, (both >> 32) as i32]
+            let (fours, _) = record.as_chunks();
+            std::array::from_fn(|axis| i32::from_le_bytes(fours[axis]))
         })
     }
 
@@ -132,7 +146,7 @@ impl<'a> Image<'a> {
     }
 
     fn check_positions(&self) -> Result<(), Refusal> {
-        check_positions(self.positions())
+        check_coordinates(self.coordinates())
     }
 
     fn ends_are_good(&self) -> bool {
@@ -167,11 +181,12 @@ fn by_fours<T: Copy>(records: &[T], mut each: impl FnMut(T)) {
     rest.iter().for_each(|&record| each(record));
 }
 
-/// Question 7. The whole table is tested without a branch; only a fault is searched for.
-fn check_positions(positions: impl Iterator<Item = [i32; 2]> + Clone) -> Result<(), Refusal> {
-    let bad = |[x, y]: [i32; 2]| outside(x) | outside(y);
-    if positions.clone().fold(false, |fault, position| fault | bad(position)) {
-        return refuse(7, positions.clone().position(bad).unwrap_or(0));
+/// Question 7. The whole table is tested without a branch, several coordinates at once; only a fault is
+/// searched for.
+fn check_coordinates(coordinates: impl Iterator<Item = i32> + Clone) -> Result<(), Refusal> {
+    if coordinates.clone().fold(false, |fault, coordinate| fault | outside(coordinate)) {
+        let place = coordinates.clone().position(outside).unwrap_or(0);
+        return refuse(7, place / COORDINATES);
     }
     Ok(())
 }
@@ -269,9 +284,7 @@ struct Network<const W: usize, const R: usize> {
     list: [Tie; MOST_TIES],
     ties: usize,
     near: usize,
-    /// Coordinates fit in 21 bits, so that squares of their differences, and the sum of two, are exact
-    /// in f64, and two of them are computed at once.
-    positions: [[f64; 2]; R],
+    places: [Place; R],
 }
 
 impl<const W: usize, const R: usize> Network<W, R> {
@@ -282,7 +295,7 @@ impl<const W: usize, const R: usize> Network<W, R> {
             list: [0; MOST_TIES],
             ties: 0,
             near: 0,
-            positions: [[0.0; 2]; R],
+            places: [[0.0; 4]; R],
         }
     }
 
@@ -305,16 +318,16 @@ impl<const W: usize, const R: usize> Network<W, R> {
 
     /// Lists the ties by nearness.
     fn list_ties(&mut self, image: &Image) {
-        for (to, from) in self.positions.iter_mut().zip(image.positions()) {
-            *to = from.map(f64::from);
+        for (to, [x, y, z]) in self.places.iter_mut().zip(image.positions()) {
+            *to = [x.into(), y.into(), z.into(), 0.0];
         }
-        let positions = &self.positions;
+        let places = &self.places;
         let gamma_squared = image.gamma_squared as f64;
         self.ties = image.tie_count();
         let (mut near_end, mut far_start) = (0, self.ties);
         for tie in image.ties() {
             let (u, v) = ends(tie);
-            let distance = squared_distance(positions[u & (R - 1)], positions[v & (R - 1)]);
+            let distance = squared_distance(&places[u & (R - 1)], &places[v & (R - 1)]);
             let near = distance <= gamma_squared;
             self.list[near_end & (MOST_TIES - 1)] = tie;
             self.list[(far_start - 1) & (MOST_TIES - 1)] = tie;
@@ -501,11 +514,11 @@ fn role<const W: usize, const R: usize>(image: &Image, handset: u64) -> Result<R
 /// is searched for that has one of those at the least distance.
 fn nearest<const W: usize, const R: usize>(
     image: &Image,
-    (x, y): Point,
+    point: Point,
 ) -> Result<Option<Nearest>, Refusal> {
     let mut network = Network::<W, R>::new();
     network.read(image)?;
-    if outside(x) | outside(y) {
+    if point.into_iter().any(outside) {
         return refuse(17, 0);
     }
     network.keep_near();
@@ -518,10 +531,11 @@ fn nearest<const W: usize, const R: usize>(
         (0..W).for_each(|i| members[i] |= set[i]);
     }
     let square = |difference: i32| i64::from(difference) * i64::from(difference);
+    let [x, y, z] = point;
     let mut distances = [i64::MAX; R];
     let mut least = i64::MAX;
-    for (u, [other_x, other_y]) in image.positions().enumerate() {
-        let distance = square(x - other_x) + square(y - other_y);
+    for (u, [other_x, other_y, other_z]) in image.positions().enumerate() {
+        let distance = square(x - other_x) + square(y - other_y) + square(z - other_z);
         // All ones for an outlier.
         let mask = i64::from(has(&members, u)) - 1;
         distances[u & (R - 1)] = distance | (mask & i64::MAX);
@@ -594,7 +608,7 @@ fn tally<const W: usize, const R: usize>(
     let gamma_squared = image.gamma_squared as f64;
     let tested = |tie: Tie| {
         let (u, v) = (ends(tie).0 & (R - 1), ends(tie).1 & (R - 1));
-        let distance = squared_distance(network.positions[u], network.positions[v]);
+        let distance = squared_distance(&network.places[u], &network.places[v]);
         (u, v, if distance <= gamma_squared { distance } else { -1.0 })
     };
     let (mut joined, mut reaches) = ([[0; 65]; W], [[-1.0; 65]; W]);
@@ -655,7 +669,7 @@ fn report<const W: usize, const R: usize>(
 /// What the writer gets, after questions 3, 5 and 6.
 struct Listed<'a> {
     parameters: Parameters,
-    positions: &'a [[i32; 2]],
+    coordinates: &'a [i32],
     ties: &'a [[u16; 2]],
 }
 
@@ -669,15 +683,15 @@ impl<'a> Listed<'a> {
         if thresholds_are_bad(gamma_squared, p, q, mu) {
             return refuse(5, 0);
         }
-        if coordinates.len() as u64 != 2 * handsets || ends.len() as u64 != 2 * ties {
+        let coordinates_fit = coordinates.len() as u64 == COORDINATES as u64 * handsets;
+        if !coordinates_fit || ends.len() as u64 != 2 * ties {
             return refuse(6, 0);
         }
-        let (positions, ties) = (coordinates.as_chunks().0, ends.as_chunks().0);
-        Ok(Listed { parameters, positions, ties })
+        Ok(Listed { parameters, coordinates, ties: ends.as_chunks().0 })
     }
 
     fn handset_count(&self) -> usize {
-        self.positions.len()
+        self.parameters.handsets as usize
     }
 
     fn ties(&self) -> impl Iterator<Item = Tie> + Clone + 'a {
@@ -690,7 +704,7 @@ impl<'a> Listed<'a> {
             handsets | ties << 16 | (HEADER as u64) << 32,
             ties_at as u64 | (length as u64) << 32,
             gamma_squared,
-            p | q << 16 | mu << 32,
+            p | q << 16 | mu << 32 | (HANDSET_WIDTH as u64) << 48,
         ];
         let mut header = [0; HEADER];
         let (eights, _) = header.as_chunks_mut();
@@ -704,23 +718,23 @@ fn write<const W: usize, const R: usize>(
     listed: &Listed,
     buffer: &mut [u8],
 ) -> Result<u64, Refusal> {
-    check_positions(listed.positions.iter().copied())?;
+    check_coordinates(listed.coordinates.iter().copied())?;
     let mut seen = [[0; W]; R];
     let mut repeated = false;
     by_fours(listed.ties, |ends| repeated |= tie_again::<W, R>(&mut seen, joined(ends)));
     if repeated | !ends_are_good(listed.handset_count(), listed.ties()) {
         return Err(tie_fault(listed.handset_count(), listed.ties()));
     }
-    let ties_at = HEADER + 8 * listed.handset_count();
-    let length = ties_at + 4 * listed.ties.len();
+    let ties_at = HEADER + HANDSET_WIDTH * listed.handset_count();
+    let length = ties_at + TIE_WIDTH * listed.ties.len();
     let Some(image) = buffer.get_mut(..length) else {
         return refuse(20, 0);
     };
     let (head, records) = image.split_at_mut(HEADER);
     head.copy_from_slice(&listed.header(ties_at, length));
     let (handsets, ties) = records.split_at_mut(ties_at - HEADER);
-    for (record, &[x, y]) in handsets.as_chunks_mut().0.iter_mut().zip(listed.positions) {
-        *record = (u64::from(x as u32) | u64::from(y as u32) << 32).to_le_bytes();
+    for (four, coordinate) in handsets.as_chunks_mut().0.iter_mut().zip(listed.coordinates) {
+        *four = coordinate.to_le_bytes();
     }
     for (record, tie) in ties.as_chunks_mut().0.iter_mut().zip(listed.ties()) {
         *record = tie.to_le_bytes();
@@ -1070,7 +1084,8 @@ mod tests {
         }
         let full = [sites::two_hubs(), sites::shared_borders(), sites::one_clique()];
         let small = [sites::hub(), sites::totals()];
-        for site in small.into_iter().chain(full).chain(sites::reaching()) {
+        let named = small.into_iter().chain(full).chain(sites::reaching());
+        for site in named.chain(sites::shafts()) {
             agree(&site.plain_image());
         }
     }
@@ -1095,7 +1110,8 @@ mod tests {
             (planner.report(image, &mut text), text)
         };
         assert_eq!(report(&Fast), report(&Reference));
-        for point in [(0, 0), (1_000_000, -1_000_000), (-3, 1_000_001)] {
+        let limits = [1_000_000, -1_000_000, 1_000_000];
+        for point in [[0, 0, 0], [3, -4, 12], limits, [-3, 1_000_001, 0], [0, 0, -1_000_001]] {
             assert_eq!(Fast.nearest(image, point), Reference.nearest(image, point));
         }
         let numbers = Numbers::held(image);

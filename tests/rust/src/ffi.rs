@@ -39,7 +39,7 @@ mod c {
             members_len: usize,
             k: u64,
         ) -> i64;
-        pub fn dvg_nearest(image: *const u8, image_len: usize, x: i32, y: i32) -> i64;
+        pub fn dvg_nearest(image: *const u8, image_len: usize, x: i32, y: i32, z: i32) -> i64;
         pub fn dvg_members_at(
             year: u32,
             month: u32,
@@ -185,8 +185,8 @@ impl Planner for Proved {
         })
     }
 
-    fn nearest(&self, image: &[u8], (x, y): Point) -> Result<Option<Nearest>, Refusal> {
-        let answer = unsafe { c::dvg_nearest(image.as_ptr(), image.len(), x, y) };
+    fn nearest(&self, image: &[u8], [x, y, z]: Point) -> Result<Option<Nearest>, Refusal> {
+        let answer = unsafe { c::dvg_nearest(image.as_ptr(), image.len(), x, y, z) };
         decode(answer).map(decode_nearest)
     }
 
@@ -256,6 +256,7 @@ mod tests {
     use super::*;
     use crate::calls::{Date, Plan, Time, Window};
     use crate::compare;
+    use crate::damage;
     use crate::numbers::Numbers;
     use crate::sites::{self, Rng};
 
@@ -263,7 +264,7 @@ mod tests {
     fn named_sites_equal_the_reference() {
         let untied = [sites::untied(0, 0), sites::untied(1, 1), sites::apart()];
         let tied = [sites::site_s(4), sites::hub(), sites::totals(), sites::two_hubs()];
-        for site in untied.into_iter().chain(tied) {
+        for site in untied.into_iter().chain(tied).chain(sites::shafts()) {
             let image = site.plain_image();
             assert_eq!(compare::image(&Proved, &image, &mut Rng::new(1)), Ok(()));
             assert_eq!(compare::renumbering(&Proved, &image, &mut Rng::new(1)), Ok(()));
@@ -271,22 +272,55 @@ mod tests {
         }
     }
 
+    /// Every call on images of before, and on ones with another fault.
+    #[test]
+    fn refused_images_equal_the_reference() {
+        let image = sites::site_s(4).plain_image();
+        let faults = damage::faults(&image).map(|fault| damage::apply(&image, &[fault]));
+        let old = [damage::before(&image).to_vec(), damage::before_with_the_width(&image).to_vec()];
+        for image in old.concat().iter().chain(&faults) {
+            assert_eq!(compare::image(&Proved, image, &mut Rng::new(1)), Ok(()));
+        }
+        for old in damage::before(&image) {
+            assert_eq!(Proved.open(&old), Err(Refusal { number: 4, place: 0 }));
+        }
+    }
+
+    /// From one corner of the space to the opposite one: near with the largest G, and not with one less.
+    #[test]
+    fn the_longest_way_is_near() {
+        let report = |gamma_squared| -> Result<String, u64> {
+            let site = sites::Site { gamma_squared, ..sites::corners() };
+            let mut text = [0; 512];
+            let length = Proved.report(&site.plain_image(), &mut text)?;
+            Ok(String::from_utf8_lossy(&text[..length as usize]).into_owned())
+        };
+        let most = sites::MOST_GAMMA_SQUARED;
+        assert!(report(most).is_ok_and(|text| text.contains(" reach 12000000000000:")));
+        assert!(report(most - 1).is_ok_and(|text| text.contains(" reach 8000000000000:")));
+        assert_eq!(report(most + 1), Err(5));
+    }
+
     /// The numbers that docs/SITE-IMAGE.md has.
     #[test]
     fn nearest_as_documented() {
-        let nearest =
-            |image: &[u8], x, y| unsafe { c::dvg_nearest(image.as_ptr(), image.len(), x, y) };
+        let nearest = |image: &[u8], [x, y, z]: Point| unsafe {
+            c::dvg_nearest(image.as_ptr(), image.len(), x, y, z)
+        };
         let mut s = sites::site_s(4);
-        assert_eq!(nearest(&s.plain_image(), 3, -4), 1_638_401);
+        assert_eq!(nearest(&s.plain_image(), [3, -4, 0]), 1_638_401);
+        assert_eq!(nearest(&s.plain_image(), [3, -4, 12]), 11_075_585);
         s.gamma_squared = 1;
-        s.positions[6] = (0, -1);
-        assert_eq!(nearest(&s.plain_image(), 3, -4), 1_179_651);
+        s.positions[6] = [0, -1, 0];
+        assert_eq!(nearest(&s.plain_image(), [3, -4, 0]), 1_179_651);
         let apart = sites::apart().plain_image();
-        assert_eq!((nearest(&apart, 0, 0), nearest(&apart, 1, 0)), (131_073, 65_539));
-        assert_eq!(nearest(&apart, 1_000_000, -1_000_000), 131_072_000_000_131_073);
+        assert_eq!((nearest(&apart, [0; 3]), nearest(&apart, [1, 0, 0])), (131_073, 65_539));
+        assert_eq!(nearest(&apart, [1_000_000, -1_000_000, 0]), 131_072_000_000_131_073);
         let empty = sites::untied(0, 0).plain_image();
-        assert_eq!((nearest(&empty, 0, -1_000_000), nearest(&empty, 0, -1_000_001)), (0, -17));
-        assert_eq!((nearest(&empty, 1_000_001, 0), nearest(&[], 1_000_001, 0)), (-17, -1));
+        assert_eq!(nearest(&empty, [0, -1_000_000, 1_000_000]), 0);
+        for beyond in [[1_000_001, 0, 0], [0, -1_000_001, 0], [0, 0, 1_000_001]] {
+            assert_eq!((nearest(&empty, beyond), nearest(&[], beyond)), (-17, -1));
+        }
     }
 
     /// The numbers that docs/SITE-IMAGE.md has: the plans of site S with mu 4 and with mu 3.
@@ -320,15 +354,21 @@ mod tests {
         let mut numbers = Numbers::of(&sites::site_s(4));
         let answer = |numbers: &Numbers, room| write(numbers.contents(), &mut vec![0; room]);
         assert_eq!(
-            (answer(&numbers, 120), answer(&numbers, 119), answer(&numbers, 0)),
-            (120, -20, -20)
+            (answer(&numbers, 148), answer(&numbers, 147), answer(&numbers, 0)),
+            (148, -20, -20)
         );
+        numbers.parameters.gamma_squared = sites::MOST_GAMMA_SQUARED;
+        assert_eq!(answer(&numbers, 148), 148);
         numbers.ends[10..12].copy_from_slice(&[3, 2]);
         assert_eq!(answer(&numbers, 0), -1290);
-        numbers.coordinates[13] = -1_000_001;
+        numbers.coordinates[20] = -1_000_001;
         assert_eq!(answer(&numbers, 0), -1543);
+        numbers.coordinates.truncate(14);
+        assert_eq!(answer(&numbers, 148), -6);
+        numbers.parameters.gamma_squared += 1;
+        assert_eq!(answer(&numbers, 148), -5);
         numbers.parameters.handsets = u64::MAX;
-        assert_eq!(answer(&numbers, 120), -3);
+        assert_eq!(answer(&numbers, 148), -3);
     }
 
     #[test]
@@ -348,8 +388,8 @@ mod tests {
         assert_eq!(decode_record(near + 2), Record { near: 4, role: Role::Outlier });
         let scores = Scores { pairs: 130_816, tied_pairs: 4000, leaving: 4096 };
         assert_eq!(decode_scores(4096 + 65_536 * 4000 + 68_719_476_736 * 130_816), scores);
-        let nearest = Nearest { community: 511, squared_distance: 8_000_000_000_000 };
-        assert_eq!(decode_nearest(1 + 2 * 511 + 65_536 * 8_000_000_000_000), Some(nearest));
+        let nearest = Nearest { community: 511, squared_distance: 12_000_000_000_000 };
+        assert_eq!(decode_nearest(1 + 2 * 511 + 65_536 * 12_000_000_000_000), Some(nearest));
         let here = Nearest { community: 0, squared_distance: 0 };
         assert_eq!((decode_nearest(1), decode_nearest(0)), (Some(here), None));
         let scheduled = |answer: i64| decode(answer).map(decode_scheduled);

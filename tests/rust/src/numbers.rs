@@ -3,13 +3,14 @@
 
 use crate::calls::{Contents, Parameters};
 use crate::sites::{
-    site_s, Rng, Site, Tables, MOST_COORDINATE, MOST_GAMMA_SQUARED, MOST_HANDSETS, MOST_TIES,
+    plain_length, site_s, Rng, Site, Tables, COORDINATES, COORDINATE_BYTES, END_BYTES, HEADER,
+    MOST_COORDINATE, MOST_GAMMA_SQUARED, MOST_HANDSETS, MOST_TIES,
 };
 
 use Change::{Coordinate, Coordinates, End, Ends, Parameter, Tie};
 
 /// The length of the longest image without gaps.
-pub const MOST_IMAGE: usize = 32 + 8 * MOST_HANDSETS + 4 * MOST_TIES;
+pub const MOST_IMAGE: usize = plain_length(MOST_HANDSETS, MOST_TIES);
 
 /// What the writer gets, to be changed.
 #[derive(Clone, Debug, PartialEq, Eq)]
@@ -30,7 +31,7 @@ impl Numbers {
                 q: site.epsilon.1.into(),
                 mu: site.mu.into(),
             },
-            coordinates: site.positions.iter().flat_map(|&(x, y)| [x, y]).collect(),
+            coordinates: site.positions.as_flattened().to_vec(),
             ends: site.ties.iter().flat_map(|&(u, v)| [u, v]).collect(),
         }
     }
@@ -39,7 +40,7 @@ impl Numbers {
     pub fn held(image: &[u8]) -> Numbers {
         let tables = Tables::of(image);
         let short = |two: &[u8; 2]| u16::from_le_bytes(*two);
-        let shorts = image[..32].as_chunks().0;
+        let shorts = image[..HEADER].as_chunks().0;
         let field = |at: usize| u64::from(short(&shorts[at / 2]));
         let coordinates = image[tables.handset_bytes()].as_chunks().0;
         let ends = image[tables.tie_bytes()].as_chunks().0;
@@ -63,14 +64,14 @@ impl Numbers {
 
     /// The length of the image with these tables.
     pub fn length(&self) -> usize {
-        32 + 4 * self.coordinates.len() + 2 * self.ends.len()
+        HEADER + COORDINATE_BYTES * self.coordinates.len() + END_BYTES * self.ends.len()
     }
 
     /// The image as the tests build it, for numbers that the writer's questions 3, 5 and 6 accept.
     pub fn image(&self) -> Vec<u8> {
         let Parameters { gamma_squared, p, q, mu, .. } = self.parameters;
         let site = Site {
-            positions: self.coordinates.as_chunks().0.iter().map(|&[x, y]| (x, y)).collect(),
+            positions: self.coordinates.as_chunks().0.to_vec(),
             ties: self.ends.as_chunks().0.iter().map(|&[u, v]| (u, v)).collect(),
             gamma_squared,
             epsilon: (p as u16, q as u16),
@@ -137,16 +138,22 @@ enum Change {
     Ends(usize),
 }
 
-/// For each of the questions 3, 5, 6, 7, 8, 9 and 10 in their order, three changes of site S, of which each
-/// makes its answer a no. Those of 7 to 10 are in different records.
+/// The handsets and the ties of site S, its coordinates and the length of its image.
+const S: (usize, usize) = (7, 8);
+const S_COORDINATES: usize = COORDINATES * S.0;
+const S_LENGTH: usize = plain_length(S.0, S.1);
+
+/// For each of the questions 3, 5, 6, 7, 8, 9 and 10 in their order, three changes of site S, of which
+/// each makes its answer a no: of 6 a coordinate too many, x and y alone, and half a tie less. Those of
+/// 7 to 10 are in different records; those of 7 are a z, an x and a y of the last handset.
 const FAULTS: [[Change; 3]; 7] = [
     [Parameter(HANDSETS, 513), Parameter(HANDSETS, 65_536 + 7), Parameter(TIES, (1 << 32) + 8)],
     [Parameter(P, 0), Parameter(Q, 65_536 + 2), Parameter(MU, 513)],
-    [Coordinates(15), Coordinates(16), Ends(15)],
+    [Coordinates(S_COORDINATES + 1), Coordinates(S_COORDINATES - S.0), Ends(15)],
     [
-        Coordinate(13, MOST_COORDINATE + 1),
-        Coordinate(12, -MOST_COORDINATE - 1),
-        Coordinate(12, i32::MIN),
+        Coordinate(S_COORDINATES - 1, MOST_COORDINATE + 1),
+        Coordinate(S_COORDINATES - 3, -MOST_COORDINATE - 1),
+        Coordinate(S_COORDINATES - 2, i32::MIN),
     ],
     [End(15, 7), End(14, 7), End(14, u16::MAX)],
     [Tie(1, [0, 0]), Tie(1, [6, 6]), Tie(1, [3, 3])],
@@ -154,8 +161,8 @@ const FAULTS: [[Change; 3]; 7] = [
 ];
 
 /// Lengths of buffers that hold the image of site S, and of ones that do not.
-const ROOMS: [usize; 3] = [120, 121, MOST_IMAGE];
-const SHORT_ROOMS: [usize; 3] = [119, 31, 0];
+const ROOMS: [usize; 3] = [S_LENGTH, S_LENGTH + 1, MOST_IMAGE];
+const SHORT_ROOMS: [usize; 3] = [S_LENGTH - 1, HEADER - 1, 0];
 
 /// Site S with a choice of faults, a bit for each of the questions 3, 5, 6, 7, 8, 9, 10 and 20 in their
 /// order, and the length of a buffer: three such.
@@ -182,13 +189,13 @@ pub fn hostile(rng: &mut Rng) -> Vec<Numbers> {
     for (handsets, ties) in [(7, 8), (8, 7), (0, 0), (0, 8), (7, 0), (512, 4096)] {
         let counts = [Parameter(HANDSETS, handsets), Parameter(TIES, ties)];
         let counted = s.with(&counts);
-        for coordinates in lengths(2 * handsets as usize) {
+        for coordinates in lengths(COORDINATES * handsets as usize) {
             let ends = lengths(2 * ties as usize).into_iter();
             let each = ends.map(|ends| counted.with(&[Coordinates(coordinates), Ends(ends)]));
             hostile.extend(each);
         }
     }
-    let places = [(0..7).collect(), (0..8).collect()];
+    let places = [(0..S.0).collect(), (0..S.1).collect()];
     hostile.extend(record_changes(&s, &places, rng).into_iter().map(|change| s.with(&[change])));
     hostile
 }
@@ -196,8 +203,8 @@ pub fn hostile(rng: &mut Rng) -> Vec<Numbers> {
 /// Two to five changes, so that the order of the questions matters; mostly of records alone, so that the
 /// first of several bad ones matters.
 pub fn several(numbers: &Numbers, rng: &mut Rng) -> Numbers {
-    let places =
-        [numbers.coordinates.len() / 2, numbers.ends.len() / 2].map(|count| some(count, rng));
+    let counts = [numbers.coordinates.len() / COORDINATES, numbers.ends.len() / 2];
+    let places = counts.map(|count| some(count, rng));
     let [handsets, ties] = &places;
     let mut pool = match rng.below(6) {
         0 => record_changes(numbers, &[handsets.clone(), Vec::new()], rng),
@@ -229,9 +236,12 @@ fn parameter_changes(numbers: &Numbers) -> Vec<Change> {
     changes
 }
 
-/// The length that fits, and others; the last would fit in 16 bits.
-fn lengths(fit: usize) -> [usize; 9] {
-    [fit, 0, 1, fit.saturating_sub(1), fit + 1, fit + 2, 2 * fit, fit / 2, fit + 65_536]
+/// The length that fits, and others: for coordinates two and four of each handset are among them, and
+/// the last would fit in 16 bits.
+fn lengths(fit: usize) -> [usize; 11] {
+    let third = fit / COORDINATES;
+    let (less, more) = (fit - third, fit + third);
+    [fit, 0, 1, fit.saturating_sub(1), fit + 1, fit + 2, less, more, 2 * fit, fit / 2, fit + 65_536]
 }
 
 /// Changes of the records at the given places, of handsets and of ties: coordinates at and beyond their
@@ -239,11 +249,11 @@ fn lengths(fit: usize) -> [usize; 9] {
 fn record_changes(numbers: &Numbers, places: &[Vec<usize>; 2], rng: &mut Rng) -> Vec<Change> {
     let far = MOST_COORDINATE;
     let coordinates = [far, far + 1, -far, -far - 1, i32::MAX, i32::MIN, 0, -1];
-    let n = (numbers.coordinates.len() / 2) as u16;
+    let n = (numbers.coordinates.len() / COORDINATES) as u16;
     let ends = [n.wrapping_sub(1), n, n + 1, n + 256, 511, 512, u16::MAX, 0];
     let mut changes = Vec::new();
     for handset in &places[0] {
-        for at in [2 * handset, 2 * handset + 1] {
+        for at in COORDINATES * handset..COORDINATES * (handset + 1) {
             changes.extend(coordinates.map(|value| Coordinate(at, value)));
         }
     }

@@ -2,6 +2,7 @@
 //! tell from the right one.
 
 use crate::reference::{Community, Findings};
+use crate::sites::COORDINATES;
 
 #[derive(Clone, Copy, Debug, PartialEq)]
 pub enum WrongReach {
@@ -29,36 +30,53 @@ pub enum WrongReach {
     TieOnce,
     /// Of all near ties of the site.
     OfTheSite,
-    /// In 32 bits; without y; the larger side alone; the sum of the sides; with whole metres for a distance.
+    /// In 32 bits; x alone; the largest side alone; the sum of the sides; with whole metres for a distance.
     In32Bits,
     OnlyX,
-    LargerSide,
+    LargestSide,
     SumOfSides,
     NotSquared,
+    /// By a near test that leaves z out, as one does that takes the z of one handset for both; that
+    /// takes y for z, or z for y; that takes the other handset's z for 0; that takes z for a number
+    /// without a sign.
+    WithoutZ,
+    YForZ,
+    ZForY,
+    OneZ,
+    UnsignedZ,
 }
 
-/// A tie, or two handsets: how far they are apart in x and in y.
+/// A tie, or two handsets, and where they stand.
 #[derive(Clone, Copy)]
 struct Two {
     u: usize,
     v: usize,
-    dx: u64,
-    dy: u64,
+    here: [i64; COORDINATES],
+    there: [i64; COORDINATES],
 }
 
 impl Two {
     fn of(found: &Findings, u: usize, v: usize) -> Two {
-        let ((x, y), (other_x, other_y)) = (found.site().positions[u], found.site().positions[v]);
-        Two { u, v, dx: x.abs_diff(other_x), dy: y.abs_diff(other_y) }
+        let positions = &found.site().positions;
+        Two { u, v, here: positions[u], there: positions[v] }
+    }
+
+    /// How far apart they are in x, in y and in z.
+    fn sides(&self) -> [u64; COORDINATES] {
+        std::array::from_fn(|axis| self.here[axis].abs_diff(self.there[axis]))
     }
 
     fn distance(&self) -> u64 {
-        self.dx * self.dx + self.dy * self.dy
+        sum_of_squares(self.sides())
     }
 }
 
+fn sum_of_squares(sides: [u64; COORDINATES]) -> u64 {
+    sides.iter().fold(0, |sum, side| side.wrapping_mul(*side).wrapping_add(sum))
+}
+
 impl WrongReach {
-    pub const ALL: [WrongReach; 19] = {
+    pub const ALL: [WrongReach; 24] = {
         use WrongReach::*;
         [
             OverAllTies,
@@ -77,9 +95,14 @@ impl WrongReach {
             OfTheSite,
             In32Bits,
             OnlyX,
-            LargerSide,
+            LargestSide,
             SumOfSides,
             NotSquared,
+            WithoutZ,
+            YForZ,
+            ZForY,
+            OneZ,
+            UnsignedZ,
         ]
     };
 
@@ -97,6 +120,10 @@ impl WrongReach {
             inside().filter(|&two| keep(two)).map(Two::distance).max()
         };
         let by = |length: fn(&Two) -> u64| inside().map(length).max();
+        let tested_by = |distance: fn(&Two) -> u64| {
+            let distances = ties.iter().filter(|two| has(community, two)).map(distance);
+            distances.filter(|&distance| distance <= limit).max()
+        };
         match self {
             WrongReach::OverAllTies => {
                 ties.iter().filter(|two| has(community, two)).map(Two::distance).max()
@@ -127,10 +154,31 @@ impl WrongReach {
             }),
             WrongReach::OfTheSite => ties.iter().filter(near).map(Two::distance).max(),
             WrongReach::In32Bits => by(|two| two.distance() % (1 << 32)),
-            WrongReach::OnlyX => by(|two| two.dx * two.dx),
-            WrongReach::LargerSide => by(|two| two.dx.max(two.dy).pow(2)),
-            WrongReach::SumOfSides => by(|two| (two.dx + two.dy).pow(2)),
+            WrongReach::OnlyX => by(|two| two.sides()[0].pow(2)),
+            WrongReach::LargestSide => by(|two| two.sides().into_iter().fold(0, u64::max).pow(2)),
+            WrongReach::SumOfSides => by(|two| two.sides().iter().sum::<u64>().pow(2)),
             WrongReach::NotSquared => by(|two| two.distance().isqrt()),
+            WrongReach::WithoutZ => tested_by(|two| {
+                let [dx, dy, _] = two.sides();
+                sum_of_squares([dx, dy, 0])
+            }),
+            WrongReach::YForZ => tested_by(|two| {
+                let [dx, dy, _] = two.sides();
+                sum_of_squares([dx, dy, dy])
+            }),
+            WrongReach::ZForY => tested_by(|two| {
+                let [dx, _, dz] = two.sides();
+                sum_of_squares([dx, dz, dz])
+            }),
+            WrongReach::OneZ => tested_by(|two| {
+                let [dx, dy, _] = two.sides();
+                sum_of_squares([dx, dy, two.here[2].unsigned_abs()])
+            }),
+            WrongReach::UnsignedZ => tested_by(|two| {
+                let [dx, dy, _] = two.sides();
+                let dz = (two.here[2] as u32).abs_diff(two.there[2] as u32);
+                sum_of_squares([dx, dy, dz.into()])
+            }),
         }
     }
 }

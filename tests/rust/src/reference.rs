@@ -12,9 +12,14 @@ use crate::calls::{
 };
 
 const HEADER: usize = 32;
+/// x, y and z, four bytes each.
+const COORDINATES: usize = 3;
+const HANDSET_WIDTH: usize = 12;
+/// Two ends, two bytes each.
+const TIE_WIDTH: usize = 4;
 const MOST_HANDSETS: usize = 512;
 const MOST_TIES: usize = 4096;
-const MOST_GAMMA_SQUARED: u64 = 8_000_000_000_000;
+const MOST_GAMMA_SQUARED: u64 = 12_000_000_000_000;
 const MOST_COORDINATE: i64 = 1_000_000;
 const MOST_DENOMINATOR: u64 = 1000;
 const MOST_MU: usize = 512;
@@ -23,10 +28,13 @@ const DAY_MINUTES: u32 = 1440;
 const PROGRAM_INPUT: usize = 65_536;
 const PROGRAM_TEXT: usize = 65_536;
 
+/// Where a handset stands: x, y and z.
+pub type Position = [i64; COORDINATES];
+
 /// An accepted image.
 #[derive(Clone, Debug, PartialEq, Eq)]
 pub struct Site {
-    pub positions: Vec<(i64, i64)>,
+    pub positions: Vec<Position>,
     pub ties: Vec<(usize, usize)>,
     pub gamma_squared: u64,
     /// Numerator and denominator.
@@ -43,7 +51,7 @@ pub fn open(image: &[u8]) -> Result<Site, Refusal> {
     let header = Header::read(image);
     ask(2, header.length == image.len())?;
     ask(3, header.handsets <= MOST_HANDSETS && header.ties <= MOST_TIES)?;
-    ask(4, header.zero == 0)?;
+    ask(4, header.handset_width == HANDSET_WIDTH)?;
     ask(5, header.limits_hold())?;
     ask(6, header.tables_fit())?;
     let (positions, ties) = (header.positions(image), header.tie_records(image));
@@ -71,8 +79,8 @@ fn ask_each(number: u64, mut answers: impl Iterator<Item = bool>) -> Result<(), 
 }
 
 /// Questions 7 to 10.
-fn ask_records(positions: &[(i64, i64)], ties: &[(usize, usize)]) -> Result<(), Refusal> {
-    ask_each(7, positions.iter().map(|&(x, y)| in_area(x) && in_area(y)))?;
+fn ask_records(positions: &[Position], ties: &[(usize, usize)]) -> Result<(), Refusal> {
+    ask_each(7, positions.iter().map(|&position| in_space(position)))?;
     let known = |handset| handset < positions.len();
     ask_each(8, ties.iter().map(|&(u, v)| known(u) && known(v)))?;
     ask_each(9, ties.iter().map(|&(u, v)| u != v))?;
@@ -80,8 +88,9 @@ fn ask_records(positions: &[(i64, i64)], ties: &[(usize, usize)]) -> Result<(), 
     ask_each(10, ties.iter().map(|&(u, v)| seen.insert(pair(u, v))))
 }
 
-fn in_area(coordinate: i64) -> bool {
-    (-MOST_COORDINATE..=MOST_COORDINATE).contains(&coordinate)
+fn in_space([x, y, z]: Position) -> bool {
+    let fits = |coordinate: i64| (-MOST_COORDINATE..=MOST_COORDINATE).contains(&coordinate);
+    fits(x) && fits(y) && fits(z)
 }
 
 /// The two ends of a tie without direction.
@@ -100,7 +109,7 @@ struct Header {
     p: u64,
     q: u64,
     mu: usize,
-    zero: u64,
+    handset_width: usize,
 }
 
 impl Header {
@@ -116,7 +125,7 @@ impl Header {
             p: field(24, 2),
             q: field(26, 2),
             mu: field(28, 2) as usize,
-            zero: field(30, 2),
+            handset_width: field(30, 2) as usize,
         }
     }
 
@@ -129,11 +138,11 @@ impl Header {
     }
 
     fn handsets_end(&self) -> usize {
-        self.handsets_at + 8 * self.handsets
+        self.handsets_at + HANDSET_WIDTH * self.handsets
     }
 
     fn ties_end(&self) -> usize {
-        self.ties_at + 4 * self.ties
+        self.ties_at + TIE_WIDTH * self.ties
     }
 
     fn tables_fit(&self) -> bool {
@@ -144,16 +153,16 @@ impl Header {
             && (self.handsets_end() <= self.ties_at || self.ties_end() <= self.handsets_at)
     }
 
-    fn positions(&self, image: &[u8]) -> Vec<(i64, i64)> {
+    fn positions(&self, image: &[u8]) -> Vec<Position> {
         image[self.handsets_at..self.handsets_end()]
-            .chunks(8)
-            .map(|record| (signed(&record[..4]), signed(&record[4..])))
+            .chunks(HANDSET_WIDTH)
+            .map(|record| [signed(&record[..4]), signed(&record[4..8]), signed(&record[8..])])
             .collect()
     }
 
     fn tie_records(&self, image: &[u8]) -> Vec<(usize, usize)> {
         image[self.ties_at..self.ties_end()]
-            .chunks(4)
+            .chunks(TIE_WIDTH)
             .map(|record| (unsigned(&record[..2]) as usize, unsigned(&record[2..]) as usize))
             .collect()
     }
@@ -267,9 +276,9 @@ impl Findings {
     }
 
     /// The least of all pairs of a member's squared distance and its community's number, or refusal 17.
-    pub fn nearest(&self, (x, y): Point) -> Result<Option<Nearest>, Refusal> {
-        let point = (x.into(), y.into());
-        ask(17, in_area(point.0) && in_area(point.1))?;
+    pub fn nearest(&self, point: Point) -> Result<Option<Nearest>, Refusal> {
+        let point = point.map(i64::from);
+        ask(17, in_space(point))?;
         let mut pairs = Vec::new();
         for (number, community) in self.communities.iter().enumerate() {
             for &member in &community.members {
@@ -300,8 +309,8 @@ fn near_sets(site: &Site) -> Vec<HashSet<usize>> {
     near
 }
 
-fn squared_distance((x, y): (i64, i64), (other_x, other_y): (i64, i64)) -> u64 {
-    x.abs_diff(other_x).pow(2) + y.abs_diff(other_y).pow(2)
+fn squared_distance([x, y, z]: Position, [other_x, other_y, other_z]: Position) -> u64 {
+    x.abs_diff(other_x).pow(2) + y.abs_diff(other_y).pow(2) + z.abs_diff(other_z).pow(2)
 }
 
 /// Algorithm 1. A border that an earlier community took is taken by a later one as well.
@@ -404,8 +413,15 @@ pub fn written(contents: Contents, room: usize) -> Result<Vec<u8>, Refusal> {
     ask(3, handsets <= MOST_HANDSETS as u64 && ties <= MOST_TIES as u64)?;
     let epsilon_fits = 1 <= p && p <= q && q <= MOST_DENOMINATOR;
     ask(5, gamma_squared <= MOST_GAMMA_SQUARED && epsilon_fits && mu <= MOST_MU as u64)?;
-    ask(6, coordinates.len() as u64 == 2 * handsets && ends.len() as u64 == 2 * ties)?;
-    ask_records(&in_pairs(coordinates), &in_pairs(ends))?;
+    let coordinates_fit = coordinates.len() as u64 == COORDINATES as u64 * handsets;
+    ask(6, coordinates_fit && ends.len() as u64 == 2 * ties)?;
+    let positions: Vec<Position> = coordinates
+        .chunks(COORDINATES)
+        .map(|three| [three[0].into(), three[1].into(), three[2].into()])
+        .collect();
+    let pairs: Vec<(usize, usize)> =
+        ends.chunks(2).map(|two| (two[0].into(), two[1].into())).collect();
+    ask_records(&positions, &pairs)?;
     let image = image_of(contents);
     ask(20, room >= image.len())?;
     Ok(image)
@@ -415,21 +431,17 @@ pub fn written(contents: Contents, room: usize) -> Result<Vec<u8>, Refusal> {
 fn image_of(Contents { parameters, coordinates, ends }: Contents) -> Vec<u8> {
     let Parameters { handsets, ties, gamma_squared, p, q, mu } = parameters;
     let handsets_at = HEADER as u64;
-    let ties_at = handsets_at + 8 * handsets;
-    let length = ties_at + 4 * ties;
+    let ties_at = handsets_at + HANDSET_WIDTH as u64 * handsets;
+    let length = ties_at + TIE_WIDTH as u64 * ties;
     let mut image = Vec::new();
     image.extend([handsets, ties].into_iter().flat_map(|count| little_endian(2, count)));
     image.extend([handsets_at, ties_at, length].into_iter().flat_map(|at| little_endian(4, at)));
     image.extend(little_endian(8, gamma_squared));
-    image.extend([p, q, mu, 0].into_iter().flat_map(|field| little_endian(2, field)));
+    let handset_width = HANDSET_WIDTH as u64;
+    image.extend([p, q, mu, handset_width].into_iter().flat_map(|field| little_endian(2, field)));
     image.extend(coordinates.iter().flat_map(|&coordinate| twos_complement(coordinate.into())));
     image.extend(ends.iter().flat_map(|&end| little_endian(2, end.into())));
     image
-}
-
-/// The numbers of a table two by two.
-fn in_pairs<T: Copy, U: From<T>>(table: &[T]) -> Vec<(U, U)> {
-    table.chunks(2).map(|two| (two[0].into(), two[1].into())).collect()
 }
 
 /// The bytes of a number, the lowest first.
@@ -613,10 +625,10 @@ cores 2 borders 5 outliers 0 multiple 1
 
     #[test]
     fn site_s_byte_by_byte() {
-        let mut image = vec![7, 0, 8, 0, 32, 0, 0, 0, 88, 0, 0, 0, 120, 0, 0, 0];
+        let mut image = vec![7, 0, 8, 0, 32, 0, 0, 0, 116, 0, 0, 0, 148, 0, 0, 0];
         image.extend([0; 8]);
-        image.extend([1, 0, 2, 0, 4, 0, 0, 0]);
-        image.extend([0; 56]);
+        image.extend([1, 0, 2, 0, 4, 0, 12, 0]);
+        image.extend([0; 84]);
         for end in [0, 1, 0, 2, 1, 2, 2, 3, 3, 4, 4, 5, 4, 6, 5, 6] {
             image.extend([end, 0]);
         }
@@ -669,16 +681,88 @@ cores 2 borders 5 outliers 0 multiple 1
 
     #[test]
     fn nearness_at_its_limit() {
-        let near_count = |positions: Vec<(i32, i32)>, gamma_squared| {
-            let ties = vec![(1, 0)];
+        let near_count = |one: [i32; 3], other: [i32; 3], gamma_squared| {
+            let (positions, ties) = (vec![one, other], vec![(1, 0)]);
             let site = sites::Site { positions, ties, gamma_squared, ..sites::site_s(1) };
             findings(&site).record(0).expect("a handset").near
         };
-        assert_eq!(near_count(vec![(0, 0), (1, 2)], 5), 2);
-        assert_eq!(near_count(vec![(0, 0), (1, 2)], 4), 1);
-        let corners = vec![(-1_000_000, 1_000_000), (1_000_000, -1_000_000)];
-        assert_eq!(near_count(corners.clone(), 8_000_000_000_000), 2);
-        assert_eq!(near_count(corners, 7_999_999_999_999), 1);
+        assert_eq!(near_count([0, 0, 0], [1, 2, 0], 5), 2);
+        assert_eq!(near_count([0, 0, 0], [1, 2, 0], 4), 1);
+        assert_eq!(near_count([0, 0, 0], [1, 2, -3], 14), 2);
+        assert_eq!(near_count([0, 0, 0], [1, 2, -3], 13), 1);
+        let far = 1_000_000;
+        assert_eq!(near_count([-far, far, -far], [far, -far, far], 12_000_000_000_000), 2);
+        assert_eq!(near_count([-far, far, -far], [far, -far, far], 11_999_999_999_999), 1);
+    }
+
+    /// Floors 1 and 9: z alone tells whether the two are near.
+    #[test]
+    fn nearness_of_one_above_the_other() {
+        let near_count = |site: &sites::Site| findings(site).record(0).expect("a handset").near;
+        assert_eq!(near_count(&sites::porters(1024)), 2);
+        assert_eq!(near_count(&sites::porters(1023)), 1);
+        assert_eq!(groups(&sites::porters(1024)), [[0, 1]]);
+        assert!(groups(&sites::porters(1023)).is_empty());
+        for site in sites::shafts() {
+            let dz = site.positions[0][2].abs_diff(site.positions[1][2]);
+            let near = u64::from(dz).pow(2) <= site.gamma_squared;
+            assert_eq!(near_count(&site), 1 + u64::from(near), "{site:?}");
+        }
+    }
+
+    /// The near test of before, of the ends of a tie: dx² + dy² ≤ G.
+    fn near_test_before(site: &Site, &(u, v): &(usize, usize)) -> Option<u64> {
+        let ([x, y, _], [other_x, other_y, _]) = (site.positions[u], site.positions[v]);
+        let (dx, dy) = (x - other_x, y - other_y);
+        let distance = (dx * dx + dy * dy) as u64;
+        (distance <= site.gamma_squared).then_some(distance)
+    }
+
+    /// The near sets by that test.
+    fn near_sets_before(site: &Site) -> Vec<HashSet<usize>> {
+        let mut near: Vec<HashSet<usize>> =
+            (0..site.positions.len()).map(|handset| HashSet::from([handset])).collect();
+        for &(u, v) in site.ties.iter().filter(|tie| near_test_before(site, tie).is_some()) {
+            near[u].insert(v);
+            near[v].insert(u);
+        }
+        near
+    }
+
+    /// The end of a group's line by that test: its reach and its members.
+    fn line_end_before(site: &Site, members: &BTreeSet<usize>) -> String {
+        let inside = |&&(u, v): &&(usize, usize)| members.contains(&u) && members.contains(&v);
+        let near = site.ties.iter().filter(inside).filter_map(|tie| near_test_before(site, tie));
+        let reach = near.max().map_or("-".to_string(), |reach| reach.to_string());
+        format!(" reach {reach}:{}", numbers(members.iter().copied()).trim_end())
+    }
+
+    /// Where every z is 0, near tests, near sets, groups and the report are those of the near test of before.
+    #[test]
+    fn sites_on_the_ground_are_planned_as_before() {
+        let mut rng = Rng::new(10);
+        let (mut near, mut far) = (0, 0);
+        for _ in 0..400 {
+            let mut drawn = sites::any(&mut rng);
+            drawn.positions.iter_mut().for_each(|position| position[2] = 0);
+            let found = findings(&drawn);
+            let site = found.site();
+            for tie in &site.ties {
+                let before = near_test_before(site, tie);
+                assert_eq!(near_test(site, tie.0, tie.1), before);
+                *(if before.is_some() { &mut near } else { &mut far }) += 1;
+            }
+            assert_eq!(found.near, near_sets_before(site));
+            let groups = communities(site, &near_sets_before(site));
+            assert_eq!(found.communities(), groups);
+            let text = String::from_utf8(text(&found)).expect("text");
+            let lines: Vec<&str> = text.lines().filter(|line| line.starts_with("group ")).collect();
+            assert_eq!(lines.len(), groups.len());
+            for (line, group) in lines.iter().zip(&groups) {
+                assert!(line.ends_with(&line_end_before(site, &group.members)), "{line}");
+            }
+        }
+        assert!(near > 1000 && far > 1000, "{near} {far}");
     }
 
     /// The reaches of a site's groups.
@@ -698,7 +782,7 @@ cores 2 borders 5 outliers 0 multiple 1
         assert_eq!(reaches(&sites::two_reaches()), [Some(2500), Some(100)]);
         // Two handsets, tied, with mu 1: a group while they are near, and else a group each.
         let two = |gamma_squared| {
-            let positions = vec![(0, 0), (1, 2)];
+            let positions = vec![[0, 0, 0], [1, 2, 0]];
             reaches(&sites::Site {
                 positions,
                 ties: vec![(1, 0)],
@@ -707,6 +791,8 @@ cores 2 borders 5 outliers 0 multiple 1
             })
         };
         assert_eq!((two(6), two(5), two(4)), (vec![Some(5)], vec![Some(5)], vec![None, None]));
+        assert_eq!(reaches(&sites::porters(1024)), [Some(1024)]);
+        assert_eq!(reaches(&sites::tower()), [Some(225)]);
     }
 
     /// The longest tie of four that are tied each to each: at gamma exactly, one below, one beyond.
@@ -717,7 +803,8 @@ cores 2 borders 5 outliers 0 multiple 1
         assert_eq!(reaches(&limit(2501)), [Some(2500)]);
         assert_eq!(reaches(&limit(2499)), [Some(1000)]);
         let corners = |gamma_squared| sites::Site { gamma_squared, ..sites::corners() };
-        assert_eq!(reaches(&corners(8_000_000_000_000)), [Some(8_000_000_000_000)]);
+        assert_eq!(reaches(&corners(12_000_000_000_000)), [Some(12_000_000_000_000)]);
+        assert_eq!(reaches(&corners(11_999_999_999_999)), [Some(8_000_000_000_000)]);
         assert_eq!(reaches(&corners(7_999_999_999_999)), [Some(4_000_000_000_000)]);
     }
 
@@ -754,8 +841,8 @@ cores 2 borders 5 outliers 0 multiple 1
         let clique = [(7, 8), (7, 9), (7, 10), (8, 9), (8, 10), (9, 10)];
         let others = [(1, 2), (1, 4), (2, 3), (2, 4), (3, 4), (3, 6), (1, 5), (4, 5), (10, 11)];
         let ties = others.iter().chain(&clique).map(|&(u, v)| (u - 1, v - 1)).collect();
-        let mut positions = vec![(0, 0); 11];
-        positions[4] = (3, 0);
+        let mut positions = vec![[0; 3]; 11];
+        positions[4] = [3, 0, 0];
         let site = sites::Site { positions, ties, gamma_squared: 5, epsilon: (7, 10), mu: 3 };
         assert_eq!(groups(&site), [vec![0, 1, 2, 3, 5], vec![6, 7, 8, 9]]);
         let outlier = |user: u64| findings(&site).record(user - 1).map(|record| record.role);
@@ -842,34 +929,51 @@ cores 2 borders 5 outliers 0 multiple 1
         let nearest =
             |community, squared_distance| Ok(Some(Nearest { community, squared_distance }));
         let s = findings(&sites::site_s(4));
-        assert_eq!(s.nearest((3, -4)), nearest(0, 25));
+        assert_eq!(s.nearest([3, -4, 0]), nearest(0, 25));
+        assert_eq!(s.nearest([3, -4, 12]), nearest(0, 169));
         let apart = findings(&sites::apart());
-        assert_eq!(apart.nearest((0, 0)), nearest(0, 2));
-        assert_eq!(apart.nearest((1, 0)), nearest(1, 1));
-        assert_eq!(apart.nearest((1_000_000, -1_000_000)), nearest(0, 2_000_000_000_002));
-        assert_eq!(apart.nearest((-1_000_000, 1_000_000)), nearest(0, 2_000_000_000_002));
+        assert_eq!(apart.nearest([0, 0, 0]), nearest(0, 2));
+        assert_eq!(apart.nearest([1, 0, 0]), nearest(1, 1));
+        assert_eq!(apart.nearest([1, 0, -2]), nearest(1, 5));
+        assert_eq!(apart.nearest([1_000_000, -1_000_000, 0]), nearest(0, 2_000_000_000_002));
+        assert_eq!(apart.nearest([-1_000_000, 1_000_000, 0]), nearest(0, 2_000_000_000_002));
+        let limits = [1_000_000, -1_000_000, 1_000_000];
+        assert_eq!(apart.nearest(limits), nearest(0, 3_000_000_000_002));
         // The shared border of two groups; a border that is nearer than every core; an outlier.
         let mut site = sites::site_s(4);
         site.gamma_squared = 100;
-        site.positions[3] = (0, 5);
-        site.positions[6] = (0, 9);
-        assert_eq!(findings(&site).nearest((0, 6)), nearest(0, 1));
-        assert_eq!(findings(&site).nearest((0, 8)), nearest(1, 1));
+        site.positions[3] = [0, 5, 0];
+        site.positions[6] = [0, 9, 0];
+        assert_eq!(findings(&site).nearest([0, 6, 0]), nearest(0, 1));
+        assert_eq!(findings(&site).nearest([0, 8, 0]), nearest(1, 1));
         let site = sites::Site { epsilon: (3, 5), mu: 3, ..site };
-        assert_eq!(findings(&site).nearest((0, 5)), nearest(1, 16));
+        assert_eq!(findings(&site).nearest([0, 5, 0]), nearest(1, 16));
+    }
+
+    /// Two groups of one, one above the other on floors 1 and 9: z alone tells which is nearer, and
+    /// halfway the first is named.
+    #[test]
+    fn nearest_group_by_z_alone() {
+        let site = sites::Site { ties: Vec::new(), mu: 1, ..sites::porters(0) };
+        let found = findings(&site);
+        let at = |z| found.nearest([25, -70, z]).map(|found| found.expect("a group").community);
+        assert_eq!((at(4), at(19), at(20)), (Ok(0), Ok(0), Ok(0)));
+        assert_eq!((at(21), at(36), at(1_000_000)), (Ok(1), Ok(1), Ok(1)));
+        assert_eq!((at(-1_000_000), at(1_000_001)), (Ok(0), Err(refusal(17, 0))));
     }
 
     #[test]
     fn nearest_where_there_are_no_groups_or_limits_are_passed() {
         for site in [sites::untied(0, 0), sites::untied(1, 2)] {
             let found = findings(&site);
-            assert_eq!(found.nearest((0, -1_000_000)), Ok(None));
+            assert_eq!(found.nearest([0, -1_000_000, 1_000_000]), Ok(None));
             for beyond in [1_000_001, -1_000_001, i32::MAX, i32::MIN] {
-                assert_eq!(found.nearest((beyond, 0)), Err(refusal(17, 0)));
-                assert_eq!(found.nearest((0, beyond)), Err(refusal(17, 0)));
+                assert_eq!(found.nearest([beyond, 0, 0]), Err(refusal(17, 0)));
+                assert_eq!(found.nearest([0, beyond, 0]), Err(refusal(17, 0)));
+                assert_eq!(found.nearest([0, 0, beyond]), Err(refusal(17, 0)));
             }
         }
-        assert_eq!(Reference.nearest(&[], (1_000_001, 0)), Err(refusal(1, 0)));
+        assert_eq!(Reference.nearest(&[], [0, 0, 1_000_001]), Err(refusal(1, 0)));
     }
 
     #[test]
@@ -923,30 +1027,36 @@ cores 2 borders 5 outliers 0 multiple 1
     }
 
     /// Site S with mu 4, byte by byte.
-    const S_IMAGE: [u8; 120] = [
-        7, 0, 8, 0, 32, 0, 0, 0, 88, 0, 0, 0, 120, 0, 0, 0, // n, m, both offsets, L
-        0, 0, 0, 0, 0, 0, 0, 0, 1, 0, 2, 0, 4, 0, 0, 0, // G, p, q, mu, reserved
-        0, 0, 0, 0, 0, 0, 0, 0, 0, 0, 0, 0, 0, 0, 0, 0, // handsets 0 and 1
-        0, 0, 0, 0, 0, 0, 0, 0, 0, 0, 0, 0, 0, 0, 0, 0, // handsets 2 and 3
-        0, 0, 0, 0, 0, 0, 0, 0, 0, 0, 0, 0, 0, 0, 0, 0, // handsets 4 and 5
-        0, 0, 0, 0, 0, 0, 0, 0, // handset 6
+    const S_IMAGE: [u8; 148] = [
+        7, 0, 8, 0, 32, 0, 0, 0, 116, 0, 0, 0, 148, 0, 0, 0, // n, m, both offsets, L
+        0, 0, 0, 0, 0, 0, 0, 0, 1, 0, 2, 0, 4, 0, 12, 0, // G, p, q, mu, a record's width
+        0, 0, 0, 0, 0, 0, 0, 0, 0, 0, 0, 0, // handset 0
+        0, 0, 0, 0, 0, 0, 0, 0, 0, 0, 0, 0, // handset 1
+        0, 0, 0, 0, 0, 0, 0, 0, 0, 0, 0, 0, // handset 2
+        0, 0, 0, 0, 0, 0, 0, 0, 0, 0, 0, 0, // handset 3
+        0, 0, 0, 0, 0, 0, 0, 0, 0, 0, 0, 0, // handset 4
+        0, 0, 0, 0, 0, 0, 0, 0, 0, 0, 0, 0, // handset 5
+        0, 0, 0, 0, 0, 0, 0, 0, 0, 0, 0, 0, // handset 6
         0, 0, 1, 0, 0, 0, 2, 0, 1, 0, 2, 0, 2, 0, 3, 0, // ties 0 to 3
         3, 0, 4, 0, 4, 0, 5, 0, 4, 0, 6, 0, 5, 0, 6, 0, // ties 4 to 7
     ];
 
     const S_NUMBERS: Contents = Contents {
         parameters: Parameters { handsets: 7, ties: 8, gamma_squared: 0, p: 1, q: 2, mu: 4 },
-        coordinates: &[0; 14],
+        coordinates: &[0; 21],
         ends: &[0, 1, 0, 2, 1, 2, 2, 3, 3, 4, 4, 5, 4, 6, 5, 6],
     };
 
     /// Three handsets, some at the limits; the largest G; a blank mu.
-    const FAR_IMAGE: [u8; 60] = [
-        3, 0, 1, 0, 32, 0, 0, 0, 56, 0, 0, 0, 60, 0, 0, 0, // n, m, both offsets, L
-        0, 0x80, 0x28, 0xa5, 0x46, 0x07, 0, 0, 0x41, 2, 0xe8, 3, 0, 0, 0, 0, // G, p, q, mu
-        0xfd, 0xff, 0xff, 0xff, 2, 1, 0, 0, // handset 0 at (-3, 258)
-        0x40, 0x42, 0x0f, 0, 0xc0, 0xbd, 0xf0, 0xff, // handset 1 at (1,000,000, -1,000,000)
-        0, 0, 0, 0, 0xff, 0xff, 0xff, 0xff, // handset 2 at (0, -1)
+    const FAR_IMAGE: [u8; 72] = [
+        3, 0, 1, 0, 32, 0, 0, 0, 68, 0, 0, 0, 72, 0, 0, 0, // n, m, both offsets, L
+        0, 0xc0, 0xbc, 0xf7, 0xe9, 0x0a, 0, 0, // G
+        0x41, 2, 0xe8, 3, 0, 0, 12, 0, // p, q, mu, a record's width
+        0xfd, 0xff, 0xff, 0xff, 2, 1, 0, 0, 5, 0, 0, 0, // handset 0 at (-3, 258, 5)
+        0x40, 0x42, 0x0f, 0, 0xc0, 0xbd, 0xf0, 0xff, 0x40, 0x42, 0x0f,
+        0, // handset 1 at limits
+        0, 0, 0, 0, 0xff, 0xff, 0xff, 0xff, 0xfe, 0xff, 0xff,
+        0xff, // handset 2 at (0, -1, -2)
         2, 0, 1, 0, // tie 0
     ];
 
@@ -954,12 +1064,12 @@ cores 2 borders 5 outliers 0 multiple 1
         parameters: Parameters {
             handsets: 3,
             ties: 1,
-            gamma_squared: 8_000_000_000_000,
+            gamma_squared: 12_000_000_000_000,
             p: 577,
             q: 1000,
             mu: 0,
         },
-        coordinates: &[-3, 258, 1_000_000, -1_000_000, 0, -1],
+        coordinates: &[-3, 258, 5, 1_000_000, -1_000_000, 1_000_000, 0, -1, -2],
         ends: &[2, 1],
     };
 
@@ -971,8 +1081,8 @@ cores 2 borders 5 outliers 0 multiple 1
             assert!(open(image).is_ok());
         }
         assert_eq!(sites::site_s(4).plain_image(), S_IMAGE);
-        let mut longer = [9; 62];
-        assert_eq!(Reference.write(FAR_NUMBERS, &mut longer), Ok(60));
+        let mut longer = [9; 74];
+        assert_eq!(Reference.write(FAR_NUMBERS, &mut longer), Ok(72));
         assert_eq!(longer, [&FAR_IMAGE[..], &[9, 9]].concat()[..]);
     }
 
@@ -988,14 +1098,14 @@ cores 2 borders 5 outliers 0 multiple 1
         assert_eq!((number(|x| x.handsets = 512), number(|x| x.handsets = 513)), (6, 3));
         assert_eq!((number(|x| x.ties = 4096), number(|x| x.ties = 4097)), (6, 3));
         assert_eq!((number(|x| x.handsets += 1 << 16), number(|x| x.ties += 1 << 63)), (3, 3));
-        let most = |x: &mut Parameters| x.gamma_squared = 8_000_000_000_000;
-        let more = |x: &mut Parameters| x.gamma_squared = 8_000_000_000_001;
+        let most = |x: &mut Parameters| x.gamma_squared = 12_000_000_000_000;
+        let more = |x: &mut Parameters| x.gamma_squared = 12_000_000_000_001;
         assert_eq!((number(most), number(more)), (20, 5));
         assert_eq!((number(|x| x.p = 2), number(|x| x.p = 3), number(|x| x.p = 0)), (20, 5, 5));
         assert_eq!((number(|x| x.q = 1000), number(|x| x.q = 1001)), (20, 5));
         assert_eq!((number(|x| x.mu = 512), number(|x| x.mu = 513)), (20, 5));
         assert_eq!((number(|x| x.mu = 0), number(|x| x.mu += 1 << 32)), (20, 5));
-        for coordinates in [&[0; 13][..], &[0; 15], &[0; 16], &[]] {
+        for coordinates in [&[0; 20][..], &[0; 22], &[0; 24], &[0; 14], &[]] {
             let contents = Contents { coordinates, ..S_NUMBERS };
             assert_eq!(written(contents, 0), Err(refusal(6, 0)));
         }
@@ -1007,18 +1117,20 @@ cores 2 borders 5 outliers 0 multiple 1
     #[test]
     fn tables_that_are_refused() {
         let coordinate = |at: usize, value| {
-            let mut coordinates = [0; 14];
+            let mut coordinates = [0; 21];
             coordinates[at] = value;
-            written(Contents { coordinates: &coordinates, ..S_NUMBERS }, 120).map(|_| ())
+            written(Contents { coordinates: &coordinates, ..S_NUMBERS }, 148).map(|_| ())
         };
-        assert_eq!((coordinate(0, 1_000_000), coordinate(13, -1_000_000)), (Ok(()), Ok(())));
+        assert_eq!((coordinate(0, 1_000_000), coordinate(20, -1_000_000)), (Ok(()), Ok(())));
         assert_eq!(coordinate(0, 1_000_001), Err(refusal(7, 0)));
-        assert_eq!(coordinate(13, -1_000_001), Err(refusal(7, 6)));
-        assert_eq!(coordinate(4, i32::MIN), Err(refusal(7, 2)));
+        assert_eq!(coordinate(1, 1_000_001), Err(refusal(7, 0)));
+        assert_eq!(coordinate(2, 1_000_001), Err(refusal(7, 0)));
+        assert_eq!(coordinate(20, -1_000_001), Err(refusal(7, 6)));
+        assert_eq!(coordinate(6, i32::MIN), Err(refusal(7, 2)));
         let tie = |number: usize, ends: [u16; 2]| {
             let mut table = S_NUMBERS.ends.to_vec();
             table[2 * number..2 * number + 2].copy_from_slice(&ends);
-            written(Contents { ends: &table, ..S_NUMBERS }, 120).map(|_| ())
+            written(Contents { ends: &table, ..S_NUMBERS }, 148).map(|_| ())
         };
         assert_eq!(tie(7, [6, 0]), Ok(()));
         assert_eq!((tie(7, [6, 7]), tie(0, [65_535, 1])), (Err(refusal(8, 7)), Err(refusal(8, 0))));
@@ -1045,7 +1157,7 @@ cores 2 borders 5 outliers 0 multiple 1
     #[test]
     fn every_report_fits_the_programs_buffer() {
         let head = "handsets 512 ties 4096 groups 512 memberships 4608\n".len();
-        let group = "group 511 density 130816/130816 conductance 4096/8192 reach 8000000000000:\n";
+        let group = "group 511 density 130816/130816 conductance 4096/8192 reach 12000000000000:\n";
         let roles = "cores:\noutliers:\n".len() + 4 * MOST_HANDSETS;
         let totals = "cores 512 borders 512 outliers 512 multiple 512\n".len();
         let members = 4 * (MOST_HANDSETS + MOST_TIES);
@@ -1084,9 +1196,64 @@ cores 2 borders 5 outliers 0 multiple 1
         assert!(with_length(65_536).starts_with(b"handsets 0 "));
         assert_eq!(with_length(65_537), b"refused 15 0\n");
         assert_eq!(program(b""), b"refused 1 0\n");
-        let beyond =
-            sites::Site { positions: vec![(0, 0), (0, -1_000_001)], ..sites::untied(2, 1) };
+        let positions = vec![[0, 0, 0], [0, 0, -1_000_001]];
+        let beyond = sites::Site { positions, ..sites::untied(2, 1) };
         assert_eq!(program(&beyond.plain_image()), b"refused 7 1\n");
+    }
+
+    /// Bytes 30 and 31 together hold 12, and nothing else.
+    #[test]
+    fn the_width_of_a_record() {
+        let image = sites::site_s(4).plain_image();
+        let opened = |value| {
+            open(&damage::apply(&image, &[damage::Edit::Set { at: 30, width: 2, value }]))
+                .map(|_| ())
+        };
+        assert_eq!(opened(12), Ok(()));
+        for width in [0, 1, 4, 8, 11, 13, 16, 0x0c00, 0x0c0c, 0x010c, 0xff0c, 0xffff] {
+            assert_eq!(opened(width), Err(refusal(4, 0)), "{width}");
+        }
+    }
+
+    /// Images of before are refused with 4, whatever follows their records, and no gap is read as a z.
+    #[test]
+    fn images_of_before() {
+        let mut rng = Rng::new(11);
+        for _ in 0..300 {
+            let site = sites::any(&mut rng);
+            let image = site.image(sites::Layout::any(&mut rng), &mut rng);
+            for old in damage::before(&image) {
+                assert_eq!(open(&old), Err(refusal(4, 0)));
+            }
+            let [plain, gapped] = damage::before_with_the_width(&image);
+            match site.positions.len() {
+                // Without records their width makes no difference.
+                0 => assert!(open(&plain).is_ok() && open(&gapped).is_ok()),
+                _ => {
+                    assert_eq!(open(&plain), Err(refusal(6, 0)));
+                    // As long as records of now: read for what the bytes then say.
+                    assert_ne!(open(&gapped).map(|_| ()), Err(refusal(4, 0)));
+                }
+            }
+        }
+    }
+
+    /// In an image of now: x alone, y alone and z alone beyond the limits, at the place of their handset.
+    #[test]
+    fn coordinates_beyond_their_limits() {
+        for handset in [0, 3, 6] {
+            for axis in 0..3 {
+                for (value, refused) in
+                    [(1_000_000, false), (1_000_001, true), (-1_000_000, false), (-1_000_001, true)]
+                {
+                    let mut site = sites::site_s(4);
+                    site.positions[handset][axis] = value;
+                    let opened = open(&site.plain_image()).map(|_| ());
+                    let place = handset as u64;
+                    assert_eq!(opened, if refused { Err(refusal(7, place)) } else { Ok(()) });
+                }
+            }
+        }
     }
 
     /// Every choice of faults: the first question decides.
@@ -1121,7 +1288,7 @@ cores 2 borders 5 outliers 0 multiple 1
             let edit = damage::Edit::Set { at: 8, width: 4, value: at };
             open(&damage::apply(&image, &[edit])).is_ok()
         };
-        assert!(tied_at(32) && tied_at(48) && !tied_at(33) && !tied_at(40) && !tied_at(49));
+        assert!(tied_at(32) && tied_at(56) && !tied_at(33) && !tied_at(48) && !tied_at(57));
     }
 
     /// Demand 3 by trying every set of handsets of many small sites.

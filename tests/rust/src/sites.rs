@@ -6,10 +6,26 @@ use std::collections::HashSet;
 pub const MOST_HANDSETS: usize = 512;
 pub const MOST_TIES: usize = 4096;
 pub const MOST_COORDINATE: i32 = 1_000_000;
-pub const MOST_GAMMA_SQUARED: u64 = 8_000_000_000_000;
+/// The square of the longest way in the space: from one corner to the opposite one.
+pub const MOST_GAMMA_SQUARED: u64 = 12_000_000_000_000;
 /// What a blank mu, 0, means.
 pub const BLANK_MU: u16 = 4;
-const HEADER: usize = 32;
+/// How many coordinates a handset has: x, y and z.
+pub const COORDINATES: usize = 3;
+
+/// The bytes of an image's header, of each record and of each number in one.
+pub const HEADER: usize = 32;
+pub const COORDINATE_BYTES: usize = 4;
+pub const HANDSET_BYTES: usize = COORDINATES * COORDINATE_BYTES;
+pub const END_BYTES: usize = 2;
+pub const TIE_BYTES: usize = 2 * END_BYTES;
+/// Where the header has the width of a handset's record.
+pub const WIDTH_AT: usize = 30;
+
+/// The length of an image without gaps.
+pub const fn plain_length(handsets: usize, ties: usize) -> usize {
+    HEADER + HANDSET_BYTES * handsets + TIE_BYTES * ties
+}
 
 // ---------------------------------------------------------------- random numbers
 
@@ -66,9 +82,15 @@ impl Rng {
 
 // ---------------------------------------------------------------- a site and its image
 
+/// The x, the y and the z of a handset.
+pub type Position = [i32; COORDINATES];
+
+/// The place that most of the named sites have all their handsets at.
+const ORIGIN: Position = [0; COORDINATES];
+
 #[derive(Clone, Debug, PartialEq, Eq)]
 pub struct Site {
-    pub positions: Vec<(i32, i32)>,
+    pub positions: Vec<Position>,
     pub ties: Vec<(u16, u16)>,
     pub gamma_squared: u64,
     pub epsilon: (u16, u16),
@@ -103,7 +125,7 @@ impl Site {
 
     /// The image in a layout; the gaps are filled with noise.
     pub fn image(&self, layout: Layout, rng: &mut Rng) -> Vec<u8> {
-        let sizes = [8 * self.positions.len(), 4 * self.ties.len()];
+        let sizes = [HANDSET_BYTES * self.positions.len(), TIE_BYTES * self.ties.len()];
         let first = usize::from(layout.ties_first);
         let mut offsets = [0; 2];
         offsets[first] = HEADER + layout.gaps[0];
@@ -112,14 +134,10 @@ impl Site {
         let mut image = vec![0; length];
         rng.fill(&mut image);
         self.put_header(&mut image, offsets);
-        for (handset, &(x, y)) in self.positions.iter().enumerate() {
-            put(&mut image, offsets[0] + 8 * handset, &x.to_le_bytes());
-            put(&mut image, offsets[0] + 8 * handset + 4, &y.to_le_bytes());
+        for (i, coordinate) in self.positions.as_flattened().iter().enumerate() {
+            put(&mut image, offsets[0] + COORDINATE_BYTES * i, &coordinate.to_le_bytes());
         }
-        for (tie, &(u, v)) in self.ties.iter().enumerate() {
-            put(&mut image, offsets[1] + 4 * tie, &u.to_le_bytes());
-            put(&mut image, offsets[1] + 4 * tie + 2, &v.to_le_bytes());
-        }
+        put_ties(&mut image, offsets[1], &self.ties);
         image
     }
 
@@ -134,7 +152,14 @@ impl Site {
         put(image, 24, &self.epsilon.0.to_le_bytes());
         put(image, 26, &self.epsilon.1.to_le_bytes());
         put(image, 28, &self.mu.to_le_bytes());
-        put(image, 30, &[0, 0]);
+        put(image, WIDTH_AT, &(HANDSET_BYTES as u16).to_le_bytes());
+    }
+}
+
+fn put_ties(image: &mut [u8], ties_at: usize, ties: &[(u16, u16)]) {
+    for (tie, &(u, v)) in ties.iter().enumerate() {
+        put(image, ties_at + TIE_BYTES * tie, &u.to_le_bytes());
+        put(image, ties_at + TIE_BYTES * tie + END_BYTES, &v.to_le_bytes());
     }
 }
 
@@ -159,11 +184,11 @@ impl Tables {
     }
 
     pub fn handset_bytes(&self) -> std::ops::Range<usize> {
-        self.handsets_at..self.handsets_at + 8 * self.handsets
+        self.handsets_at..self.handsets_at + HANDSET_BYTES * self.handsets
     }
 
     pub fn tie_bytes(&self) -> std::ops::Range<usize> {
-        self.ties_at..self.ties_at + 4 * self.ties
+        self.ties_at..self.ties_at + TIE_BYTES * self.ties
     }
 }
 
@@ -176,20 +201,25 @@ pub fn renumber(image: &[u8], rng: &mut Rng) -> (Vec<u8>, Vec<u16>) {
     let mut second = vec![0; image.len()];
     rng.fill(&mut second);
     second[..HEADER].copy_from_slice(&image[..HEADER]);
-    for (record, &to) in image[tables.handset_bytes()].chunks(8).zip(&map) {
-        put(&mut second, tables.handsets_at + 8 * usize::from(to), record);
+    for (record, &to) in image[tables.handset_bytes()].chunks(HANDSET_BYTES).zip(&map) {
+        put(&mut second, tables.handsets_at + HANDSET_BYTES * usize::from(to), record);
     }
     let mapped = |end: &[u8]| map[usize::from(u16::from_le_bytes([end[0], end[1]]))];
     let mut records: Vec<(u16, u16)> = image[tables.tie_bytes()]
-        .chunks(4)
-        .map(|record| (mapped(&record[..2]), mapped(&record[2..])))
+        .chunks(TIE_BYTES)
+        .map(|record| (mapped(&record[..END_BYTES]), mapped(&record[END_BYTES..])))
         .collect();
     mix_ties(&mut records, rng);
-    for (tie, &(u, v)) in records.iter().enumerate() {
-        put(&mut second, tables.ties_at + 4 * tie, &u.to_le_bytes());
-        put(&mut second, tables.ties_at + 4 * tie + 2, &v.to_le_bytes());
-    }
+    put_ties(&mut second, tables.ties_at, &records);
     (second, map)
+}
+
+/// An accepted image with each handset's coordinates in another order: y, z, x. No distance changes.
+pub fn turn(image: &[u8]) -> Vec<u8> {
+    let mut turned = image.to_vec();
+    let records = turned[Tables::of(image).handset_bytes()].chunks_mut(HANDSET_BYTES);
+    records.for_each(|record| record.rotate_left(COORDINATE_BYTES));
+    turned
 }
 
 /// Another order of the ties and of each tie's ends.
@@ -207,7 +237,7 @@ fn mix_ties(ties: &mut [(u16, u16)], rng: &mut Rng) {
 /// Site S of the specification: seven handsets at one place, epsilon 1/2.
 pub fn site_s(mu: u16) -> Site {
     Site {
-        positions: vec![(0, 0); 7],
+        positions: vec![ORIGIN; 7],
         ties: vec![(0, 1), (0, 2), (1, 2), (2, 3), (3, 4), (4, 5), (4, 6), (5, 6)],
         gamma_squared: 0,
         epsilon: (1, 2),
@@ -218,7 +248,7 @@ pub fn site_s(mu: u16) -> Site {
 /// `handsets` at one place and no ties.
 pub fn untied(handsets: usize, mu: u16) -> Site {
     Site {
-        positions: vec![(0, 0); handsets],
+        positions: vec![ORIGIN; handsets],
         ties: Vec::new(),
         gamma_squared: 0,
         epsilon: (1, 2),
@@ -226,9 +256,37 @@ pub fn untied(handsets: usize, mu: u16) -> Site {
     }
 }
 
-/// Two handsets that are not tied, at (-1, -1) and (1, 1): a community each.
+/// Two handsets that are not tied, at (-1, -1, 0) and (1, 1, 0): a community each.
 pub fn apart() -> Site {
-    Site { positions: vec![(-1, -1), (1, 1)], ..untied(2, 1) }
+    Site { positions: vec![[-1, -1, 0], [1, 1, 0]], ..untied(2, 1) }
+}
+
+/// How far apart the two of `porters` stand, squared: eight storeys of four metres.
+pub const PORTERS_APART: u64 = 32 * 32;
+
+/// Two porters one above the other, on floors 1 and 9, tied: nothing but z tells how far apart they are.
+pub fn porters(gamma_squared: u64) -> Site {
+    Site {
+        positions: vec![[25, -70, 4], [25, -70, 36]],
+        ties: vec![(1, 0)],
+        gamma_squared,
+        ..untied(2, 2)
+    }
+}
+
+/// The same two on one floor, on both sides of z = 0, at both ends of z and next to one: each with gamma
+/// just as long as they are apart, with one less and with one more for its square.
+pub fn shafts() -> Vec<Site> {
+    let far = MOST_COORDINATE;
+    let mut sites = Vec::new();
+    for (low, high) in [(-32, -32), (-32, 32), (-1, 0), (-far, far), (far - 1, far)] {
+        let apart = u64::from(low.abs_diff(high)).pow(2);
+        for gamma_squared in [apart.saturating_sub(1), apart, apart + 1] {
+            let positions = vec![[25, -70, low], [25, -70, high]];
+            sites.push(Site { positions, ..porters(gamma_squared) });
+        }
+    }
+    sites
 }
 
 /// Handset 0 is a border in five communities: five cliques of seven, each with one handset tied to it.
@@ -236,7 +294,7 @@ pub fn apart() -> Site {
 /// too far away and is an outlier.
 pub fn hub() -> Site {
     let (cliques, size) = (5, 7);
-    let mut positions = vec![(0, 0)];
+    let mut positions = vec![ORIGIN];
     let mut ties = Vec::new();
     for clique in 0..cliques {
         let members = 1 + clique * size..1 + (clique + 1) * size;
@@ -244,10 +302,10 @@ pub fn hub() -> Site {
             ties.extend((u + 1..members.end).map(|v| (u, v)));
         }
         ties.push((members.start + clique, 0));
-        positions.extend((-3..=3).map(|y| (i32::from(clique) - 2, y)));
+        positions.extend((-3..=3).map(|y| [i32::from(clique) - 2, y, 0]));
     }
     ties.push((positions.len() as u16, 0));
-    positions.push((MOST_COORDINATE, -MOST_COORDINATE));
+    positions.push([MOST_COORDINATE, -MOST_COORDINATE, 0]);
     Site { positions, ties, gamma_squared: 100, epsilon: (1, 4), mu: size }
 }
 
@@ -256,8 +314,8 @@ pub fn hub() -> Site {
 /// cores of one group and are in that one only. Cores 5 and 15 of different groups are tied and near,
 /// and not alike. Outlier 10 is alike to a border, and outlier 18 is tied to a core from too far away.
 pub fn totals() -> Site {
-    let mut positions = vec![(0, 0); 19];
-    positions[18] = (1, 0);
+    let mut positions = vec![ORIGIN; 19];
+    positions[18] = [1, 0, 0];
     let groups = [
         [(0, 2), (1, 2), (2, 3), (2, 7)].as_slice(),
         &[(4, 5), (5, 6), (5, 7), (5, 17)],
@@ -269,16 +327,21 @@ pub fn totals() -> Site {
     Site { positions, ties, gamma_squared: 0, epsilon: (2, 5), mu: 5 }
 }
 
+/// Positions by x and y, with z = 0.
+fn on_the_ground(places: &[(i32, i32)]) -> Vec<Position> {
+    places.iter().map(|&(x, y)| [x, y, 0]).collect()
+}
+
 /// One handset, and a group of it alone: no tie, so no reach.
 pub fn alone() -> Site {
-    Site { positions: vec![(35, -12)], gamma_squared: 50 * 50, ..untied(1, 1) }
+    Site { positions: vec![[35, -12, 0]], gamma_squared: 50 * 50, ..untied(1, 1) }
 }
 
 /// Four handsets, each two of them tied, in one group. The longest tie, 0-1, is exactly as long as gamma,
 /// 50 metres, and is neither the first nor the last.
 pub fn at_limit() -> Site {
     Site {
-        positions: vec![(120, 80), (150, 120), (140, 90), (130, 100)],
+        positions: on_the_ground(&[(120, 80), (150, 120), (140, 90), (130, 100)]),
         ties: vec![(0, 2), (2, 3), (1, 0), (1, 2), (3, 1), (0, 3)],
         gamma_squared: 50 * 50,
         epsilon: (1, 2),
@@ -290,7 +353,7 @@ pub fn at_limit() -> Site {
 /// near tie 2-4 to outlier 4 is longer than the reach.
 pub fn beyond() -> Site {
     Site {
-        positions: vec![(-40, 210), (-10, 210), (-20, 240), (15, 220), (-60, 265)],
+        positions: on_the_ground(&[(-40, 210), (-10, 210), (-20, 240), (15, 220), (-60, 265)]),
         ties: vec![(0, 1), (3, 0), (2, 3), (0, 2), (4, 2), (1, 2), (1, 3)],
         gamma_squared: 50 * 50,
         epsilon: (3, 4),
@@ -302,7 +365,7 @@ pub fn beyond() -> Site {
 /// Handsets 3 and 9 of the first group stand farther apart and within gamma, and are not tied.
 pub fn paired_borders() -> Site {
     Site {
-        positions: vec![
+        positions: on_the_ground(&[
             (0, 0),
             (1, 0),
             (0, 1),
@@ -313,7 +376,7 @@ pub fn paired_borders() -> Site {
             (6, 2),
             (3, -2),
             (4, 5),
-        ],
+        ]),
         ties: vec![
             (0, 1),
             (0, 2),
@@ -344,7 +407,7 @@ pub fn unlike_members() -> Site {
     let left = [(0, 3), (0, 0), (2, 0), (2, 3)];
     let right = left.map(|(x, y)| (10 - x, y));
     Site {
-        positions: [&left[..], &[(5, 1)], &right].concat(),
+        positions: on_the_ground(&[&left[..], &[(5, 1)], &right].concat()),
         ties: draft.ties,
         gamma_squared: 20 * 20,
         epsilon: (1, 2),
@@ -352,8 +415,8 @@ pub fn unlike_members() -> Site {
     }
 }
 
-/// The groups of `at_limit` and of `unlike_members` on one site, each with a reach of its own: exactly G, and that
-/// of a tie between two that are not alike.
+/// The groups of `at_limit` and of `unlike_members` on one site, each with a reach of its own: exactly
+/// G, and that of a tie between two that are not alike.
 pub fn two_reaches() -> Site {
     let (first, second) = (at_limit(), unlike_members());
     let past = first.positions.len() as u16;
@@ -365,13 +428,35 @@ pub fn two_reaches() -> Site {
     }
 }
 
-/// A handset at each corner of the area, each two of them tied, and the largest gamma, which is the diagonal.
+/// A handset at each corner of the space, each two of them tied, and the largest gamma, which is the
+/// diagonal. Opposite corners have the numbers k and 7 - k, so that neither the first tie nor the last
+/// joins two.
 pub fn corners() -> Site {
     let far = MOST_COORDINATE;
+    let side = |corner: usize, axis: usize| if corner >> axis & 1 == 0 { -far } else { far };
+    let mut draft = Draft::new(1 << COORDINATES);
+    draft.clique(0, draft.handsets);
     Site {
-        positions: vec![(-far, -far), (far, -far), (-far, far), (far, far)],
-        ties: vec![(0, 1), (2, 0), (3, 0), (2, 1), (1, 3), (2, 3)],
+        positions: (0..draft.handsets)
+            .map(|corner| std::array::from_fn(|axis| side(corner, axis)))
+            .collect(),
+        ties: draft.ties,
         gamma_squared: MOST_GAMMA_SQUARED,
+        epsilon: (1, 2),
+        mu: 3,
+    }
+}
+
+/// Five handsets one above the other, each tied to the others, in one group: from two floors down to
+/// three up, on both sides of z = 0. The longest near tie, 4-1, is neither the first nor the last, and
+/// 4-0 is beyond gamma.
+pub fn tower() -> Site {
+    let mut draft = Draft::new(5);
+    draft.clique(0, 5);
+    Site {
+        positions: [-8, -3, 1, 4, 12].map(|z| [3, -2, z]).to_vec(),
+        ties: draft.ties,
+        gamma_squared: 15 * 15,
         epsilon: (1, 2),
         mu: 3,
     }
@@ -395,11 +480,14 @@ pub fn reaching() -> Vec<Site> {
         corners(),
         corner(MOST_GAMMA_SQUARED - 1),
         stretched_borders(),
+        porters(PORTERS_APART),
+        porters(PORTERS_APART - 1),
+        tower(),
     ]
 }
 
-/// A site as hospitals have them: wards of some dozen handsets within 60 metres, most ties within a
-/// ward, gamma 200 metres, epsilon 2/5, mu 4.
+/// A site as hospitals have them: wards of some dozen handsets within 60 metres on one of eight floors, most
+/// ties within a ward, gamma 200 metres, epsilon 2/5, mu 4.
 pub fn hospital(handsets: usize, ties: usize, rng: &mut Rng) -> Site {
     let ward = ward_size(handsets, ties);
     let mut draft = Draft::new(handsets);
@@ -420,7 +508,7 @@ pub fn shared_borders() -> Site {
     let mut draft = Draft::new(cores + borders);
     (0..MOST_TIES).for_each(|step| draft.tie(step % cores, cores + step % borders));
     Site {
-        positions: vec![(0, 0); draft.handsets],
+        positions: vec![ORIGIN; draft.handsets],
         ties: draft.ties,
         gamma_squared: 0,
         epsilon: (1, 1000),
@@ -428,13 +516,19 @@ pub fn shared_borders() -> Site {
     }
 }
 
-/// The same with each tie from one corner of the area to the opposite one, near by the largest gamma: the
+/// Two opposite corners of the space: no two positions are farther apart.
+const OPPOSITE: [Position; 2] = [
+    [-MOST_COORDINATE, MOST_COORDINATE, -MOST_COORDINATE],
+    [MOST_COORDINATE, -MOST_COORDINATE, MOST_COORDINATE],
+];
+
+/// The same with each tie from one corner of the space to the opposite one, near by the largest gamma: the
 /// longest report that we know how to make.
 pub fn stretched_borders() -> Site {
     let mut site = shared_borders();
     for &(core, border) in &site.ties {
-        site.positions[usize::from(core)] = (-MOST_COORDINATE, MOST_COORDINATE);
-        site.positions[usize::from(border)] = (MOST_COORDINATE, -MOST_COORDINATE);
+        site.positions[usize::from(core)] = OPPOSITE[0];
+        site.positions[usize::from(border)] = OPPOSITE[1];
     }
     Site { gamma_squared: MOST_GAMMA_SQUARED, ..site }
 }
@@ -447,7 +541,7 @@ pub fn two_hubs() -> Site {
         draft.tie(handset, 1);
     }
     Site {
-        positions: vec![(0, 0); MOST_HANDSETS],
+        positions: vec![ORIGIN; MOST_HANDSETS],
         ties: draft.ties,
         gamma_squared: 0,
         epsilon: (1, 1),
@@ -460,7 +554,7 @@ pub fn one_clique() -> Site {
     let mut draft = Draft::new(MOST_HANDSETS);
     draft.clique(0, 91);
     Site {
-        positions: vec![(0, 0); MOST_HANDSETS],
+        positions: vec![ORIGIN; MOST_HANDSETS],
         ties: draft.ties,
         gamma_squared: 0,
         epsilon: (1, 1),
@@ -535,15 +629,16 @@ fn ward_size(handsets: usize, ties: usize) -> usize {
     (16 * ties / (5 * handsets.max(1))).clamp(4, 40)
 }
 
-fn ward_positions(handsets: usize, ward: usize, rng: &mut Rng) -> Vec<(i32, i32)> {
-    let mut centre = (0, 0);
+/// A ward is on one floor, and each floor is four metres above the one below it.
+fn ward_positions(handsets: usize, ward: usize, rng: &mut Rng) -> Vec<Position> {
+    let mut centre = ORIGIN;
     let mut positions = Vec::new();
     for handset in 0..handsets {
         if handset % ward == 0 {
-            centre = (rng.between(-1000, 1000), rng.between(-1000, 1000));
+            centre = [rng.between(-1000, 1000), rng.between(-1000, 1000), 4 * rng.between(-1, 6)];
         }
-        let (dx, dy) = (rng.between(-30, 30), rng.between(-30, 30));
-        positions.push((centre.0 + dx, centre.1 + dy));
+        let [x, y, z] = centre;
+        positions.push([x + rng.between(-30, 30), y + rng.between(-30, 30), z]);
     }
     positions
 }
@@ -573,9 +668,9 @@ fn complete(draft: Draft, rng: &mut Rng) -> Site {
         mu: 0,
     };
     if let Some((u, v)) = draft.longest.filter(|_| !rng.one_in(4)) {
-        site.positions.iter_mut().for_each(|position| *position = (position.0 / 2, position.1 / 2));
-        site.positions[u] = (-MOST_COORDINATE, MOST_COORDINATE);
-        site.positions[v] = (MOST_COORDINATE, -MOST_COORDINATE);
+        let coordinates = site.positions.as_flattened_mut().iter_mut();
+        coordinates.for_each(|coordinate| *coordinate /= 2);
+        [site.positions[u], site.positions[v]] = OPPOSITE;
     }
     relabel(&mut site, rng);
     site.gamma_squared = any_gamma_squared(&site, rng);
@@ -727,23 +822,33 @@ fn bridged_cliques(rng: &mut Rng) -> Draft {
     draft
 }
 
-fn any_positions(handsets: usize, rng: &mut Rng) -> Vec<(i32, i32)> {
+fn any_positions(handsets: usize, rng: &mut Rng) -> Vec<Position> {
     let far = MOST_COORDINATE;
-    let kind = rng.below(6);
-    let home = (rng.between(-far, far), rng.between(-far, far));
-    let (a, b) = (rng.between(0, 9), rng.between(0, 9));
+    let kind = rng.below(10);
+    let home: Position = std::array::from_fn(|_| rng.between(-far, far));
+    let [a, b, c]: Position = std::array::from_fn(|_| rng.between(0, 9));
+    let [home_x, home_y, home_z] = home;
     let mut position = || match kind {
         0 => home,
-        1 => (rng.between(-4, 4), rng.between(-4, 4)),
-        2 => rng.pick(&[(0, 0), (a, b), (-b, a), (a + 1, b), (a, b + 1), (-a, -b)]),
-        3 => (rng.pick(&[-far, far]), rng.pick(&[-far, far, 0])),
-        4 => (rng.between(-far, far), rng.between(-far, far)),
-        _ => (far - rng.below(3) as i32, rng.below(3) as i32 - far),
+        1 | 2 => std::array::from_fn(|_| rng.between(-4, 4)),
+        3 => {
+            let turned = [[a, b, c], [-b, a, c], [c, -a, b], [-a, -b, -c]];
+            let beside = [[a + 1, b, c], [a, b + 1, c], [a, b, c + 1]];
+            rng.pick(&[&[ORIGIN][..], &turned, &beside].concat())
+        }
+        4 => [rng.pick(&[-far, far]), rng.pick(&[-far, far, 0]), rng.pick(&[-far, far, 0])],
+        5 => std::array::from_fn(|_| rng.between(-far, far)),
+        6 => [far - rng.below(3) as i32, rng.below(3) as i32 - far, far - rng.below(3) as i32],
+        // One above the other: z alone tells them apart.
+        7 => [home_x, home_y, rng.pick(&[-far, -far + 1, -c - 1, -1, 0, 1, a, far - 1, far])],
+        // On one level, at z = 0 and at another one.
+        8 => [rng.between(-9, 9), rng.between(-9, 9), 0],
+        _ => [rng.between(-9, 9), rng.between(-9, 9), home_z],
     };
     (0..handsets).map(|_| position()).collect()
 }
 
-/// Often the squared distance of a tie, or one less: at the limit exactly, and one beyond it.
+/// Often the squared distance of a tie, or one less or more: at the limit exactly, and on both sides of it.
 fn any_gamma_squared(site: &Site, rng: &mut Rng) -> u64 {
     let of_a_tie = match site.ties.len() {
         0 => 0,
@@ -758,13 +863,14 @@ fn any_gamma_squared(site: &Site, rng: &mut Rng) -> u64 {
         4 => MOST_GAMMA_SQUARED - 1,
         5 => rng.word() % (MOST_GAMMA_SQUARED + 1),
         6 => of_a_tie.saturating_sub(1),
+        7 => (of_a_tie + 1).min(MOST_GAMMA_SQUARED),
         _ => of_a_tie,
     }
 }
 
-pub fn squared_distance(one: (i32, i32), other: (i32, i32)) -> u64 {
-    let square = |difference: u32| u64::from(difference) * u64::from(difference);
-    square(one.0.abs_diff(other.0)) + square(one.1.abs_diff(other.1))
+pub fn squared_distance(one: Position, other: Position) -> u64 {
+    let square = |axis: usize| u64::from(one[axis].abs_diff(other[axis])).pow(2);
+    (0..COORDINATES).map(square).sum()
 }
 
 fn any_epsilon(rng: &mut Rng) -> (u16, u16) {
@@ -836,9 +942,9 @@ mod tests {
     fn every_image_is_accepted_and_says_its_site() {
         for (site, image) in any_sites(300) {
             let opened = reference::open(&image).expect("accepted");
-            let positions = site.positions.iter().map(|&(x, y)| (x.into(), y.into()));
+            let positions = site.positions.iter().map(|position| position.map(i64::from));
             let ties = site.ties.iter().map(|&(u, v)| (u.into(), v.into()));
-            assert_eq!(opened.positions, positions.collect::<Vec<(i64, i64)>>());
+            assert_eq!(opened.positions, positions.collect::<Vec<_>>());
             assert_eq!(opened.ties, ties.collect::<Vec<(usize, usize)>>());
             assert_eq!(opened.gamma_squared, site.gamma_squared);
         }
@@ -857,7 +963,7 @@ mod tests {
     /// The generated sites have every trait that the tests are for.
     #[test]
     fn sites_are_of_every_kind() {
-        let mut seen = [0; 8];
+        let mut seen = [0; 9];
         for (site, image) in any_sites(400) {
             let found = Findings::of(reference::open(&image).expect("accepted"));
             let handsets = 0..site.positions.len() as u64;
@@ -865,15 +971,13 @@ mod tests {
                 handsets.map(|u| found.record(u).expect("a handset").role).collect();
             let communities = found.communities();
             let limit = site.gamma_squared;
-            let distances = site.ties.iter().map(|&(u, v)| {
-                squared_distance(site.positions[usize::from(u)], site.positions[usize::from(v)])
-            });
-            let distances: Vec<u64> = distances.collect();
+            let distances: Vec<u64> = distances(&site, |_, _| true);
             let traits = [
                 roles.is_empty(),
                 site.ties.len() == MOST_TIES,
                 distances.iter().any(|&distance| distance > 0 && distance == limit),
                 distances.contains(&(limit + 1)),
+                distances.iter().any(|distance| distance + 1 == limit),
                 roles.iter().any(|role| matches!(role, Role::Border(count) if *count > 1)),
                 roles.contains(&Role::Outlier) && !communities.is_empty(),
                 communities.len() > 20,
@@ -882,6 +986,39 @@ mod tests {
             seen.iter_mut().zip(traits).for_each(|(count, has)| *count += usize::from(has));
         }
         assert!(seen.iter().all(|&count| count > 0), "{seen:?}");
+    }
+
+    /// The squared distances of a site's ties, of those whose ends stand in a way.
+    fn distances(site: &Site, wanted: fn(Position, Position) -> bool) -> Vec<u64> {
+        let position = |end: u16| site.positions[usize::from(end)];
+        let ends = site.ties.iter().map(|&(u, v)| (position(u), position(v)));
+        let ends = ends.filter(|&(one, other)| wanted(one, other));
+        ends.map(|(one, other)| squared_distance(one, other)).collect()
+    }
+
+    /// Generated sites have ties whose ends z alone tells apart, at the limit and on both sides of it;
+    /// and handsets on one level, at z = 0 and at another one, and at both ends of z.
+    #[test]
+    fn sites_are_of_every_height() {
+        let mut seen = [0; 7];
+        for (site, _) in any_sites(400) {
+            let limit = site.gamma_squared;
+            let upright =
+                distances(&site, |[x, y, z], other| [x, y] == other[..2] && z != other[2]);
+            let heights: HashSet<i32> = site.positions.iter().map(|position| position[2]).collect();
+            let level = heights.len() == 1 && site.ties.len() > 2;
+            let traits = [
+                upright.contains(&limit),
+                upright.contains(&(limit + 1)),
+                upright.iter().any(|distance| distance + 1 == limit),
+                level && heights.contains(&0),
+                level && !heights.contains(&0),
+                heights.contains(&MOST_COORDINATE),
+                heights.contains(&-MOST_COORDINATE),
+            ];
+            seen.iter_mut().zip(traits).for_each(|(count, has)| *count += usize::from(has));
+        }
+        assert!(seen.iter().all(|&count| count > 1), "{seen:?}");
     }
 
     /// A blank mu is there on one site of eight at least; and a mu that is read in a wrong way gives other
@@ -953,7 +1090,40 @@ mod tests {
         assert!(seen.iter().all(|&count| 50 * count >= SITES), "{seen:?}");
     }
 
-    /// A reach that is found in a wrong way is another one, for some community, on one site of fifty at least.
+    /// A coordinate that is left out of the near test or read in a wrong way gives a handset another near count
+    /// or another role, on one site of fifty at least.
+    #[test]
+    fn sites_tell_wrong_near_tests() {
+        const SITES: u64 = 400;
+        let wrong: [fn(reference::Position) -> reference::Position; 6] = [
+            |[_, y, z]| [0, y, z],
+            |[x, _, z]| [x, 0, z],
+            |[x, y, _]| [x, y, 0],
+            // z for y, y for z, z without its sign.
+            |[x, _, z]| [x, z, z],
+            |[x, y, _]| [x, y, y],
+            |[x, y, z]| [x, y, z.abs()],
+        ];
+        let records = |site: reference::Site| {
+            let found = Findings::of(site);
+            let handsets = 0..found.site().positions.len() as u64;
+            handsets.map(|u| found.record(u)).collect::<Vec<_>>()
+        };
+        let mut seen = [0; 6];
+        for (_, image) in any_sites(SITES) {
+            let opened = reference::open(&image).expect("accepted");
+            let right = records(opened.clone());
+            for (count, wrong) in seen.iter_mut().zip(wrong) {
+                let positions = opened.positions.iter().copied().map(wrong).collect();
+                let differs = records(reference::Site { positions, ..opened.clone() }) != right;
+                *count += u64::from(differs);
+            }
+        }
+        assert!(seen.iter().all(|&count| 50 * count >= SITES), "{seen:?}");
+    }
+
+    /// A reach that is found in a wrong way is another one, for some community, on one site of fifty at
+    /// least.
     #[test]
     fn sites_tell_wrong_reaches() {
         const SITES: u64 = 400;
@@ -974,7 +1144,7 @@ mod tests {
     #[test]
     fn sites_tell_wrong_nearest_communities() {
         const SITES: u64 = 400;
-        let mut seen = [0; 13];
+        let mut seen = [0; 18];
         for (seed, (_, image)) in (0..).zip(any_sites(SITES)) {
             let mut rng = Rng::new(seed);
             let found = Findings::of(reference::open(&image).expect("accepted"));
@@ -987,7 +1157,7 @@ mod tests {
                     })
                 })
             };
-            let by = |far: fn(u64, u64) -> u64, looked_at: &dyn Fn(usize, u64) -> bool| {
+            let by = |far: Far, looked_at: &dyn Fn(usize, u64) -> bool| {
                 chosen(&|point| members(&found, point, far, looked_at).min())
             };
             let community = |k: u64| &found.communities()[k as usize];
@@ -995,12 +1165,12 @@ mod tests {
             (0..).zip(found.communities()).for_each(|(k, community)| {
                 last.extend(community.members.iter().map(|&u| (u, k)));
             });
-            let square = |dx: u64, dy: u64| dx * dx + dy * dy;
+            let square: Far = |[dx, dy, dz]| dx * dx + dy * dy + dz * dz;
             let anyone = &|_, _| true;
-            let refused = |limits: fn(u32, u32) -> bool| {
-                points.iter().any(|&(x, y)| {
-                    found.nearest((x, y)).is_err() != limits(x.unsigned_abs(), y.unsigned_abs())
-                })
+            const FAR: u32 = MOST_COORDINATE as u32;
+            let refused = |limits: fn([u32; COORDINATES]) -> bool| {
+                let wrong = |point: Point| limits(point.map(i32::unsigned_abs));
+                points.iter().any(|&point| found.nearest(point).is_err() != wrong(point))
             };
             let differs = [
                 // Of equals the last.
@@ -1013,15 +1183,21 @@ mod tests {
                 by(square, &|u, k| community(k).cores.first() == Some(&u)),
                 by(square, &|u, k| community(k).cores.contains(&u)),
                 by(square, &|u, k| last[&u] == k),
-                // By x or y alone, by the sum of both, by the larger, in 32 bits.
-                by(|dx, _| dx * dx, anyone),
-                by(|_, dy| dy * dy, anyone),
-                by(|dx, dy| dx + dy, anyone),
-                by(|dx, dy| dx.max(dy), anyone),
-                by(|dx, dy| (dx * dx + dy * dy) % (1 << 32), anyone),
-                // The limits exclusive; those of x alone.
-                refused(|x, y| x.max(y) >= MOST_COORDINATE as u32),
-                refused(|x, _| x > MOST_COORDINATE as u32),
+                // By one coordinate alone, without z, with y for z.
+                by(|[dx, _, _]| dx * dx, anyone),
+                by(|[_, dy, _]| dy * dy, anyone),
+                by(|[_, _, dz]| dz * dz, anyone),
+                by(|[dx, dy, _]| dx * dx + dy * dy, anyone),
+                by(|[dx, dy, _]| dx * dx + 2 * dy * dy, anyone),
+                // By the sum of the sides, by the largest, in 32 bits.
+                by(|sides| sides.iter().sum(), anyone),
+                by(|[dx, dy, dz]| dx.max(dy).max(dz), anyone),
+                by(|[dx, dy, dz]| (dx * dx + dy * dy + dz * dz) % (1 << 32), anyone),
+                // The limits exclusive; those of x alone, of x and y, of z alone.
+                refused(|sides| sides.iter().any(|&side| side >= FAR)),
+                refused(|[x, _, _]| x > FAR),
+                refused(|[x, y, _]| x.max(y) > FAR),
+                refused(|[_, _, z]| z > FAR),
                 // 17 before the image's refusal: each refused image is asked with such a point.
                 reference::open(&damage::several(&image, &mut rng)).is_err(),
             ];
@@ -1030,18 +1206,22 @@ mod tests {
         assert!(seen.iter().all(|&count| 50 * count >= SITES), "{seen:?}");
     }
 
+    /// How far away that is which is as far as this in x, in y and in z.
+    type Far = fn([u64; COORDINATES]) -> u64;
+
     /// How far each member is that is looked at, and its community's number.
     fn members<'a>(
         found: &'a Findings,
-        (x, y): Point,
-        far: fn(u64, u64) -> u64,
+        point: Point,
+        far: Far,
         looked_at: &'a dyn Fn(usize, u64) -> bool,
     ) -> impl Iterator<Item = (u64, u64)> + 'a {
         (0..).zip(found.communities()).flat_map(move |(k, community)| {
             let members = community.members.iter().filter(move |&&u| looked_at(u, k));
             members.map(move |&u| {
-                let (other_x, other_y) = found.site().positions[u];
-                (far(other_x.abs_diff(x.into()), other_y.abs_diff(y.into())), k)
+                let other = found.site().positions[u];
+                let side = |axis: usize| other[axis].abs_diff(point[axis].into());
+                (far(std::array::from_fn(side)), k)
             })
         })
     }

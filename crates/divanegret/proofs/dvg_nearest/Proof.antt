@@ -1,10 +1,9 @@
 -- `divanegret::dvg_nearest` meets its contract: the code of what the call for the nearest group answers.
-use mathlib.Core.Path.{ap, ap₂, _∙_}
-use mathlib.Core.List.{[], _∷_}
-use lib.IntN.{ℤ}
+use mathlib.Core.Path.{ap, _∙_}
 use mir.Facts.{toZ-ofZ}
 use denote.Ref.{now}
 use borrow.Author.Needs.{needs}
+use Rattle.points.proofs.Handed.{handed}
 use Rattle.nearest.specs.Nearest.{nearestOf}
 use Rattle.nearest.proofs.Answers.{nearest-same}
 use Rattle.codes.specs.Codes.{nearestCode}
@@ -24,7 +23,7 @@ returns c =
     toZ-ofZ (search needs) ∙ c .nearest-code .ensures
     ∙ ap nearestCode
     (nearest-same (called .result) (nearestOf _ _) (called .ensures)
-    ∙ ap₂ (λ (x y : ℤ). nearestOf (now (s .args .image)) (x ∷ y ∷ [])) (toZ-ofZ (s .fits .x)) (toZ-ofZ (s .fits .y)))
+    ∙ ap (nearestOf (now (s .args .image))) (handed (s .fits .x) (s .fits .y) (s .fits .z)))
 
 pub dvg-nearest-spec : {M : Type 1} → statement M
 dvg-nearest-spec = tie.close (tie.spec nearest-group-requires nearest-code-requires returns)

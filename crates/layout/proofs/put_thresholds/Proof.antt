@@ -20,9 +20,6 @@ write-requires-3 c κs = search needs
 write-requires-4 : tie.Need-write-requires-4
 write-requires-4 c κs = search needs
 
-cast-write : tie.Need-cast-write
-cast-write c = search needs
-
 write-requires-5 : tie.Need-write-requires-5
 write-requires-5 c κs = search needs
 
@@ -52,7 +49,6 @@ put-thresholds-spec =
     write-requires-2
     write-requires-3
     write-requires-4
-    cast-write
     write-requires-5
     same-length
     returns)

@@ -1,12 +1,9 @@
 -- `nearest::nearest_group` meets its contract: an image that the reader refuses ends the call with its refusal, a point out of the limits with 17, and the
 -- rest is `nearest_site`'s.
-use mathlib.Core.Path.{_≡_, sym, ap, ap₂, _∙_, subst}
+use mathlib.Core.Path.{_≡_, sym, ap, _∙_, subst}
 use mathlib.Core.List.{List, [], _∷_}
 use lib.Dec.{T}
 use lib.IntN.{ℤ}
-use mir.Syntax.{w32}
-use mir.Val.{toZ, ofZ}
-use mir.Facts.{toZ-ofZ}
 use denote.Ref.{now}
 use borrow.Author.Needs.{needs}
 use Rattle.image.specs.Image.{headerOf}
@@ -15,6 +12,7 @@ use Rattle.image.specs.declared.Opened.the-variants as O
 use Rattle.image.proofs.Acceptance.{accepted}
 use Rattle.image.proofs.Answers.{open-same}
 use Rattle.points.specs.Points.{pointInLimits}
+use Rattle.points.proofs.Handed.{handed}
 use Rattle.nearest.specs.Nearest.{nearestOf, nearestAnswer}
 use Rattle.nearest.proofs.Answers.{refused-answer, past-answer}
 use Rattle.nearest.proofs.nearest_group.Statement.{statement}
@@ -32,14 +30,7 @@ abbrev read : tie.After-in-limits → tie.After-open
 read c = c .before .before .before .before
 
 abbrev point : tie.Start → List ℤ
-point s = s .args .x ∷ s .args .y ∷ []
-
--- the point as it is handed on is the point
-abbrev handed : tie.Start → List ℤ
-handed s = toZ w32 (ofZ w32 (s .args .x)) ∷ toZ w32 (ofZ w32 (s .args .y)) ∷ []
-
-point-is : (s : tie.Start) → handed s ≡ point s
-point-is s = ap₂ (λ (x y : ℤ). x ∷ y ∷ []) (toZ-ofZ (s .fits .x)) (toZ-ofZ (s .fits .y))
+point s = s .args .x ∷ s .args .y ∷ s .args .z ∷ []
 
 accepted-there : (c : tie.After-in-limits) → Accepted (now (start (read c) .args .image)) × (c .before .before .opened .given .0 .0 ≡ headerOf (now (start (read c) .args .image)))
 accepted-there c =
@@ -79,14 +70,14 @@ nearest-site-requires c κs =
 returns-2 : tie.Need-returns-2
 returns-2 c =
     let s = start (read (c .before .before)) in
-    ap nearestAnswer (c .nearest-site .ensures ∙ ap (nearestOf (now (s .args .image))) (point-is s))
+    ap nearestAnswer (c .nearest-site .ensures ∙ ap (nearestOf (now (s .args .image))) (handed (s .fits .x) (s .fits .y) (s .fits .z)))
 
 returns-3 : tie.Need-returns-3
 returns-3 c =
     let t = c .before in
     let s = start (read t) in
     ap nearestAnswer
-    (past-answer (now (s .args .image)) (point s) (accepted-there t .0) (sym (ap pointInLimits (point-is s)) ∙ sym (t .in-limits .ensures) ∙ c .if1 .left))
+    (past-answer (now (s .args .image)) (point s) (accepted-there t .0) (sym (ap pointInLimits (handed (s .fits .x) (s .fits .y) (s .fits .z))) ∙ sym (t .in-limits .ensures) ∙ c .if1 .left))
 
 pub nearest-group-spec : {M : Type 1} → statement M
 nearest-group-spec =

@@ -1,12 +1,11 @@
 -- `nearest::nearest_site` meets its contract. The plan of an accepted image fits the two tables, and the pass over them answers as the definition does.
-use mathlib.Core.Path.{_≡_, refl, ap₂, _∙_}
-use mathlib.Core.List.{[], _∷_}
-use lib.IntN.{ℤ}
+use mathlib.Core.Path.{_≡_, refl, ap, _∙_}
+use mathlib.Core.List.{[], _∷_, map}
 use denote.Ref.{now}
-use mir.Facts.{toZ-ofZ}
 use borrow.Author.Needs.{needs}
 use Rattle.image.specs.Signed.{raised}
 use Rattle.image.proofs.Acceptance.{handsets-fit}
+use Rattle.points.proofs.Handed.{handed}
 use Rattle.demands.proofs.Lengths.{plan-granted}
 use Rattle.nearest.proofs.Planning.{pass-answer}
 use Rattle.nearest.proofs.nearest_site.Statement.{statement}
@@ -25,10 +24,10 @@ plan c = c .before .before .before .before
 abbrev made : tie.After-find-nearest → tie.After-planned
 made c = c .before .before .before .before .before .before
 
-point-is : (c : tie.After-plan) → point c .raise-point .result ≡ raised (start c .args .x) ∷ raised (start c .args .y) ∷ []
+point-is : (c : tie.After-plan) → point c .raise-point .result ≡ map raised (start c .args .x ∷ start c .args .y ∷ start c .args .z ∷ [])
 point-is c =
-    let s = start c in
-    point c .raise-point .ensures ∙ ap₂ (λ (x y : ℤ). raised x ∷ raised y ∷ []) (toZ-ofZ (s .fits .x)) (toZ-ofZ (s .fits .y))
+    let f = start c .fits in
+    point c .raise-point .ensures ∙ ap (map raised) (handed (f .x) (f .y) (f .z))
 
 cast-a : tie.Need-cast-a
 cast-a c = search needs

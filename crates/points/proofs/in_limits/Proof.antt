@@ -30,16 +30,32 @@ raise-requires-2 c κs = search needs
 in-limits-requires-2 : tie.Need-in-limits-requires-2
 in-limits-requires-2 c κs = search needs
 
+raise-requires-3 : tie.Need-raise-requires-3
+raise-requires-3 c κs = search needs
+
+in-limits-requires-3 : tie.Need-in-limits-requires-3
+in-limits-requires-3 c κs = search needs
+
 returns : tie.Need-returns
 returns c =
-    let first = c .before .before in
+    let second = c .before .before in
+    let first = second .before .before in
     let start = first .before .before in
     ap₂ _&&_
     (tested (start .args .x) (first .before .raise .result) (first .in-limits .result) (start .fits .x) (first .before .raise .ensures) (first .in-limits .ensures))
-    (tested (start .args .y) (c .before .raise2 .result) (c .in-limits2 .result) (start .fits .y) (c .before .raise2 .ensures) (c .in-limits2 .ensures)
-    ∙ and-comm true (withinLimits (start .args .y)))
+    (ap₂ _&&_
+    (tested (start .args .y) (second .before .raise2 .result) (second .in-limits2 .result) (start .fits .y) (second .before .raise2 .ensures) (second .in-limits2 .ensures))
+    (tested (start .args .z) (c .before .raise3 .result) (c .in-limits3 .result) (start .fits .z) (c .before .raise3 .ensures) (c .in-limits3 .ensures)
+    ∙ and-comm true (withinLimits (start .args .z))))
 
 pub in-limits-spec : {M : Type 1} → statement M
 in-limits-spec =
     tie.close
-    (tie.spec raise-requires in-limits-requires raise-requires-2 in-limits-requires-2 returns)
+    (tie.spec
+    raise-requires
+    in-limits-requires
+    raise-requires-2
+    in-limits-requires-2
+    raise-requires-3
+    in-limits-requires-3
+    returns)

@@ -130,7 +130,7 @@ fn run(planner: &dyn Planner, call: Call, case: &Case, tables: &mut Tables) {
         Call::Plan => {
             black_box(planner.plan(image, &mut tables.starts, &mut tables.members)).is_ok()
         }
-        Call::Nearest => black_box(planner.nearest(image, black_box((0, 0)))).is_ok(),
+        Call::Nearest => black_box(planner.nearest(image, black_box([0, 0, 0]))).is_ok(),
         Call::Report => black_box(planner.report(image, &mut tables.text)).is_ok(),
         Call::Write => {
             let contents = black_box(case.numbers.contents());

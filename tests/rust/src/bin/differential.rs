@@ -4,10 +4,10 @@
 //!
 //!     differential [--seed N] [--count N | --seconds N] [--program PATH] [--save DIRECTORY]
 //!
-//! Every date, hostile times, hostile numbers for the writer, named sites and site S with every choice of
-//! faults come first, whatever the count. Then case i has the seed N + i, so a failing case is run again
-//! alone with its own seed and `--count 1`. A failing image is written into the directory. With
-//! `--program` the report program is run as well.
+//! Every date, hostile times, hostile numbers for the writer, named sites, images of before and site S
+//! with every choice of faults come first, whatever the count. Then case i has the seed N + i, so a
+//! failing case is run again alone with its own seed and `--count 1`. A failing image is written into
+//! the directory. With `--program` the report program is run as well.
 
 use std::any::Any;
 use std::panic::{catch_unwind, AssertUnwindSafe};
@@ -157,7 +157,7 @@ impl<'a> Run<'a> {
         self.each_planner("hostile numbers", None, hostile)
     }
 
-    /// The named examples, and site S with every choice of one fault for each question.
+    /// The named examples, images of before, and site S with every choice of one fault for each question.
     fn fixed(&mut self) -> Result<(), Failure> {
         let case = "fixed";
         let mut rng = Rng::new(0);
@@ -165,6 +165,9 @@ impl<'a> Run<'a> {
             self.site(case, &site, &mut rng)?;
         }
         let image = sites::site_s(4).plain_image();
+        for old in damage::before(&image).iter().chain(&damage::before_with_the_width(&image)) {
+            self.check(case, compare::image, old, &mut rng)?;
+        }
         let faults = damage::faults(&image);
         for choice in 1..1_u32 << faults.len() {
             let chosen = |bit: &usize| choice >> bit & 1 == 1;
@@ -197,6 +200,9 @@ impl<'a> Run<'a> {
             let damaged = damage::several(&image, &mut rng);
             self.check(case, compare::similar_image, &damaged, &mut rng)?;
         }
+        for old in damage::some_before(&image, &mut rng) {
+            self.check(case, compare::similar_image, &old, &mut rng)?;
+        }
         for edit in damage::edits(&image, &mut rng) {
             if seed.is_multiple_of(EVERY_EDIT) || rng.one_in(40) {
                 let damaged = damage::apply(&image, &[edit]);
@@ -210,11 +216,13 @@ impl<'a> Run<'a> {
         Ok(())
     }
 
-    /// An accepted site in some layout, a renumbering of it, and its image as the planner writes it.
+    /// An accepted site in some layout, a renumbering of it, the same with x, y and z in another order,
+    /// and its image as the planner writes it.
     fn site(&mut self, case: &str, site: &Site, rng: &mut Rng) -> Result<(), Failure> {
         let image = site.image(Layout::any(rng), rng);
         self.check(case, compare::image, &image, rng)?;
         self.check(case, compare::renumbering, &image, rng)?;
+        self.check(case, compare::turning, &image, rng)?;
         let seed = rng.word();
         let writing = |planner: &dyn Planner| compare::writing(planner, site, &mut Rng::new(seed));
         self.each_planner(case, Some(&image), writing)
@@ -273,6 +281,7 @@ fn named_sites() -> Vec<Site> {
     sites.extend([0, 1, 2, 511, 512].map(|handsets| sites::untied(handsets, 1)));
     sites.extend([sites::hub(), sites::totals(), sites::two_hubs()]);
     sites.extend(sites::reaching());
+    sites.extend(sites::shafts());
     sites.extend([sites::shared_borders(), sites::one_clique()]);
     sites.push(sites::hospital(512, 4096, &mut Rng::new(0)));
     sites

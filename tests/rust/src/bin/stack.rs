@@ -99,7 +99,7 @@ fn run(call: usize, image: &[u8], numbers: &Numbers, lent: &mut Lent) {
         3 => Proved.role(image, 511).is_ok(),
         4 => Proved.scores(image, &lent.list).is_ok(),
         5 => Proved.members(&lent.starts, &lent.members, 0).is_ok(),
-        6 => Proved.nearest(image, (0, 0)).is_ok(),
+        6 => Proved.nearest(image, [0, 0, 0]).is_ok(),
         7 => Proved.members_at(times::in_working_hours(THURSDAY)).is_ok(),
         8 => Proved.write(numbers.contents(), &mut lent.image).is_ok(),
         _ => Proved.report(image, &mut lent.text).is_ok(),
