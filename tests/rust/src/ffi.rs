@@ -309,13 +309,18 @@ mod tests {
         };
         let mut s = sites::site_s(4);
         assert_eq!(nearest(&s.plain_image(), [3, -4, 0]), 1_638_401);
-        assert_eq!(nearest(&s.plain_image(), [3, -4, 12]), 11_075_585);
         s.gamma_squared = 1;
         s.positions[6] = [0, -1, 0];
         assert_eq!(nearest(&s.plain_image(), [3, -4, 0]), 1_179_651);
         let apart = sites::apart().plain_image();
         assert_eq!((nearest(&apart, [0; 3]), nearest(&apart, [1, 0, 0])), (131_073, 65_539));
-        assert_eq!(nearest(&apart, [1_000_000, -1_000_000, 0]), 131_072_000_000_131_073);
+        let corner = [1_000_000, -1_000_000, 1_000_000];
+        assert_eq!(nearest(&apart, corner), 196_608_000_000_131_073);
+        let positions = vec![[5, -3, 0], [5, -3, 8]];
+        let above = sites::Site { positions, ..sites::apart() }.plain_image();
+        for (z, answer) in [(4, 1_048_577), (5, 589_827), (-1, 65_537)] {
+            assert_eq!(nearest(&above, [5, -3, z]), answer);
+        }
         let empty = sites::untied(0, 0).plain_image();
         assert_eq!(nearest(&empty, [0, -1_000_000, 1_000_000]), 0);
         for beyond in [[1_000_001, 0, 0], [0, -1_000_001, 0], [0, 0, 1_000_001]] {
