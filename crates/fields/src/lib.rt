@@ -2,7 +2,8 @@
 //
 // Every read is of a place that may not be there, and then gives 0, as those of the crate `bytes` do.
 ghost use mathlib.Core.Path.{_≡_};
-ghost use Prim.Native.Nat.{_*_};
+ghost use Prim.Native.Nat.{_*_, _<_};
+ghost use lib.IntN.{pos, natAbs, _-ℤ_};
 ghost use Rattle.bytes.specs.Bytes.{number};
 ghost use Rattle.fields.specs.Fields.{coordinateBytes, coreSize, shifted, inLimits, gap, endsOf, countsFit, thresholdsFit};
 
@@ -49,13 +50,34 @@ pub fn in_limits(x: u32) -> bool
     (2147483648 - COORDINATE_LIMIT <= x) & (x <= 2147483648 + COORDINATE_LIMIT)
 }
 
+// The square of a difference of two coordinates.
+fn square(d: i64) -> u64
+    requires { ⌜ natAbs d < 4294967296 ⌝ }
+    ensures { λ r. ⌜ r ≡ natAbs d * natAbs d ⌝ }
+{
+    let e = if d < 0 { -d } else { d };
+    (e as u64) * (e as u64)
+}
+
 // The square of how far apart two coordinates, each plus 2 ^ 31, are.
 pub fn squared_gap(a: u32, b: u32) -> u64
     ensures { λ r. ⌜ r ≡ gap a b * gap a b ⌝ }
 {
-    let d = (a as i64) - (b as i64);
-    let e = if d < 0 { -d } else { d };
-    (e as u64) * (e as u64)
+    square((a as i64) - (b as i64))
+}
+
+// The coordinate at a place, as the signed number that it is: the compiler then reads it with its sign and adds nothing.
+fn signed(part: &[u8], at: usize) -> i64
+    ensures { λ z. ⌜ z ≡ pos (shifted (number coordinateBytes (now (part .entry)) at)) -ℤ pos 2147483648 ⌝ }
+{
+    coordinate(part, at) as i64 - 2147483648
+}
+
+// The square of how far apart the coordinates at one place of two records are.
+pub fn squared_gap_at(a: &[u8], b: &[u8], at: usize) -> u64
+    ensures { λ r. ⌜ r ≡ (let x = shifted (number coordinateBytes (now (a .entry)) at) in let y = shifted (number coordinateBytes (now (b .entry)) at) in gap x y * gap x y) ⌝ }
+{
+    square(signed(a, at) - signed(b, at))
 }
 
 // The two ends of an edge.

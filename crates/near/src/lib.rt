@@ -20,7 +20,7 @@ pub fn proximity_of(a: &[u8], b: &[u8], limit: u64) -> Proximity
     let mut i: usize = 0;
     while i < fields::COORDINATES {
         let at = fields::COORDINATE_BYTES * i;
-        let d = fields::squared_gap(fields::coordinate(a, at), fields::coordinate(b, at));
+        let d = fields::squared_gap_at(a, b, at);
         let covered = d <= room;
         fits = fits & covered;
         room = std::num::wrapping_sub_u64(room, d);

@@ -1,17 +1,17 @@
 -- `near::proximity_of` meets its contract. While the squares so far fit, what is left of the limit and their sum make the limit, so the next square fits in
 -- what is left just where the sum with it keeps the limit, and a sum past the limit stays past it; in the end the sum is what is gone of the limit. The
 -- measure is what is left of the coordinates.
-use Prim.Native.Nat.{ℕ, _+_, _*_, _-_, _%_, _^_, _≤_, _<_}
+use Prim.Native.Nat.{ℕ, _+_, _-_, _%_, _^_, _≤_, _<_}
 use native.Mathlib.Omega.{arith}
 use native.Mathlib.Numerals.{add-one}
-use mathlib.Core.Path.{_≡_, sym, ap, ap₂, _∙_, subst}
+use mathlib.Core.Path.{_≡_, sym, ap, _∙_, subst}
 use mathlib.Core.Bool.{Bool, true, false, _&&_, cond}
 use mathlib.Core.List.{List}
 use lib.Dec.{T, leb, leb→le, le→leb}
 use borrow.Author.Needs.{needs}
 use Rattle.sets.specs.Below.{sum}
 use Rattle.sets.proofs.Tests.{T-true, T-ext, and-make, and-left, and-right}
-use Rattle.fields.specs.Fields.{coordinateCount, gap}
+use Rattle.fields.specs.Fields.{coordinateCount}
 use Rattle.image.specs.Image.{coordinateOf, gapSquared, distanceBetween}
 use Rattle.near.specs.Near.{proximityOf, proximityAnswer}
 use Rattle.near.specs.declared.Proximity.the-variants.{Near, NotNear}
@@ -60,12 +60,12 @@ start c = c .before .before .before
 abbrev squares : tie.At-loop Inv-loop μ-loop → ℕ → ℕ
 squares c = let s = start c .args in gapSquared (coordinateOf (s .a .now)) (coordinateOf (s .b .now))
 
-abbrev loop : tie.After-squared-gap Inv-loop μ-loop → tie.At-loop Inv-loop μ-loop
-loop c = c .before .before .before .before
+abbrev loop : tie.After-squared-gap-at Inv-loop μ-loop → tie.At-loop Inv-loop μ-loop
+loop c = c .before .before
 
-square-is : (c : tie.After-squared-gap Inv-loop μ-loop) → c .squared-gap .result ≡ squares (loop c) (loop c .loop .i)
+square-is : (c : tie.After-squared-gap-at Inv-loop μ-loop) → c .squared-gap-at .result ≡ squares (loop c) (loop c .loop .i)
 unfolding coordinateOf
-square-is c = c .squared-gap .ensures ∙ ap₂ (λ (x y : ℕ). gap x y * gap x y) (c .before .before .coordinate .ensures) (c .before .coordinate2 .ensures)
+square-is c = c .squared-gap-at .ensures
 
 loop-holds : tie.Need-loop-holds Inv-loop μ-loop
 unfolding sum
@@ -74,14 +74,8 @@ loop-holds c = (omega arith, left-none _)
 mul-at : tie.Need-mul-at Inv-loop μ-loop
 mul-at c = search needs
 
-coordinate-requires : tie.Need-coordinate-requires Inv-loop μ-loop
-coordinate-requires c κs = search needs
-
-coordinate-requires-2 : tie.Need-coordinate-requires-2 Inv-loop μ-loop
-coordinate-requires-2 c κs = search needs
-
-squared-gap-requires : tie.Need-squared-gap-requires Inv-loop μ-loop
-squared-gap-requires c κs = search needs
+squared-gap-at-requires : tie.Need-squared-gap-at-requires Inv-loop μ-loop
+squared-gap-at-requires c κs = search needs
 
 wrapping-sub-u64-requires : tie.Need-wrapping-sub-u64-requires Inv-loop μ-loop
 wrapping-sub-u64-requires c κs = search needs
@@ -97,7 +91,7 @@ unfolding sum
 loop-again c =
     let g = c .before in
     let l = loop g .loop in
-    (omega arith, rw (add-one (l .i)) (left-more _ _ (l .room) _ _ _ (l .fits) (l .inv .1) (square-is g) (g .squared-gap .ok) (c .wrapping-sub-u64 .ok) (c .wrapping-sub-u64 .ensures)))
+    (omega arith, rw (add-one (l .i)) (left-more _ _ (l .room) _ _ _ (l .fits) (l .inv .1) (square-is g) (g .squared-gap-at .ok) (c .wrapping-sub-u64 .ok) (c .wrapping-sub-u64 .ensures)))
 
 -- after the loop the sum is the squared distance
 told : (c : tie.After-loop Inv-loop μ-loop)
@@ -108,8 +102,8 @@ told c =
     let e : l .loop .i ≡ coordinateCount = omega (arith, l .loop .inv .0, c .loop-test .left) in
     subst (λ (n : ℕ). Left (sum n (squares l)) (start l .args .limit) (l .loop .fits) (l .loop .room)) e (l .loop .inv .1)
 
-sub-t15 : tie.Need-sub-t15 Inv-loop μ-loop
-sub-t15 c = omega (arith, told (c .before) .rest (subst T (sym (c .if1 .taken)) tt))
+sub-t13 : tie.Need-sub-t13 Inv-loop μ-loop
+sub-t13 c = omega (arith, told (c .before) .rest (subst T (sym (c .if1 .taken)) tt))
 
 returns : tie.Need-returns Inv-loop μ-loop
 returns c = ap proximityAnswer (left-near _ _ _ _ _ (told (c .before)) (c .if1 .taken))
@@ -125,13 +119,11 @@ proximity-of-spec =
     μ-loop
     loop-holds
     mul-at
-    coordinate-requires
-    coordinate-requires-2
-    squared-gap-requires
+    squared-gap-at-requires
     wrapping-sub-u64-requires
     add-i
     loop-less
     loop-again
-    sub-t15
+    sub-t13
     returns
     returns-2)
