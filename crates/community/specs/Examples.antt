@@ -6,7 +6,7 @@
 --     position x y z   a handset's record
 --     edgesS           the edges of site S
 --     siteS p q m      site S with epsilon p/q and mu m
---     planarS           site S with mu 4 as it was written until paper 02, order 7: no z, and zero in bytes 30 and 31
+--     planarS          site S with mu 4 as it was written until paper 02, order 7: no z, and zero in bytes 30 and 31
 --     pair G           two handsets, tied, at (0, 0, 0) and (1, 2, 0), with the square G of the near distance
 --     pairNeg G        two handsets, tied, at (-1, -1, 0) and (0, 1, 0), with G
 --     floors G         two handsets, tied, one above the other, at (4, 5, -1) and (4, 5, 2), with G

@@ -688,6 +688,8 @@ cores 2 borders 5 outliers 0 multiple 1
         };
         assert_eq!(near_count([0, 0, 0], [1, 2, 0], 5), 2);
         assert_eq!(near_count([0, 0, 0], [1, 2, 0], 4), 1);
+        assert_eq!(near_count([4, 5, -1], [4, 5, 2], 9), 2);
+        assert_eq!(near_count([4, 5, -1], [4, 5, 2], 8), 1);
         assert_eq!(near_count([0, 0, 0], [1, 2, -3], 14), 2);
         assert_eq!(near_count([0, 0, 0], [1, 2, -3], 13), 1);
         let far = 1_000_000;
