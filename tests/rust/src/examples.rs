@@ -1,9 +1,10 @@
-//! The inputs stored with the report program, made again. The tests hold them equal, and equal to what
+//! The inputs stored with the report programs, made again. The tests hold them equal, and equal to what
 //! the writer of images makes of their numbers.
 
 use crate::sites;
 
-/// Each crate of the repository that has a stored input, and that input.
+/// Each stored input under its name: `report` for that of the report program, `crates/report/stdin`,
+/// and NAME for `crates/report_examples/data/NAME.image`.
 pub fn examples() -> Vec<(&'static str, Vec<u8>)> {
     let mut refused = sites::site_s(4);
     refused.ties[5] = (3, 2);
@@ -11,23 +12,23 @@ pub fn examples() -> Vec<(&'static str, Vec<u8>)> {
         // Site S of the specification with mu 4.
         ("report", sites::site_s(4).plain_image()),
         // One group of one handset, which has no reach.
-        ("report_alone", sites::alone().plain_image()),
+        ("alone", sites::alone().plain_image()),
         // A tie beyond gamma inside a group, and a near tie that leaves it: neither counts for its reach.
-        ("report_beyond", sites::beyond().plain_image()),
+        ("beyond", sites::beyond().plain_image()),
         // Site S with a blank mu, which means 4.
-        ("report_blank", sites::site_s(0).plain_image()),
+        ("blank", sites::site_s(0).plain_image()),
         // No handsets.
-        ("report_empty", sites::untied(0, 3).plain_image()),
+        ("empty", sites::untied(0, 3).plain_image()),
         // A border in five groups, and an outlier.
-        ("report_hub", sites::hub().plain_image()),
+        ("hub", sites::hub().plain_image()),
         // A group whose reach is exactly G, and one whose longest tie joins two that are not alike.
-        ("report_limit", sites::two_reaches().plain_image()),
+        ("limit", sites::two_reaches().plain_image()),
         // Site S whose tie 5 repeats tie 3 the other way round: refused 10 5.
-        ("report_refused", refused.plain_image()),
+        ("refused", refused.plain_image()),
         // Site S with mu 3 written out.
-        ("report_three", sites::site_s(3).plain_image()),
+        ("three", sites::site_s(3).plain_image()),
         // Every role, and four totals that differ.
-        ("report_totals", sites::totals().plain_image()),
+        ("totals", sites::totals().plain_image()),
     ]
 }
 
@@ -47,29 +48,54 @@ mod tests {
         Path::new(env!("CARGO_MANIFEST_DIR")).join("../../crates")
     }
 
-    /// The stored input of each crate whose name begins with `report`, where it has one.
+    fn names_in(folder: &Path) -> Vec<String> {
+        let entries = fs::read_dir(folder).expect("a folder of the repository");
+        let name = |entry: fs::DirEntry| entry.file_name().into_string().expect("a name");
+        entries.map(|entry| name(entry.expect("an entry"))).collect()
+    }
+
+    /// The stored input of each crate whose name begins with `report`, where it has one, and the
+    /// images of `report_examples`.
     fn stored() -> BTreeMap<String, Vec<u8>> {
         let mut stored = BTreeMap::new();
-        for entry in fs::read_dir(crates()).expect("the repository's crates") {
-            let name = entry.expect("a crate").file_name().into_string().expect("a crate's name");
+        for name in names_in(&crates()) {
             let input = crates().join(&name).join("stdin");
             if name.starts_with("report") && input.exists() {
                 stored.insert(name, fs::read(input).expect("a stored input"));
             }
         }
+        let images = crates().join("report_examples/data");
+        for file in names_in(&images) {
+            let name = file.strip_suffix(".image").expect("an image's file").to_string();
+            let image = fs::read(images.join(file)).expect("a stored image");
+            assert_eq!(stored.insert(name, image), None, "no name stands for two");
+        }
         stored
+    }
+
+    /// The file with the text that is stored for a program.
+    fn stored_text(path: &str) -> String {
+        fs::read_to_string(crates().join(path)).expect("a stored text")
     }
 
     /// Every stored input has a maker, every maker a stored input, and the two are equal.
     #[test]
     fn stored_inputs_can_be_made_again() {
         let stored = stored();
-        let examples = examples();
-        let made: Vec<&str> = examples.iter().map(|(name, _)| *name).collect();
-        assert_eq!(stored.keys().map(String::as_str).collect::<Vec<_>>(), made);
-        for (name, image) in examples {
-            assert_eq!(stored[name], image, "crates/{name}/stdin");
+        let made: BTreeMap<_, _> = examples().into_iter().collect();
+        assert_eq!(made.len(), examples().len(), "no name stands for two");
+        assert!(stored.keys().eq(made.keys()), "{:?}, {:?}", stored.keys(), made.keys());
+        for (name, image) in made {
+            assert_eq!(stored[name], image, "{name}");
         }
+    }
+
+    /// The program of the examples is run on each of its images, in the order of their makers.
+    #[test]
+    fn stored_images_are_all_run() {
+        let all = examples().into_iter().filter(|(name, _)| *name != "report");
+        let files: String = all.map(|(name, _)| format!("{name}.image\n")).collect();
+        assert_eq!(stored_text("report_examples/args"), files);
     }
 
     /// Each stored input that is accepted is what a writer writes from its numbers.
@@ -89,8 +115,8 @@ mod tests {
             for writer in writers {
                 let mut buffer = vec![0xa5; image.len()];
                 let length = writer.write(numbers.contents(), &mut buffer);
-                assert_eq!(length, Ok(image.len() as u64), "{} of crates/{name}", writer.name());
-                assert_eq!(buffer, image, "{} of crates/{name}", writer.name());
+                assert_eq!(length, Ok(image.len() as u64), "{} of {name}", writer.name());
+                assert_eq!(buffer, image, "{} of {name}", writer.name());
             }
             written += 1;
         }
@@ -103,17 +129,21 @@ mod tests {
         for (name, image) in stored() {
             let numbers = Numbers::held(&image);
             let (positions, _) = numbers.coordinates.as_chunks::<COORDINATES>();
-            assert!(positions.iter().all(|position| position[2] == 0), "crates/{name}/stdin");
+            assert!(positions.iter().all(|position| position[2] == 0), "{name}");
         }
     }
 
     #[test]
     fn stored_outputs_are_those_of_the_reference() {
+        let mut expected = String::new();
         for (name, image) in examples() {
-            let path = crates().join(name).join("stdout");
-            let output = fs::read_to_string(path).expect("a stored output");
-            let expected = String::from_utf8(reference::program(&image)).expect("text");
-            assert_eq!(output, expected, "crates/{name}/stdout");
+            let text = String::from_utf8(reference::program(&image)).expect("text");
+            if name == "report" {
+                assert_eq!(stored_text("report/stdout"), text);
+            } else {
+                expected += &format!("== {name}.image\n{text}");
+            }
         }
+        assert_eq!(stored_text("report_examples/stdout"), expected);
     }
 }

@@ -11,7 +11,7 @@
 //! | `damage`    | damaged images                                                              |
 //! | `numbers`   | numbers and tables for the writer to try                                    |
 //! | `times`     | times, working hours and two plans to try                                   |
-//! | `examples`  | the inputs stored with the report program                                   |
+//! | `examples`  | the inputs stored with the report programs                                  |
 //! | `reaches`   | wrong ways to find a reach, for the tests of `compare` and `sites`          |
 //! | `compare`   | one image, or many times, through a planner's calls, against the reference  |
 

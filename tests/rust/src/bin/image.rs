@@ -1,5 +1,5 @@
-//! Writes the input of a stored example to a file: `image NAME PATH`, where NAME is the example's crate.
-//! `image report_hub crates/report_hub/stdin` makes that one again.
+//! Writes the input of a stored example to a file: `image NAME PATH`, where NAME is the example's.
+//! `image hub crates/report_examples/data/hub.image` makes that one again.
 
 use std::process::ExitCode;
 
