@@ -4,7 +4,7 @@
 --     le-split                   a number of a + b bytes is made of two: how `four` makes four bytes of two, and `read8` eight of four
 --     number-le                  a number whose bytes are all there
 --     number-there, number-none  the number, by a test of whether its bytes are there
---     number-part                a number in a part of a list
+--     number-slice               a number in a slice of a list
 use Prim.Native.Nat.{ℕ, zero, suc, _+_, _*_, _^_, _≤_, _<_}
 use native.Mathlib.Omega.{arith}
 use native.Mathlib.Nat.{add-zero, zero-add, suc-add, mul-assoc, pow-succ'}
@@ -55,10 +55,10 @@ pub number-cong : (w : ℕ) (s t : List ℕ) (a b : ℕ) → a + w ≤ length s 
     → ((i : ℕ) → i < w → getD t (b + i) 0 ≡ getD s (a + i) 0) → number w t b ≡ number w s a
 number-cong w s t a b ha hb e = number-le w t b hb ∙ le-cong w s t a b e ∙ sym (number-le w s a ha)
 
--- a number in a part of a list; where its bytes are not all there, they are not in the part either
-pub number-part : (w : ℕ) (s : List ℕ) (from n at : ℕ) → 1 ≤ w → at + w ≤ n → number w (take n (drop from s)) at ≡ number w s (from + at)
+-- a number in a slice of a list; where its bytes are not all there, they are not in the slice either
+pub number-slice : (w : ℕ) (s : List ℕ) (from n at : ℕ) → 1 ≤ w → at + w ≤ n → number w (take n (drop from s)) at ≡ number w s (from + at)
 unfolding number
-number-part w s from n at some h =
+number-slice w s from n at some h =
     let t : List ℕ = take n (drop from s) in
     ap₂ (λ (b : Bool) (x : ℕ). cond b x 0)
     (T-ext (leb (at + w) (length t)) (leb (from + at + w) (length s))

@@ -242,24 +242,24 @@ unfolding tableBytes
 table-bytes-below w [] i = omega arith
 table-bytes-below w (x ∷ l) i = append-below 256 (leBytes w x) (tableBytes w l) (le-bytes-below w x) (table-bytes-below w l) i
 
-pub table-bytes-is : (w : ℕ) (l part : List ℕ) → Below 256 part → length part ≡ w * length l → ((k : ℕ) → k < length l → number w part (w * k) ≡ getD l k 0)
-    → tableBytes w l ≡ part
+pub table-bytes-is : (w : ℕ) (l bs : List ℕ) → Below 256 bs → length bs ≡ w * length l → ((k : ℕ) → k < length l → number w bs (w * k) ≡ getD l k 0)
+    → tableBytes w l ≡ bs
 unfolding tableBytes
 table-bytes-is w [] [] small e f = refl
-table-bytes-is w [] (x ∷ part) small e f = absurd (omega (arith, mul-zero w))
-table-bytes-is w (v ∷ l) part small e f =
-    let long : w ≤ length part = omega (arith, mul-suc w (length l)) in
-    let first : leBytes w v ≡ take w part =
-    ap (leBytes w) (sym (f 0 (omega arith)) ∙ ap (number w part) (mul-zero w) ∙ number-le w part 0 (omega arith)) ∙ le-read w part 0 small (omega arith) in
-    let rest : tableBytes w l ≡ drop w part =
-    table-bytes-is w l (drop w part) (drop-below 256 w part small) (length-drop w part ∙ omega (arith, mul-suc w (length l)))
+table-bytes-is w [] (x ∷ bs) small e f = absurd (omega (arith, mul-zero w))
+table-bytes-is w (v ∷ l) bs small e f =
+    let long : w ≤ length bs = omega (arith, mul-suc w (length l)) in
+    let first : leBytes w v ≡ take w bs =
+    ap (leBytes w) (sym (f 0 (omega arith)) ∙ ap (number w bs) (mul-zero w) ∙ number-le w bs 0 (omega arith)) ∙ le-read w bs 0 small (omega arith) in
+    let rest : tableBytes w l ≡ drop w bs =
+    table-bytes-is w l (drop w bs) (drop-below 256 w bs small) (length-drop w bs ∙ omega (arith, mul-suc w (length l)))
     (λ k h. next k h ∙ f (suc k) (omega arith)) in
-    ap₂ _++_ first rest ∙ take-append-drop w part
+    ap₂ _++_ first rest ∙ take-append-drop w bs
   where
-    next : (k : ℕ) → k < length l → number w (drop w part) (w * k) ≡ number w part (w * suc k)
+    next : (k : ℕ) → k < length l → number w (drop w bs) (w * k) ≡ number w bs (w * suc k)
     next k h =
         let room : w * k + w ≤ w * length l = omega (arith, mul-suc w k, mul-le-mul-left w h) in
-        number-le w (drop w part) (w * k) (omega (arith, length-drop w part, mul-suc w (length l)))
-        ∙ le-cong w part (drop w part) (w * suc k) (w * k)
-        (λ i q. getD-drop w part (w * k + i) 0 ∙ ap (λ (x : ℕ). getD part x 0) (omega (arith, mul-suc w k)))
-        ∙ sym (number-le w part (w * suc k) (omega (arith, mul-suc w k, mul-suc w (length l))))
+        number-le w (drop w bs) (w * k) (omega (arith, length-drop w bs, mul-suc w (length l)))
+        ∙ le-cong w bs (drop w bs) (w * suc k) (w * k)
+        (λ i q. getD-drop w bs (w * k + i) 0 ∙ ap (λ (x : ℕ). getD bs x 0) (omega (arith, mul-suc w k)))
+        ∙ sym (number-le w bs (w * suc k) (omega (arith, mul-suc w k, mul-suc w (length l))))

@@ -1,7 +1,7 @@
 // Numbers in bytes, the lowest byte first: what reads them, and what writes them.
 //
 // A place may not be there: a read then gives 0, and a write leaves every byte as it was. Callers cite `number-cong` of proofs/Bytes where the same bytes stand
-// at two places, `number-part` where they read from a part, and proofs/Writing for what is written and for tables of numbers.
+// at two places, `number-slice` where they read from a slice, and proofs/Writing for what is written and for tables of numbers.
 ghost use mathlib.Core.Path.{_≡_};
 ghost use Prim.Native.Nat.{_+_, _*_, _≤_, _<_};
 ghost use lib.Dec.{leb};

@@ -1,5 +1,6 @@
--- What the fields of the image mean (paper 01, "The site image"), how many bytes a record has, and the limits of coordinates, counts and thresholds.
+-- What the fields of the image mean (paper 01, "The site image"), how many bytes the header and a record have, and the limits of a coordinate.
 --
+--     headerBytes        how many bytes the header has
 --     coordinateBytes    how many bytes a coordinate has
 --     coordinateCount    how many coordinates a handset has: x and y in paper 01, x, y and z since paper 02, order 7
 --     handsetBytes       how many bytes a handset's record has
@@ -8,21 +9,21 @@
 --     edgeBytes          how many bytes an edge's record has
 --     blankMu            what a blank mu, 0, means: 3 in paper 01, 4 since paper 02, order 3
 --     coreSize mu        how many handsets make a core: mu, or blankMu where it is blank
+--     coordinateOf r i   coordinate i of a handset's record, plus 2 ^ 31
 --     shifted x          the coordinate that the four bytes of x hold, plus 2 ^ 31
 --     coordinateLimit    how far from 0 a coordinate may be
 --     inLimits x         a coordinate, plus 2 ^ 31, is from -1,000,000 to 1,000,000 (image/specs/Signed: exactly when the signed number is)
 --     gap a b            how far apart two numbers are
 --     endsOf r           the two ends of an edge, from its record
---     limitSquaredMost   the most that G may be (paper 02, order 7)
---     handsetsMost       the most handsets, and edgesMost the most edges, that a site may have
---     countsFit n m      question 3: the counts of handsets and edges are within their limits
---     thresholdsFit ..   question 5: so are G, p, q and mu
 use Prim.Native.Nat.{ℕ, zero, suc, _+_, _*_, _-_, _%_}
 use mathlib.Core.Bool.{Bool, _&&_}
 use mathlib.Core.List.{List}
 use lib.Dec.{leb}
 use Rattle.bytes.specs.Bytes.{number}
 use Rattle.fields.specs.declared.Ends.{Ends}
+
+abbrev pub headerBytes : ℕ
+headerBytes = 32
 
 abbrev pub coordinateBytes : ℕ
 coordinateBytes = 4
@@ -54,6 +55,10 @@ coreSize (suc k) = suc k
 abbrev pub shifted : ℕ → ℕ
 shifted x = (x + 2147483648) % 4294967296
 
+unfoldable pub coordinateOf : List ℕ → ℕ → ℕ
+unfolding number
+coordinateOf r i = shifted (number coordinateBytes r (coordinateBytes * i))
+
 abbrev pub coordinateLimit : ℕ
 coordinateLimit = 1000000
 
@@ -67,18 +72,3 @@ gap a b = (a - b) + (b - a)
 unfoldable pub endsOf : List ℕ → Ends
 unfolding number
 endsOf r = record { a = number endBytes r 0; b = number endBytes r endBytes }
-
-abbrev pub limitSquaredMost : ℕ
-limitSquaredMost = 12000000000000
-
-abbrev pub handsetsMost : ℕ
-handsetsMost = 512
-
-abbrev pub edgesMost : ℕ
-edgesMost = 4096
-
-abbrev pub countsFit : ℕ → ℕ → Bool
-countsFit n m = leb n handsetsMost && leb m edgesMost
-
-abbrev pub thresholdsFit : ℕ → ℕ → ℕ → ℕ → Bool
-thresholdsFit limit p q mu = leb limit limitSquaredMost && (leb 1 p && (leb p q && (leb q 1000 && leb mu 512)))

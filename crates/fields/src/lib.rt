@@ -1,11 +1,14 @@
-// The fields of a site image: a coordinate with its limits and gaps, the ends of an edge, the core size, and the limits of counts and thresholds.
+// The fields of a site image: a coordinate with its limits and gaps, the ends of an edge, the core size.
 //
 // Every read is of a place that may not be there, and then gives 0, as those of the crate `bytes` do.
 ghost use mathlib.Core.Path.{_≡_};
 ghost use Prim.Native.Nat.{_*_, _<_};
 ghost use lib.IntN.{pos, natAbs, _-ℤ_};
 ghost use Rattle.bytes.specs.Bytes.{number};
-ghost use Rattle.fields.specs.Fields.{coordinateBytes, coreSize, shifted, inLimits, gap, endsOf, countsFit, thresholdsFit};
+ghost use Rattle.fields.specs.Fields.{coordinateBytes, coreSize, shifted, inLimits, gap, endsOf};
+
+// How many bytes the header has.
+pub const HEADER_BYTES: usize = 32;
 
 // How many bytes a coordinate has.
 pub const COORDINATE_BYTES: usize = 4;
@@ -25,22 +28,14 @@ pub const ENDS: usize = 2;
 
 pub const EDGE_BYTES: usize = END_BYTES * ENDS;
 
-// The most handsets and edges that a site may have.
-pub const HANDSETS_MOST: usize = 512;
-
-pub const EDGES_MOST: usize = 4096;
-
-// The most that G, the square of the near distance, may be.
-pub const LIMIT_SQUARED_MOST: u64 = 12000000000000;
-
 // What a blank mu, 0, means.
 const BLANK_MU: u16 = 4;
 
 // The coordinate at a place, plus 2 ^ 31, so that it is never negative.
-pub fn coordinate(part: &[u8], at: usize) -> u32
-    ensures { λ r. ⌜ r ≡ shifted (number coordinateBytes (now (part .entry)) at) ⌝ }
+pub fn coordinate(records: &[u8], at: usize) -> u32
+    ensures { λ r. ⌜ r ≡ shifted (number coordinateBytes (now (records .entry)) at) ⌝ }
 {
-    ((bytes::read4(part, at) as u64 + 2147483648) % 4294967296) as u32
+    ((bytes::read4(records, at) as u64 + 2147483648) % 4294967296) as u32
 }
 
 // Whether a coordinate, plus 2 ^ 31, is no farther from 2 ^ 31 than the limit.
@@ -67,10 +62,10 @@ pub fn squared_gap(a: u32, b: u32) -> u64
 }
 
 // The coordinate at a place, as the signed number that it is: the compiler then reads it with its sign and adds nothing.
-fn signed(part: &[u8], at: usize) -> i64
-    ensures { λ z. ⌜ z ≡ pos (shifted (number coordinateBytes (now (part .entry)) at)) -ℤ pos 2147483648 ⌝ }
+fn signed(records: &[u8], at: usize) -> i64
+    ensures { λ z. ⌜ z ≡ pos (shifted (number coordinateBytes (now (records .entry)) at)) -ℤ pos 2147483648 ⌝ }
 {
-    coordinate(part, at) as i64 - 2147483648
+    coordinate(records, at) as i64 - 2147483648
 }
 
 // The square of how far apart the coordinates at one place of two records are.
@@ -101,18 +96,4 @@ pub fn core_size(mu: u16) -> u16
     ensures { λ r. ⌜ r ≡ coreSize mu ⌝ }
 {
     if mu == 0 { BLANK_MU } else { mu }
-}
-
-// Question 3, of any counts.
-pub fn counts_fit(n: u64, m: u64) -> bool
-    ensures { λ r. ⌜ r ≡ countsFit n m ⌝ }
-{
-    (n <= HANDSETS_MOST as u64) & (m <= EDGES_MOST as u64)
-}
-
-// Question 5, of any thresholds.
-pub fn thresholds_fit(limit: u64, p: u64, q: u64, mu: u64) -> bool
-    ensures { λ r. ⌜ r ≡ thresholdsFit limit p q mu ⌝ }
-{
-    (limit <= LIMIT_SQUARED_MOST) & ((1 <= p) & ((p <= q) & ((q <= 1000) & (mu <= 512))))
 }

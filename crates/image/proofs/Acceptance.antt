@@ -4,6 +4,7 @@
 --     accepted            openOf s ≡ Site h gives Accepted s, and h is headerOf s
 --     opened              Accepted s gives openOf s ≡ Site (headerOf s)
 --     acceptance          the theorem of specs/Acceptance
+--     when-accepted, when-refused     what a call says of an accepted image, and of a refused one; when-either: what holds of both holds of what it says
 --     pass, go-on, refuse a question by its answer; go-on-each: one that gets a yes for each record goes on
 --     records-header      questions 7 to 10 answer no other header; go-on-header: where 1 to 6 get a yes, the rest is the answer
 --     counts-limits       what counts that fit keep to; Fits, fits: what a header's numbers keep to, for the proofs of the calls
@@ -24,9 +25,10 @@ use lib.Dec.{T, leb, ltb, eqb, leb→le, le→leb, ltb→lt, eqb→eq}
 use lib.ListN.{length, take, drop, length-take, length-drop}
 use Rattle.sets.specs.Below.{any}
 use Rattle.sets.proofs.Tests.{and-left, and-right, or-cases, any-none, none-any, eqb-of}
-use Rattle.fields.specs.Fields.{coordinateCount, handsetBytes, edgeBytes, coordinateLimit, inLimits, limitSquaredMost, countsFit, thresholdsFit}
-use Rattle.image.specs.Image.{headerBytes, headerOf, handsetCount, edgeCount, handsetRecords, edgeRecords, handsetRecord, coordinateOf, endA, endB}
-use Rattle.image.specs.Questions.{tablesFit, outOfLimits, badEnd, isLoop, repeatsEarlier, ask, askEach, askEdges, askRecords, askHeader, askImage, openOf, HeaderAccepted, Accepted}
+use Rattle.fields.specs.Fields.{coordinateCount, handsetBytes, edgeBytes, coordinateLimit, inLimits, headerBytes, coordinateOf}
+use Rattle.limits.specs.Limits.{limitMost, countsFit, thresholdsFit, outOfLimits}
+use Rattle.image.specs.Image.{headerOf, handsetCount, edgeCount, handsetRecords, edgeRecords, handsetRecord, endA, endB}
+use Rattle.image.specs.Questions.{tablesFit, badEnd, isLoop, repeatsEarlier, ask, askEach, askEdges, askRecords, askHeader, askImage, openOf, byAnswer, whenOpened, HeaderAccepted, Accepted}
 use Rattle.image.specs.Acceptance.{Acceptance}
 use Rattle.image.specs.declared.Header.{Header}
 use Rattle.image.specs.declared.Refusal.{Refusal}
@@ -108,6 +110,20 @@ opened s a =
     ∙ go-on-each (edgeCount s) (isLoop (edgeRecords s)) _ _ (a .q9)
     ∙ go-on-each (edgeCount s) (repeatsEarlier (edgeRecords s)) _ _ (a .q10)
 
+module _ {A : Type 0} (s : List ℕ) (f : Header → A) (g : Refusal → A) where
+  pub when-accepted : Accepted s → whenOpened s f g ≡ f (headerOf s)
+  when-accepted a = ap (λ (o : Opened). byAnswer o f g) (opened s a)
+
+  pub when-refused : (r : Refusal) → openOf s ≡ Refused r → whenOpened s f g ≡ g r
+  when-refused r e = ap (λ (o : Opened). byAnswer o f g) e
+
+  pub when-either : (P : A → Type 0) → (Accepted s → P (f (headerOf s))) → ((r : Refusal) → openOf s ≡ Refused r → P (g r)) → P (whenOpened s f g)
+  when-either P p q = go (openOf s) refl
+    where
+      go : (o : Opened) → openOf s ≡ o → P (byAnswer o f g)
+      go (Site h) e = let a = accepted s h e in subst (λ (x : Header). P (f x)) (sym (a .1)) (p (a .0))
+      go (Refused r) e = q r e
+
 pub acceptance : Acceptance
 acceptance = record { only-accepted = λ s h e. accepted s h e .0; the-header = λ s h e. accepted s h e .1; every-accepted = opened }
 
@@ -119,7 +135,7 @@ counts-limits n m c = (leb→le n 512 (and-left (leb n 512) (leb m 4096) c), leb
 pub record Fits (h : Header) : Type 0 where
   pub n-limit : h .n ≤ 512
   pub m-limit : h .m ≤ 4096
-  pub square-limit : h .limit ≤ limitSquaredMost
+  pub square-limit : h .limit ≤ limitMost
   pub p-some : 1 ≤ h .p
   pub p-q : h .p ≤ h .q
   pub q-limit : h .q ≤ 1000
@@ -131,7 +147,7 @@ pub record Fits (h : Header) : Type 0 where
 
 pub fits : (h : Header) → T (countsFit (h .n) (h .m)) → T (thresholdsFit (h .limit) (h .p) (h .q) (h .mu)) → T (tablesFit h) → Fits h
 fits h c t f =
-    let t1 = and-right (leb (h .limit) limitSquaredMost) _ t in
+    let t1 = and-right (leb (h .limit) limitMost) _ t in
     let t2 = and-right (leb 1 (h .p)) _ t1 in
     let t3 = and-right (leb (h .p) (h .q)) _ t2 in
     let f1 = and-right (leb 32 (h .handsets)) _ f in
@@ -140,7 +156,7 @@ fits h c t f =
     record {
       n-limit = counts-limits (h .n) (h .m) c .0;
       m-limit = counts-limits (h .n) (h .m) c .1;
-      square-limit = leb→le (h .limit) limitSquaredMost (and-left (leb (h .limit) limitSquaredMost) _ t);
+      square-limit = leb→le (h .limit) limitMost (and-left (leb (h .limit) limitMost) _ t);
       p-some = leb→le 1 (h .p) (and-left (leb 1 (h .p)) _ t1);
       p-q = leb→le (h .p) (h .q) (and-left (leb (h .p) (h .q)) _ t2);
       q-limit = leb→le (h .q) 1000 (and-left (leb (h .q) 1000) _ t3);
@@ -156,13 +172,13 @@ yes-of true t = tt
 yes-of false t = t
 
 -- an edge that passes question 8
-pub good-ends : (part : List ℕ) (n k : ℕ) → T (not (badEnd part n k)) → (endA part k < n) × (endB part k < n)
+pub good-ends : (records : List ℕ) (n k : ℕ) → T (not (badEnd records n k)) → (endA records k < n) × (endB records k < n)
 unfolding badEnd
-good-ends part n k bad =
-    let x : Bool = ltb (endA part k) n in
-    let y : Bool = ltb (endB part k) n in
+good-ends records n k bad =
+    let x : Bool = ltb (endA records k) n in
+    let y : Bool = ltb (endB records k) n in
     let t : T (x && y) = yes-of (x && y) bad in
-    (ltb→lt (endA part k) n (and-left x y t), ltb→lt (endB part k) n (and-right x y t))
+    (ltb→lt (endA records k) n (and-left x y t), ltb→lt (endB records k) n (and-right x y t))
 
 pub refuse : (b : Bool) (k p : ℕ) (next : Opened) → b ≡ false → ask b k p next ≡ Refused (record { number = k; place = p })
 unfolding ask

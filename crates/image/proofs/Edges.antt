@@ -25,65 +25,65 @@ use Rattle.image.specs.Image.{endA, endB, joins}
 use Rattle.image.specs.Questions.{badEnd, isLoop, repeatsEarlier}
 use Rattle.sets.specs.Rows.{Table, Counted}
 use Rattle.image.specs.Rows.{Cleared}
-use Rattle.image.specs.Scan.{linked, faulty, Added}
+use Rattle.image.specs.ForProofs.{linked, faulty, Added}
 use Rattle.image.proofs.Rows.{cleared-bit, table-cong}
 use Rattle.image.proofs.Scanning.{scan-found, scan-ended}
 
 -- ---- the ends of an edge, either way round
-pub joins-cases : (part : List ℕ) (u v k : ℕ) → T (joins part u v k)
-    → ((endA part k ≡ u) × (endB part k ≡ v)) ⊎ ((endA part k ≡ v) × (endB part k ≡ u))
+pub joins-cases : (records : List ℕ) (u v k : ℕ) → T (joins records u v k)
+    → ((endA records k ≡ u) × (endB records k ≡ v)) ⊎ ((endA records k ≡ v) × (endB records k ≡ u))
 unfolding joins
-joins-cases part u v k t =
+joins-cases records u v k t =
     ⊎-elim
-    (λ x. inl (eqb→eq (endA part k) u (and-left (eqb (endA part k) u) (eqb (endB part k) v) x), eqb→eq (endB part k) v (and-right (eqb (endA part k) u) (eqb (endB part k) v) x)))
-    (λ x. inr (eqb→eq (endA part k) v (and-left (eqb (endA part k) v) (eqb (endB part k) u) x), eqb→eq (endB part k) u (and-right (eqb (endA part k) v) (eqb (endB part k) u) x)))
-    (or-cases (eqb (endA part k) u && eqb (endB part k) v) (eqb (endA part k) v && eqb (endB part k) u) t)
+    (λ x. inl (eqb→eq (endA records k) u (and-left (eqb (endA records k) u) (eqb (endB records k) v) x), eqb→eq (endB records k) v (and-right (eqb (endA records k) u) (eqb (endB records k) v) x)))
+    (λ x. inr (eqb→eq (endA records k) v (and-left (eqb (endA records k) v) (eqb (endB records k) u) x), eqb→eq (endB records k) u (and-right (eqb (endA records k) v) (eqb (endB records k) u) x)))
+    (or-cases (eqb (endA records k) u && eqb (endB records k) v) (eqb (endA records k) v && eqb (endB records k) u) t)
 
-pub joins-one : (part : List ℕ) (u v k : ℕ) → endA part k ≡ u → endB part k ≡ v → T (joins part u v k)
+pub joins-one : (records : List ℕ) (u v k : ℕ) → endA records k ≡ u → endB records k ≡ v → T (joins records u v k)
 unfolding joins
-joins-one part u v k p q =
-    or-left (eqb (endA part k) u && eqb (endB part k) v) (eqb (endA part k) v && eqb (endB part k) u)
-    (and-make (eqb (endA part k) u) (eqb (endB part k) v) (eqb-of (endA part k) u p) (eqb-of (endB part k) v q))
+joins-one records u v k p q =
+    or-left (eqb (endA records k) u && eqb (endB records k) v) (eqb (endA records k) v && eqb (endB records k) u)
+    (and-make (eqb (endA records k) u) (eqb (endB records k) v) (eqb-of (endA records k) u p) (eqb-of (endB records k) v q))
 
-pub joins-other : (part : List ℕ) (u v k : ℕ) → endA part k ≡ v → endB part k ≡ u → T (joins part u v k)
+pub joins-other : (records : List ℕ) (u v k : ℕ) → endA records k ≡ v → endB records k ≡ u → T (joins records u v k)
 unfolding joins
-joins-other part u v k p q =
-    or-right (eqb (endA part k) u && eqb (endB part k) v) (eqb (endA part k) v && eqb (endB part k) u)
-    (and-make (eqb (endA part k) v) (eqb (endB part k) u) (eqb-of (endA part k) v p) (eqb-of (endB part k) u q))
+joins-other records u v k p q =
+    or-right (eqb (endA records k) u && eqb (endB records k) v) (eqb (endA records k) v && eqb (endB records k) u)
+    (and-make (eqb (endA records k) v) (eqb (endB records k) u) (eqb-of (endA records k) v p) (eqb-of (endB records k) u q))
 
-pub joins-comm : (part : List ℕ) (u v k : ℕ) → joins part u v k ≡ joins part v u k
+pub joins-comm : (records : List ℕ) (u v k : ℕ) → joins records u v k ≡ joins records v u k
 unfolding joins
-joins-comm part u v k = or-comm (eqb (endA part k) u && eqb (endB part k) v) (eqb (endA part k) v && eqb (endB part k) u)
+joins-comm records u v k = or-comm (eqb (endA records k) u && eqb (endB records k) v) (eqb (endA records k) v && eqb (endB records k) u)
 
 -- ---- both cells of an edge
-module _ (part : List ℕ) (k u v : ℕ) (ha : endA part k < 512) (hb : endB part k < 512) (hu : u < 512) (hv : v < 512) where
+module _ (records : List ℕ) (k u v : ℕ) (ha : endA records k < 512) (hb : endB records k < 512) (hu : u < 512) (hv : v < 512) where
   abbrev first : ℕ
-  first = endA part k * 512 + endB part k
+  first = endA records k * 512 + endB records k
 
   abbrev second : ℕ
-  second = endB part k * 512 + endA part k
+  second = endB records k * 512 + endA records k
 
-  at-first : u * 512 + v ≡ first → T (joins part u v k)
-  at-first e = joins-one part u v k (omega (arith, e)) (omega (arith, e))
+  at-first : u * 512 + v ≡ first → T (joins records u v k)
+  at-first e = joins-one records u v k (omega (arith, e)) (omega (arith, e))
 
-  at-second : u * 512 + v ≡ second → T (joins part u v k)
-  at-second e = joins-other part u v k (omega (arith, e)) (omega (arith, e))
+  at-second : u * 512 + v ≡ second → T (joins records u v k)
+  at-second e = joins-other records u v k (omega (arith, e)) (omega (arith, e))
 
-  elsewhere : (u * 512 + v ≡ first → ⊥) → (u * 512 + v ≡ second → ⊥) → joins part u v k ≡ false
+  elsewhere : (u * 512 + v ≡ first → ⊥) → (u * 512 + v ≡ second → ⊥) → joins records u v k ≡ false
   elsewhere d p =
-      T-false (joins part u v k) (not-T (joins part u v k) (λ t.
+      T-false (joins records u v k) (not-T (joins records u v k) (λ t.
       ⊎-elim
       (λ w. d (ap₂ (λ (i j : ℕ). i * 512 + j) (sym (w .0)) (sym (w .1))))
       (λ w. p (ap₂ (λ (i j : ℕ). i * 512 + j) (sym (w .1)) (sym (w .0))))
-      (joins-cases part u v k t)))
+      (joins-cases records u v k t)))
 
-  cell-both : (rows : List ℕ) (x : Bool) → length rows ≡ 4096 → cell rows u v ≡ bit x → cell (withBit (withBit rows first) second) u v ≡ bit (joins part u v k || x)
+  cell-both : (rows : List ℕ) (x : Bool) → length rows ≡ 4096 → cell rows u v ≡ bit x → cell (withBit (withBit rows first) second) u v ≡ bit (joins records u v k || x)
   cell-both rows x long e = pick (ℕ-discrete (u * 512 + v) second) (ℕ-discrete (u * 512 + v) first)
     where
-      on : T (joins part u v k) → 1 ≡ bit (joins part u v k || x)
-      on t = sym (bit-true (joins part u v k || x) (or-left (joins part u v k) x t))
+      on : T (joins records u v k) → 1 ≡ bit (joins records u v k || x)
+      on t = sym (bit-true (joins records u v k || x) (or-left (joins records u v k) x t))
 
-      pick : Dec (u * 512 + v ≡ second) → Dec (u * 512 + v ≡ first) → cell (withBit (withBit rows first) second) u v ≡ bit (joins part u v k || x)
+      pick : Dec (u * 512 + v ≡ second) → Dec (u * 512 + v ≡ first) → cell (withBit (withBit rows first) second) u v ≡ bit (joins records u v k || x)
       pick (yes p) d =
           ap (bitAt (withBit (withBit rows first) second)) p
           ∙ bitAt-set-same (withBit rows first) second (omega (arith, length-withBit rows first))

@@ -21,7 +21,7 @@ use Rattle.image.specs.Questions.{badEnd, isLoop, repeatsEarlier, askEdg
 use Rattle.image.specs.Image.{headerOf, handsetCount, edgeCount, edgeRecords, adjacent}
 use Rattle.image.specs.Answers.{openAnswer}
 use Rattle.image.specs.Rows.{related, Held, Reading, Room, zeros}
-use Rattle.image.specs.Scan.{linked, faulty, Added}
+use Rattle.image.specs.ForProofs.{linked, faulty, Added}
 use Rattle.image.specs.declared.Header.{Header}
 use Rattle.image.specs.declared.Refusal.{Refusal}
 use Rattle.image.specs.declared.Opened.{Opened}

@@ -2,7 +2,6 @@ pub mod Answers
 pub mod Records
 pub mod Acceptance
 pub mod Signed
-pub mod Planar
 pub mod Scanning
 pub mod Rows
 pub mod Edges

@@ -17,35 +17,36 @@ use lib.Dec.{T}
 use borrow.Author.Tests.{ne-eqb}
 use Rattle.sets.specs.Below.{any, find}
 use Rattle.sets.proofs.Tests.{decide, any-none, find-law, find-none, find-is, T-true, T-false}
+use Rattle.limits.specs.Limits.{outOfLimits}
 use Rattle.image.specs.Image.{handsetRecord}
-use Rattle.image.specs.Questions.{outOfLimits, badEnd, isLoop, ask, askEach}
-use Rattle.image.specs.Scan.{badRecord}
+use Rattle.image.specs.Questions.{badEnd, isLoop, ask, askEach}
+use Rattle.image.specs.ForProofs.{badRecord}
 use Rattle.image.specs.declared.Opened.{Opened}
 use Rattle.image.specs.declared.Opened.the-variants.{Refused}
 
-module _ (question : ℕ) (part : List ℕ) (n k : ℕ) where
-  pub bad-handset : question ≡ 7 → badRecord question part n k ≡ outOfLimits (handsetRecord part k)
+module _ (question : ℕ) (records : List ℕ) (n k : ℕ) where
+  pub bad-handset : question ≡ 7 → badRecord question records n k ≡ outOfLimits (handsetRecord records k)
   unfolding badRecord
-  bad-handset e = ap (λ (q : ℕ). badRecord q part n k) e
+  bad-handset e = ap (λ (q : ℕ). badRecord q records n k) e
 
-  pub bad-end : question ≡ 8 → badRecord question part n k ≡ badEnd part n k
+  pub bad-end : question ≡ 8 → badRecord question records n k ≡ badEnd records n k
   unfolding badRecord
-  bad-end e = ap (λ (q : ℕ). badRecord q part n k) e
+  bad-end e = ap (λ (q : ℕ). badRecord q records n k) e
 
-  pub bad-loop : (question ≡ 7 → ⊥) → (question ≡ 8 → ⊥) → badRecord question part n k ≡ isLoop part k
+  pub bad-loop : (question ≡ 7 → ⊥) → (question ≡ 8 → ⊥) → badRecord question records n k ≡ isLoop records k
   unfolding badRecord
   bad-loop d e = rw (ne-eqb question 7 d, ne-eqb question 8 e)
 
-module _ (part : List ℕ) (n count r : ℕ) where
-  pub handset-found : r ≡ find count (badRecord 7 part n) → r ≡ find count (λ v. outOfLimits (handsetRecord part v))
+module _ (records : List ℕ) (n count r : ℕ) where
+  pub handset-found : r ≡ find count (badRecord 7 records n) → r ≡ find count (λ v. outOfLimits (handsetRecord records v))
   unfolding badRecord
   handset-found e = e
 
-  pub end-found : r ≡ find count (badRecord 8 part n) → r ≡ find count (badEnd part n)
+  pub end-found : r ≡ find count (badRecord 8 records n) → r ≡ find count (badEnd records n)
   unfolding badRecord
   end-found e = e
 
-  pub loop-found : r ≡ find count (badRecord 9 part n) → r ≡ find count (isLoop part)
+  pub loop-found : r ≡ find count (badRecord 9 records n) → r ≡ find count (isLoop records)
   unfolding badRecord
   loop-found e = e
 

@@ -3,6 +3,5 @@ pub mod Questions
 pub mod Acceptance
 pub mod Signed
 pub mod Answers
-pub mod Planar
 pub mod Rows
-pub mod Scan
+pub mod ForProofs

@@ -14,7 +14,7 @@ use mathlib.Core.List.{List}
 use lib.Dec.{ltb, eqb}
 use lib.ListN.{length, replicate}
 use Rattle.sets.specs.Bits.{Words}
-use Rattle.sets.specs.Rows.{Table, Counted}
+use Rattle.sets.specs.Rows.{tableWords, Table, Counted}
 use Rattle.image.specs.Image.{handsetCount, adjacent}
 use Rattle.image.specs.Questions.{openOf}
 use Rattle.image.specs.Answers.{openAnswer}
@@ -28,13 +28,13 @@ unfolding adjacent
 related s u v = (ltb u (handsetCount s) && eqb u v) || adjacent s u v
 
 abbrev pub Room : List ℕ → List ℕ → Type 0
-Room rows sizes = (length rows ≡ 4096) × (length sizes ≡ 512)
+Room rows sizes = (length rows ≡ tableWords) × (length sizes ≡ 512)
 
 abbrev pub zeros : ℕ → List ℕ
 zeros n = replicate n 0
 
 abbrev pub Cleared : List ℕ → List ℕ → Type 0
-Cleared rows sizes = (rows ≡ zeros 4096) × (sizes ≡ zeros 512)
+Cleared rows sizes = (rows ≡ zeros tableWords) × (sizes ≡ zeros 512)
 
 pub record Held (f : ℕ → ℕ → Bool) (answer : Opened) (rows sizes : List ℕ) : Type 0 where
   pub table : (h : Header) → answer ≡ Site h → Table rows f

@@ -3,7 +3,7 @@
 // `open` answers the header of an image that is accepted, or the number and place of the first no. `open_rows` also leaves behind what reading the edges
 // makes: a row for each handset, with itself and those that it is adjacent to, and the size of each row.
 // Callers read the records themselves, and cite proofs/Answers (`open-same`), proofs/Acceptance (what an accepted image keeps to) and proofs/Records
-// (a record is the part of its table that it is read from).
+// (a record is the slice of its table that it is read from).
 ghost use mathlib.Core.Path.{_≡_};
 ghost use mathlib.Core.Bool.{_&&_};
 ghost use Prim.Native.Nat.{_+_, _*_, _≤_, _<_};
@@ -11,16 +11,13 @@ ghost use lib.Dec.{ltb, eqb};
 ghost use lib.ListN.{length, take, drop};
 ghost use Rattle.sets.specs.Below.{find};
 ghost use Rattle.sets.specs.Bits.{cell, withBit};
-ghost use Rattle.sets.specs.Rows.{Table, Counted};
+ghost use Rattle.sets.specs.Rows.{tableWords, Table, Counted};
 ghost use Rattle.fields.specs.Fields.{handsetBytes, edgeBytes};
 ghost use Rattle.image.specs.Image.{headerOf, endA, endB};
-ghost use Rattle.image.specs.Questions.{tablesFit, outOfLimits, ask, askEdges, askRecords, askHeader, askImage, openOf, refusalOf};
+ghost use Rattle.image.specs.Questions.{tablesFit, ask, askEdges, askRecords, askHeader, askImage, openOf};
 ghost use Rattle.image.specs.Answers.{openAnswer};
 ghost use Rattle.image.specs.Rows.{Room, Cleared, related, Held, Reading};
-ghost use Rattle.image.specs.Scan.{badRecord, Stand, linked, Added};
-
-// How many bytes the header has.
-pub const HEADER_BYTES: usize = 32;
+ghost use Rattle.image.specs.ForProofs.{badRecord, Stand, linked, Added};
 
 // The header's numbers as they stand: `limit` is G, a blank `mu` is still 0 (`fields::core_size`), and `width` is that of a handset's record.
 pub struct Header {
@@ -70,7 +67,7 @@ fn read_header(s: &[u8]) -> Header
 fn tables_fit(h: Header) -> bool
     ensures { λ r. ⌜ r ≡ tablesFit h ⌝ }
 {
-    let front = HEADER_BYTES as u64;
+    let front = fields::HEADER_BYTES as u64;
     let a = h.handsets as u64;
     let b = h.edges as u64;
     let len = h.len as u64;
@@ -99,60 +96,47 @@ fn ask_header(h: Header) -> Opened
     ensures { λ r. ⌜ r ≡ askHeader h (Opened.Site h) ⌝ }
 {
     let q6 = put_question(tables_fit(h), 6, 0, Opened::Site(h));
-    let thresholds = fields::thresholds_fit(h.limit, h.p as u64, h.q as u64, h.mu as u64);
+    let thresholds = limits::thresholds_fit(h.limit, h.p as u64, h.q as u64, h.mu as u64);
     let q5 = put_question(thresholds, 5, 0, q6);
-    let q4 = put_question(h.width as usize == fields::HANDSET_BYTES, 4, 0, q5);
-    put_question(fields::counts_fit(h.n as u64, h.m as u64), 3, 0, q4)
+    let q4 = put_question(limits::width_fits(h.width), 4, 0, q5);
+    put_question(limits::counts_fit(h.n as u64, h.m as u64), 3, 0, q4)
 }
 
-// Question 7 of a handset's record: whether a coordinate is out of its limits.
-fn out_of_limits(handset: &[u8]) -> bool
-    ensures { λ r. ⌜ r ≡ outOfLimits (now (handset .entry)) ⌝ }
-{
-    let mut bad = false;
-    let mut i: usize = 0;
-    while i < fields::COORDINATES {
-        bad = bad | !fields::in_limits(fields::coordinate(handset, fields::COORDINATE_BYTES * i));
-        i += 1;
-    }
-    bad
-}
-
-// The ends of edge k, whose record stands in the part.
-fn ends_at(part: &[u8], k: usize) -> fields::Ends
-    requires { ⌜ edgeBytes * (k + 1) ≤ length (now part) ⌝ }
-    ensures { λ r. ⌜ r ≡ record { a = endA (now (part .entry)) k; b = endB (now (part .entry)) k } ⌝ }
+// The ends of edge k, whose record is there.
+fn ends_at(records: &[u8], k: usize) -> fields::Ends
+    requires { ⌜ edgeBytes * (k + 1) ≤ length (now records) ⌝ }
+    ensures { λ r. ⌜ r ≡ record { a = endA (now (records .entry)) k; b = endB (now (records .entry)) k } ⌝ }
 {
     let at = fields::EDGE_BYTES * k;
     let past = at + fields::EDGE_BYTES;
-    fields::read_ends(&part[at..past])
+    fields::read_ends(&records[at..past])
 }
 
-// Whether question 7, 8 or 9 gets a no for record k of the part.
-fn is_bad_record(question: u32, part: &[u8], n: usize, k: usize) -> bool
-    requires { ⌜ Stand question (now part) (k + 1) ⌝ }
-    ensures { λ r. ⌜ r ≡ badRecord question (now (part .entry)) n k ⌝ }
+// Whether question 7, 8 or 9 gets a no for record k.
+fn is_bad_record(question: u32, records: &[u8], n: usize, k: usize) -> bool
+    requires { ⌜ Stand question (now records) (k + 1) ⌝ }
+    ensures { λ r. ⌜ r ≡ badRecord question (now (records .entry)) n k ⌝ }
 {
     if question == 7 {
         let at = fields::HANDSET_BYTES * k;
         let past = at + fields::HANDSET_BYTES;
-        return out_of_limits(&part[at..past]);
+        return limits::out_of_limits(&records[at..past]);
     }
-    let e = ends_at(part, k);
+    let e = ends_at(records, k);
     if question == 8 {
         return !((e.a < n) & (e.b < n));
     }
     e.a == e.b
 }
 
-// The first of the first `count` records of the part for which the question gets a no, or `count` where there is none.
-fn first_bad(question: u32, part: &[u8], count: usize, n: usize) -> usize
-    requires { ⌜ Stand question (now part) count ⌝ }
-    ensures { λ r. ⌜ r ≡ find count (badRecord question (now (part .entry)) n) ⌝ }
+// The first of the first `count` records for which the question gets a no, or `count` where there is none.
+fn first_bad(question: u32, records: &[u8], count: usize, n: usize) -> usize
+    requires { ⌜ Stand question (now records) count ⌝ }
+    ensures { λ r. ⌜ r ≡ find count (badRecord question (now (records .entry)) n) ⌝ }
 {
     let mut k: usize = 0;
     while k < count {
-        if is_bad_record(question, part, n, k) {
+        if is_bad_record(question, records, n, k) {
             return k;
         }
         k += 1;
@@ -162,7 +146,7 @@ fn first_bad(question: u32, part: &[u8], count: usize, n: usize) -> usize
 
 // Whether v is in row u.
 fn row_has(rows: &[u64], u: usize, v: usize) -> bool
-    requires { ⌜ (u < 512) × (v < 512) × (length (now rows) ≡ 4096) ⌝ }
+    requires { ⌜ (u < 512) × (v < 512) × (length (now rows) ≡ tableWords) ⌝ }
     ensures { λ r. ⌜ r ≡ eqb (cell (now (rows .entry)) u v) 1 ⌝ }
 {
     let i = u * 512 + v;
@@ -195,13 +179,13 @@ fn add_selves(rows: &mut [u64], sizes: &mut [u32], n: usize)
 
 // Adds the ends of each edge to each other's rows, up to the first edge at fault for question 8, 9 or 10, whose number it gives, or m where there is
 // none. A row that has an end already says that the edge is a loop or a repeat.
-fn add_edges(part: &[u8], m: usize, n: usize, rows: &mut [u64], sizes: &mut [u32]) -> usize
-    requires { ⌜ (n ≤ 512) × (edgeBytes * m ≤ length (now part)) × (Room (now rows) (now sizes)) × (Table (now rows) (λ u v. ltb u n && eqb u v)) × (Counted (now rows) (now sizes)) ⌝ }
-    ensures { λ r. ⌜ Added (now (part .entry)) n m r (now (rows .exit)) (now (sizes .exit)) ⌝ }
+fn add_edges(records: &[u8], m: usize, n: usize, rows: &mut [u64], sizes: &mut [u32]) -> usize
+    requires { ⌜ (n ≤ 512) × (edgeBytes * m ≤ length (now records)) × (Room (now rows) (now sizes)) × (Table (now rows) (λ u v. ltb u n && eqb u v)) × (Counted (now rows) (now sizes)) ⌝ }
+    ensures { λ r. ⌜ Added (now (records .entry)) n m r (now (rows .exit)) (now (sizes .exit)) ⌝ }
 {
     let mut k: usize = 0;
     while k < m {
-        let e = ends_at(part, k);
+        let e = ends_at(records, k);
         if !((e.a < n) & (e.b < n)) {
             return k;
         }
@@ -217,22 +201,22 @@ fn add_edges(part: &[u8], m: usize, n: usize, rows: &mut [u64], sizes: &mut [u32
 
 // Questions 8 to 10, each to every edge before the next. Where no edge is at fault, one pass says so; where an edge is, but none for 8 or 9, it is the
 // first repeat. After a yes the cleared table that is lent has the rows of all edges.
-fn ask_edges(part: &[u8], h: Header, rows: &mut [u64], sizes: &mut [u32]) -> Opened
-    requires { ⌜ (h .n ≤ 512) × (edgeBytes * h .m ≤ length (now part)) × (Cleared (now rows) (now sizes)) ⌝ }
-    ensures answer { λ r. ⌜ r ≡ askEdges (now (part .entry)) h ⌝ }
-    ensures held { λ r. ⌜ Held (linked (h .n) (now (part .entry)) (h .m)) r (now (rows .exit)) (now (sizes .exit)) ⌝ }
+fn ask_edges(records: &[u8], h: Header, rows: &mut [u64], sizes: &mut [u32]) -> Opened
+    requires { ⌜ (h .n ≤ 512) × (edgeBytes * h .m ≤ length (now records)) × (Cleared (now rows) (now sizes)) ⌝ }
+    ensures answer { λ r. ⌜ r ≡ askEdges (now (records .entry)) h ⌝ }
+    ensures held { λ r. ⌜ Held (linked (h .n) (now (records .entry)) (h .m)) r (now (rows .exit)) (now (sizes .exit)) ⌝ }
 {
     let m = h.m as usize;
     add_selves(rows, sizes, h.n as usize);
-    let fault = add_edges(part, m, h.n as usize, rows, sizes);
+    let fault = add_edges(records, m, h.n as usize, rows, sizes);
     if m <= fault {
         return Opened::Site(h);
     }
-    let bad = first_bad(8, part, m, h.n as usize);
+    let bad = first_bad(8, records, m, h.n as usize);
     if bad < m {
         return refused(8, bad);
     }
-    let own = first_bad(9, part, m, h.n as usize);
+    let own = first_bad(9, records, m, h.n as usize);
     if own < m {
         return refused(9, own);
     }
@@ -258,7 +242,7 @@ fn ask_records(
     ask_edges(edges, h, rows, sizes)
 }
 
-// Questions 7 to 10, each table read from the part of the image that begins at its offset.
+// Questions 7 to 10, each table read from the slice of the image that begins at its offset.
 fn ask_tables(image: &[u8], h: Header, rows: &mut [u64], sizes: &mut [u32]) -> Opened
     requires { ⌜ (h .n ≤ 512) × (h .handsets + handsetBytes * h .n ≤ length (now image)) × (h .edges + edgeBytes * h .m ≤ length (now image)) × (Cleared (now rows) (now sizes)) ⌝ }
     ensures answer { λ r. ⌜ r ≡ askRecords (take (handsetBytes * h .n) (drop (h .handsets) (now (image .entry)))) (take (edgeBytes * h .m) (drop (h .edges) (now (image .entry)))) h ⌝ }
@@ -275,7 +259,7 @@ fn ask_tables(image: &[u8], h: Header, rows: &mut [u64], sizes: &mut [u32]) -> O
 fn open_header(image: &[u8]) -> Opened
     ensures { λ r. ⌜ r ≡ askImage (now (image .entry)) (Opened.Site (headerOf (now (image .entry)))) ⌝ }
 {
-    if image.len() < HEADER_BYTES {
+    if image.len() < fields::HEADER_BYTES {
         return refused(1, 0);
     }
     let h = read_header(image);
@@ -298,18 +282,22 @@ fn read_image(image: &[u8], rows: &mut [u64], sizes: &mut [u32]) -> Opened
     ask_tables(image, h, rows, sizes)
 }
 
-// Puts questions 1 to 10 to an image, and leaves the rows of all edges and their sizes in the tables that are lent, or 0 everywhere after a no. What they
-// had before is gone.
-pub fn open_rows(image: &[u8], rows: &mut [u64; 4096], sizes: &mut [u32; 512]) -> Opened
+// Puts questions 1 to 10 to an image, and leaves the rows of all edges and their sizes in the tables that are lent, or 0 everywhere after a no. Their
+// earlier contents are overwritten.
+pub fn open_rows(
+    image: &[u8],
+    rows: &mut [u64; sets::TABLE_WORDS],
+    sizes: &mut [u32; 512],
+) -> Opened
     ensures { λ r. ⌜ Reading (now (image .entry)) r (now (rows .exit)) (now (sizes .exit)) ⌝ }
 {
-    *rows = [0u64; 4096];
+    *rows = [0u64; sets::TABLE_WORDS];
     *sizes = [0u32; 512];
     let answer = read_image(image, rows, sizes);
     let Opened::Refused(_) = answer else {
         return answer;
     };
-    *rows = [0u64; 4096];
+    *rows = [0u64; sets::TABLE_WORDS];
     *sizes = [0u32; 512];
     answer
 }
@@ -318,20 +306,7 @@ pub fn open_rows(image: &[u8], rows: &mut [u64; 4096], sizes: &mut [u32; 512]) -
 pub fn open(image: &[u8]) -> Opened
     ensures { λ r. ⌜ openAnswer r ≡ openAnswer (openOf (now (image .entry))) ⌝ }
 {
-    let mut rows = [0u64; 4096];
+    let mut rows = [0u64; sets::TABLE_WORDS];
     let mut sizes = [0u32; 512];
     read_image(image, &mut rows, &mut sizes)
-}
-
-// The refusal of an answer, for the else of a caller's let .. else; number 0 where the image was accepted.
-pub fn refusal_of(o: Opened) -> Refusal
-    ensures { λ r. ⌜ r ≡ refusalOf o ⌝ }
-{
-    match o {
-        Opened::Refused(r) => r,
-        Opened::Site(_) => Refusal {
-            number: 0,
-            place: 0,
-        },
-    }
 }

@@ -1,5 +1,6 @@
 -- What words of bits hold.
 --
+--     tableWords           how many words a table of 512 rows has, eight to a row
 --     SetOf ws f           eight words hold the v below 512 that pass f
 --     Table rows f         rows of eight words hold the relation f between numbers below 512
 --     Counted rows sizes   the sizes are those of the rows
@@ -10,6 +11,10 @@ use mathlib.Core.List.{List}
 use lib.ListN.{length, getD}
 use Rattle.sets.specs.Below.{bit, sum}
 use Rattle.sets.specs.Bits.{bitAt, cell}
+
+-- a table of 512 rows, each of eight words
+abbrev pub tableWords : ℕ
+tableWords = 4096
 
 pub record SetOf (ws : List ℕ) (f : ℕ → Bool) : Type 0 where
   pub size : length ws ≡ 8

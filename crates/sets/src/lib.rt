@@ -8,6 +8,9 @@ ghost use lib.Dec.{eqb};
 ghost use Rattle.sets.specs.Bits.{bitAt, withBit, withoutBit};
 ghost use Rattle.sets.specs.Entries.{EntriesCounted};
 
+// How many words a table of 512 rows has: eight to a row, one bit a handset.
+pub const TABLE_WORDS: usize = 4096;
+
 // Adds i to the set.
 pub fn mark(words: &mut [u64], i: usize)
     ensures { λ _. ⌜ now (words .exit) ≡ withBit (now (words .entry)) i ⌝ }

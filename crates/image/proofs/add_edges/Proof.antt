@@ -14,7 +14,7 @@ use Rattle.image.specs.Image.{endA, endB}
 use Rattle.image.specs.Questions.{badEnd}
 use Rattle.sets.specs.Rows.{Table, Counted}
 use Rattle.image.specs.Rows.{Room}
-use Rattle.image.specs.Scan.{linked, faulty}
+use Rattle.image.specs.ForProofs.{linked, faulty}
 use Rattle.image.proofs.Acceptance.{good-ends}
 use Rattle.image.proofs.Scanning.{scan-none, scan-more}
 use Rattle.image.proofs.Rows.{zero-is, table-has}
@@ -23,11 +23,11 @@ use Rattle.image.proofs.add_edges.Statement.{statement}
 use Rattle.image.proofs.add_edges.Tie as tie
 
 abbrev Inv-loop : tie.InvT-loop
-Inv-loop part m n rows₀ sizes₀ k₀ rows sizes k =
-    (k ≤ m) × T (not (any k (faulty part n))) × Room rows sizes × Table rows (linked n part k) × Counted rows sizes
+Inv-loop records m n rows₀ sizes₀ k₀ rows sizes k =
+    (k ≤ m) × T (not (any k (faulty records n))) × Room rows sizes × Table rows (linked n records k) × Counted rows sizes
 
 abbrev μ-loop : tie.MeasureT-loop
-μ-loop part m n rows₀ sizes₀ k₀ rows sizes k = m - k
+μ-loop records m n rows₀ sizes₀ k₀ rows sizes k = m - k
 
 -- ---- the places that the answers speak of
 abbrev start : tie.At-loop Inv-loop μ-loop → tie.Start Inv-loop μ-loop
@@ -55,7 +55,7 @@ both c = c .before .before .before .before
 
 -- ---- their parts
 abbrev edges : tie.After-ends-at Inv-loop μ-loop → List ℕ
-edges c = start (loop c) .args .part .now
+edges c = start (loop c) .args .records .now
 
 abbrev count : tie.After-ends-at Inv-loop μ-loop → ℕ
 count c = start (loop c) .args .n
@@ -103,7 +103,7 @@ empty c = zero-is _ (bitAt-lt (loop (read (good c)) .loop .rows) _) (sym (c .bef
 
 -- ---- the answers
 loop-holds : tie.Need-loop-holds Inv-loop μ-loop
-loop-holds c = let s = c .before .before .before in (omega arith, scan-none _, s .pre .2, linked-none (s .args .n) (s .args .part .now) (s .pre .3), s .pre .4)
+loop-holds c = let s = c .before .before .before in (omega arith, scan-none _, s .pre .2, linked-none (s .args .n) (s .args .records .now) (s .pre .3), s .pre .4)
 
 ends-at-requires : tie.Need-ends-at-requires Inv-loop μ-loop
 ends-at-requires c κs = omega (arith, start (c .before) .pre .1, c .loop-test .taken)
@@ -191,7 +191,7 @@ returns-3 : tie.Need-returns-3 Inv-loop μ-loop
 returns-3 c =
     let l = c .before .loop in
     let a = start (c .before) .args in
-    added-yes (a .part .now) (a .n) (a .m) (l .k) (l .inv .1) (omega arith) (l .inv .3) (l .inv .4)
+    added-yes (a .records .now) (a .n) (a .m) (l .k) (l .inv .1) (omega arith) (l .inv .3) (l .inv .4)
 
 pub add-edges-spec : {M : Type 1} → statement M
 add-edges-spec =

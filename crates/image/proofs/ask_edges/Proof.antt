@@ -37,14 +37,14 @@ abbrev asked9 : tie.After-first-bad2 → tie.Else2
 asked9 c = c .before .before
 
 -- what the two scans found
-found8 : (c : tie.After-first-bad) → (let s = start (selves (fault (asked8 c))) .args in c .first-bad .result ≡ find (s .h .m) (badEnd (now (s .part)) (s .h .n)))
-found8 c = let s = start (selves (fault (asked8 c))) .args in end-found (now (s .part)) (s .h .n) (s .h .m) (c .first-bad .result) (c .first-bad .ensures)
+found8 : (c : tie.After-first-bad) → (let s = start (selves (fault (asked8 c))) .args in c .first-bad .result ≡ find (s .h .m) (badEnd (now (s .records)) (s .h .n)))
+found8 c = let s = start (selves (fault (asked8 c))) .args in end-found (now (s .records)) (s .h .n) (s .h .m) (c .first-bad .result) (c .first-bad .ensures)
 
-found9 : (c : tie.After-first-bad2) → (let s = start (selves (fault (asked8 (asked9 c .before)))) .args in c .first-bad2 .result ≡ find (s .h .m) (isLoop (now (s .part))))
-found9 c = let s = start (selves (fault (asked8 (asked9 c .before)))) .args in loop-found (now (s .part)) (s .h .n) (s .h .m) (c .first-bad2 .result) (c .first-bad2 .ensures)
+found9 : (c : tie.After-first-bad2) → (let s = start (selves (fault (asked8 (asked9 c .before)))) .args in c .first-bad2 .result ≡ find (s .h .m) (isLoop (now (s .records))))
+found9 c = let s = start (selves (fault (asked8 (asked9 c .before)))) .args in loop-found (now (s .records)) (s .h .n) (s .h .m) (c .first-bad2 .result) (c .first-bad2 .ensures)
 
 -- question 8 got a yes
-yes8 : (c : tie.Else2) (next : Opened) → (let s = start (selves (fault (asked8 (c .before)))) .args in askEach (s .h .m) (badEnd (now (s .part)) (s .h .n)) 8 next ≡ next)
+yes8 : (c : tie.Else2) (next : Opened) → (let s = start (selves (fault (asked8 (c .before)))) .args in askEach (s .h .m) (badEnd (now (s .records)) (s .h .n)) 8 next ≡ next)
 yes8 c next = each-yes _ _ _ (found8 (c .before)) 8 next (c .if2 .left)
 
 cast-m : tie.Need-cast-m
@@ -78,7 +78,7 @@ returns c =
     let p = c .before .before .before .before .before in
     let s = start (selves p) .args in
     let a = p .add-edges .ensures in
-    (sym (edges-yes (now (s .part)) (s .h) (p .add-edges .result) (a .first) (c .if1 .taken)), held-yes a (c .if1 .taken))
+    (sym (edges-yes (now (s .records)) (s .h) (p .add-edges .result) (a .first) (c .if1 .taken)), held-yes a (c .if1 .taken))
 
 cast-first-bad : tie.Need-cast-first-bad
 cast-first-bad c = omega arith
@@ -139,7 +139,7 @@ returns-4 c =
     let p = fault f in
     let s = start (selves p) .args in (
       c .refused3 .ensures
-          ∙ sym (edges-repeat (now (s .part)) (s .h) (p .add-edges .result) (p .add-edges .ensures .first) (f .if1 .left)
+          ∙ sym (edges-repeat (now (s .records)) (s .h) (p .add-edges .result) (p .add-edges .ensures .first) (f .if1 .left)
           (each-passed _ _ _ (found8 b) (asked9 l .if2 .left)) (each-passed _ _ _ (found9 l) (e .if3 .left))),
       held-no _ (c .refused3 .ensures),
     )

@@ -3,8 +3,9 @@ use native.Mathlib.Omega.{arith}
 use mathlib.Core.Path.{_≡_, refl, sym, _∙_}
 use borrow.Author.Needs.{needs}
 use Rattle.sets.specs.Below.{find}
+use Rattle.limits.specs.Limits.{outOfLimits}
 use Rattle.image.specs.Image.{handsetRecord}
-use Rattle.image.specs.Questions.{outOfLimits, askRecords}
+use Rattle.image.specs.Questions.{askRecords}
 use Rattle.image.proofs.Scanning.{handset-found, each-no, each-yes}
 use Rattle.image.proofs.Faults.{held-no}
 use Rattle.image.proofs.ask_records.Statement.{statement}

@@ -1,4 +1,4 @@
--- `image::ask_tables` meets its contract. Both tables end within the image, and a part from a to a + k is what is taken of the bytes from a on.
+-- `image::ask_tables` meets its contract. Both tables end within the image, and a slice from a to a + k is what is taken of the bytes from a on.
 use Prim.Native.Nat.{ℕ, _*_, _+_, _-_, _≤_}
 use native.Mathlib.Nat.{add-sub-cancel-left}
 use native.Mathlib.Omega.{arith}
@@ -10,21 +10,21 @@ use lib.Seq.{length-take-le}
 use denote.Ref.{now}
 use Rattle.image.specs.Questions.{askRecords}
 use Rattle.image.specs.Rows.{Held}
-use Rattle.image.specs.Scan.{linked}
+use Rattle.image.specs.ForProofs.{linked}
 use Rattle.fields.specs.Fields.{handsetBytes, edgeBytes}
 use Rattle.image.proofs.ask_tables.Statement.{statement}
 use Rattle.image.proofs.ask_tables.Tie as tie
 
--- the places that the answers speak of: the header's numbers are read, both parts are lent
+-- the places that the answers speak of: the header's numbers are read, both slices are lent
 abbrev start : tie.After-struct-known4 → tie.Start
 start c = c .before .before .before .before .before .before .before
 
 abbrev ends : tie.After-ask-records-arg4 → tie.After-struct-known4
 ends c = c .before .before .before .before
 
--- a part is as long as it is to be
-part-length : (s : List ℕ) (a k : ℕ) → a + k ≤ length s → k ≤ length (take (a + k - a) (drop a s))
-part-length s a k h =
+-- a slice is as long as it is to be
+slice-length : (s : List ℕ) (a k : ℕ) → a + k ≤ length s → k ≤ length (take (a + k - a) (drop a s))
+slice-length s a k h =
     let e : a + k - a ≡ k = add-sub-cancel-left a k in
     omega (arith, e, length-take-le (a + k - a) (drop a s) (omega (arith, e, length-drop a s)))
 
@@ -75,7 +75,7 @@ ask-records-requires c κs =
     let s = start (ends c) in
     let i = s .args .image .now in
     let h = s .args .h in
-    (s .pre .0, part-length i (h .handsets) (handsetBytes * h .n) (s .pre .1), part-length i (h .edges) (edgeBytes * h .m) (s .pre .2), s .pre .3)
+    (s .pre .0, slice-length i (h .handsets) (handsetBytes * h .n) (s .pre .1), slice-length i (h .edges) (edgeBytes * h .m) (s .pre .2), s .pre .3)
 
 same-length : tie.Need-same-length
 same-length c = search needs

@@ -1,8 +1,8 @@
--- `image::ends_at` meets its contract: the two numbers of a record are those at its place in the part.
+-- `image::ends_at` meets its contract: the two numbers of a record are those at its place in the table.
 use mathlib.Core.Path.{_∙_}
 use native.Mathlib.Omega.{arith}
 use borrow.Author.Needs.{needs}
-use Rattle.image.proofs.Records.{ends-part}
+use Rattle.image.proofs.Records.{ends-slice}
 use Rattle.image.proofs.ends_at.Statement.{statement}
 use Rattle.image.proofs.ends_at.Tie as tie
 
@@ -25,7 +25,7 @@ read-ends-requires : tie.Need-read-ends-requires
 read-ends-requires c κs = search needs
 
 returns : tie.Need-returns
-returns c = let s = c .before .before .before in c .read-ends .ensures ∙ ends-part (s .args .part .now) (s .args .k) (omega (arith, s .pre))
+returns c = let s = c .before .before .before in c .read-ends .ensures ∙ ends-slice (s .args .records .now) (s .args .k) (omega (arith, s .pre))
 
 pub ends-at-spec : {M : Type 1} → statement M
 ends-at-spec =

@@ -7,16 +7,16 @@ use mathlib.Core.Path.{sym, _∙_}
 use lib.Dec.{T}
 use borrow.Author.Needs.{needs}
 use Rattle.sets.specs.Below.{any}
-use Rattle.image.specs.Scan.{badRecord}
+use Rattle.image.specs.ForProofs.{badRecord}
 use Rattle.image.proofs.Scanning.{scan-none, scan-more, scan-found, scan-ended}
 use Rattle.image.proofs.first_bad.Statement.{statement}
 use Rattle.image.proofs.first_bad.Tie as tie
 
 abbrev Inv-loop : tie.InvT-loop
-Inv-loop question part count n k₀ k = (k ≤ count) × T (not (any k (badRecord question part n)))
+Inv-loop question records count n k₀ k = (k ≤ count) × T (not (any k (badRecord question records n)))
 
 abbrev μ-loop : tie.MeasureT-loop
-μ-loop question part count n k₀ k = count - k
+μ-loop question records count n k₀ k = count - k
 
 -- the record was asked about
 abbrev loop : tie.After-is-bad-record Inv-loop μ-loop → tie.At-loop Inv-loop μ-loop

@@ -1,4 +1,4 @@
--- `image::is_bad_record` meets its contract: the record is the part from its place on, and the question's test of it is the definition's.
+-- `image::is_bad_record` meets its contract: the record is the slice from its place on, and the question's test of it is the definition's.
 use Prim.Native.Nat.{_+_, _*_, _≤_}
 use native.Mathlib.Omega.{arith}
 use mathlib.Core.Path.{sym, ap, _∙_}
@@ -8,8 +8,9 @@ use lib.ListN.{length}
 use borrow.Author.Needs.{needs}
 use Rattle.fields.specs.Fields.{handsetBytes}
 use Rattle.fields.specs.declared.Ends.{Ends}
-use Rattle.image.specs.Questions.{outOfLimits, badEnd, isLoop}
-use Rattle.image.proofs.Records.{handset-part}
+use Rattle.limits.specs.Limits.{outOfLimits}
+use Rattle.image.specs.Questions.{badEnd, isLoop}
+use Rattle.image.proofs.Records.{handset-slice}
 use Rattle.image.proofs.Scanning.{bad-handset, bad-end, bad-loop}
 use Rattle.image.proofs.is_bad_record.Statement.{statement}
 use Rattle.image.proofs.is_bad_record.Tie as tie
@@ -21,8 +22,8 @@ start c = c .before
 abbrev asked : tie.After-ends-at → tie.After-shared-slice-known
 asked c = c .before .before
 
--- the record stands in the part
-handset-stands : (c : tie.Then1) → (let a = start (c .before) .args in handsetBytes * a .k + handsetBytes ≤ length (a .part .now))
+-- the record is there
+handset-stands : (c : tie.Then1) → (let a = start (c .before) .args in handsetBytes * a .k + handsetBytes ≤ length (a .records .now))
 handset-stands c = omega (arith, start (c .before) .pre .handsets (c .if1 .taken))
 
 mul-at : tie.Need-mul-at
@@ -47,7 +48,7 @@ returns : tie.Need-returns
 returns c =
     let t = c .before .before in
     let a = start (t .before) .args in
-    c .out-of-limits .ensures ∙ ap outOfLimits (handset-part (a .part .now) (a .k)) ∙ sym (bad-handset (a .question) (a .part .now) (a .n) (a .k) (t .if1 .taken))
+    c .out-of-limits .ensures ∙ ap outOfLimits (handset-slice (a .records .now) (a .k)) ∙ sym (bad-handset (a .question) (a .records .now) (a .n) (a .k) (t .if1 .taken))
 
 ends-at-requires : tie.Need-ends-at-requires
 ends-at-requires c κs = start (c .before) .pre .edges (c .if1 .left)
@@ -58,7 +59,7 @@ returns-2 c =
     let t = c .before .before in
     let r = t .before in
     let a = start (asked r) .args in
-    ap (λ (e : Ends). not (ltb (e .a) (a .n) && ltb (e .b) (a .n))) (r .ends-at .ensures) ∙ sym (bad-end (a .question) (a .part .now) (a .n) (a .k) (t .if2 .taken))
+    ap (λ (e : Ends). not (ltb (e .a) (a .n) && ltb (e .b) (a .n))) (r .ends-at .ensures) ∙ sym (bad-end (a .question) (a .records .now) (a .n) (a .k) (t .if2 .taken))
 
 returns-3 : tie.Need-returns-3
 unfolding isLoop
@@ -66,7 +67,7 @@ returns-3 c =
     let t = c .before in
     let r = t .before in
     let a = start (asked r) .args in
-    ap (λ (e : Ends). eqb (e .a) (e .b)) (r .ends-at .ensures) ∙ sym (bad-loop (a .question) (a .part .now) (a .n) (a .k) (r .before .if1 .left) (t .if2 .left))
+    ap (λ (e : Ends). eqb (e .a) (e .b)) (r .ends-at .ensures) ∙ sym (bad-loop (a .question) (a .records .now) (a .n) (a .k) (r .before .if1 .left) (t .if2 .left))
 
 pub is-bad-record-spec : {M : Type 1} → statement M
 is-bad-record-spec =

@@ -1,4 +1,4 @@
--- `image::out_of_limits` meets its contract. At i it is told whether one of the first i coordinates is out of its limits. The measure is what is left of
+-- `limits::out_of_limits` meets its contract. At i it is told whether one of the first i coordinates is out of its limits. The measure is what is left of
 -- the coordinates.
 use Prim.Native.Nat.{ℕ, _-_, _≤_}
 use native.Mathlib.Omega.{arith}
@@ -9,11 +9,10 @@ use mathlib.Core.List.{List}
 use borrow.Author.Needs.{needs}
 use Rattle.sets.specs.Below.{any}
 use Rattle.sets.proofs.Tests.{or-comm}
-use Rattle.fields.specs.Fields.{coordinateCount, inLimits}
-use Rattle.image.specs.Image.{coordinateOf}
-use Rattle.image.specs.Questions.{outOfLimits}
-use Rattle.image.proofs.out_of_limits.Statement.{statement}
-use Rattle.image.proofs.out_of_limits.Tie as tie
+use Rattle.fields.specs.Fields.{coordinateCount, inLimits, coordinateOf}
+use Rattle.limits.specs.Limits.{outOfLimits}
+use Rattle.limits.proofs.out_of_limits.Statement.{statement}
+use Rattle.limits.proofs.out_of_limits.Tie as tie
 
 abbrev out : List ℕ → ℕ → Bool
 out r i = not (inLimits (coordinateOf r i))
