@@ -22,7 +22,7 @@ use Rattle.community.specs.Tables.{memberTable}
 use Rattle.community.specs.Renumbered.{SamePair}
 use Rattle.community.specs.Site.{network}
 use Rattle.community.proofs.Reachability.{reachable-sound, to-below}
-use Rattle.community.specs.Held.{Sound}
+use Rattle.community.specs.ForProofs.{Sound}
 use Rattle.community.proofs.Similarity.{step-core, step-similar, core-self}
 use Rattle.community.proofs.Communities.{leader-one}
 use Rattle.community.proofs.Site.{accepted-sound}
@@ -118,26 +118,26 @@ module _ {g : Network} (ok : Sound g) where
 
 -- edge k has v as an end
 abbrev touches : List ℕ → ℕ → ℕ → Bool
-touches part v k = eqb (endA part k) v || eqb (endB part k) v
+touches records v k = eqb (endA records k) v || eqb (endB records k) v
 
 -- a neighbour other than v has its edge with v
 others-edges : (s : List ℕ) (v : ℕ) → count (handsetCount s) (others (network s) v) ≤ count (edgeCount s) (touches (edgeRecords s) v)
 unfolding others adjacent
 others-edges s v =
-    let part : List ℕ = edgeRecords s in
-    count-pairs (handsetCount s) (others (network s) v) (edgeCount s) (touches part v)
-    (λ w k. SamePair (endA part k) (endB part k) w v × (w ≡ v → ⊥)) (record {
+    let records : List ℕ = edgeRecords s in
+    count-pairs (handsetCount s) (others (network s) v) (edgeCount s) (touches records v)
+    (λ w k. SamePair (endA records k) (endB records k) w v × (w ≡ v → ⊥)) (record {
       pair = λ w h t.
           let apart : w ≡ v → ⊥ = λ e. T-not (eqb w v) (and-right (neighbour s w v) (not (eqb w v)) t) (eqb-of w v e) in
           let edge : T (adjacent s w v) =
           ⊎-elim (λ e. absurd (apart e)) (λ x. x) (neighbour-cases s w v (and-left (neighbour s w v) (not (eqb w v)) t)) in
-          let m = any-take (edgeCount s) (joins part w v) edge in
-          let j : SamePair (endA part (m .0)) (endB part (m .0)) w v = joins-take part w v (m .0) (m .2) in (
+          let m = any-take (edgeCount s) (joins records w v) edge in
+          let j : SamePair (endA records (m .0)) (endB records (m .0)) w v = joins-take records w v (m .0) (m .2) in (
             m .0,
             m .1,
             ⊎-elim
-                (λ e. or-right (eqb (endA part (m .0)) v) (eqb (endB part (m .0)) v) (eqb-of (endB part (m .0)) v (e .1)))
-                (λ e. or-left (eqb (endA part (m .0)) v) (eqb (endB part (m .0)) v) (eqb-of (endA part (m .0)) v (e .0))) j,
+                (λ e. or-right (eqb (endA records (m .0)) v) (eqb (endB records (m .0)) v) (eqb-of (endB records (m .0)) v (e .1)))
+                (λ e. or-left (eqb (endA records (m .0)) v) (eqb (endB records (m .0)) v) (eqb-of (endA records (m .0)) v (e .0))) j,
             (j, apart),
           );
       apart = λ w w′ k h l x y p q.
@@ -147,14 +147,14 @@ others-edges s v =
           (p .0);
     })
 
-ends-sum : (part : List ℕ) (n m : ℕ) → sum n (λ v. count m (touches part v)) ≤ m * 2
-ends-sum part n m =
+ends-sum : (records : List ℕ) (n m : ℕ) → sum n (λ v. count m (touches records v)) ≤ m * 2
+ends-sum records n m =
     omega (
       arith,
-      count-swap n m (touches part),
+      count-swap n m (touches records),
       sum-const m 2,
-      sum-le m (λ k. count n (λ v. touches part v k)) (λ k. 2)
-          (λ k h. omega (arith, count-or n (λ v. eqb (endA part k) v) (λ v. eqb (endB part k) v), count-eqb n (endA part k), count-eqb n (endB part k))),
+      sum-le m (λ k. count n (λ v. touches records v k)) (λ k. 2)
+          (λ k h. omega (arith, count-or n (λ v. eqb (endA records k) v) (λ v. eqb (endB records k) v), count-eqb n (endA records k), count-eqb n (endB records k))),
     )
 
 pub memberships-bound : (s : List ℕ) → Accepted s → length (memberTable (communities (network s))) ≤ handsetCount s + 2 * edgeCount s

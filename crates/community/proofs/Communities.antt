@@ -13,7 +13,7 @@ use Rattle.sets.proofs.Counting.{count-le}
 use Rattle.sets.proofs.Selecting.{length-select, mem-select, select-mem, mem-at, map-at, select-passes, select-below, select-ascends}
 use Rattle.community.specs.Network.{Network, isCore, Reachable, IsCommunity, reachable, isLeader, leaders, members, communities}
 use Rattle.community.proofs.Reachability.{Reachable-trans, from-below, to-below, reachable-sound, reachable-complete}
-use Rattle.community.specs.Held.{Sound}
+use Rattle.community.specs.ForProofs.{Sound}
 use Rattle.community.proofs.Similarity.{reaches-core, core-self, Reachable-back}
 
 -- P has just the members of the k-th listed community

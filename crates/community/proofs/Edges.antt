@@ -10,11 +10,11 @@ use Rattle.image.specs.Image.{joins, endA, endB}
 use Rattle.image.proofs.Edges.{joins-cases, joins-one, joins-other}
 use Rattle.community.specs.Renumbered.{SamePair}
 
-pub joins-make : (part : List ℕ) (u v k : ℕ) → SamePair (endA part k) (endB part k) u v → T (joins part u v k)
-joins-make part u v k (inl x) = joins-one part u v k (x .0) (x .1)
-joins-make part u v k (inr x) = joins-other part u v k (x .0) (x .1)
+pub joins-make : (records : List ℕ) (u v k : ℕ) → SamePair (endA records k) (endB records k) u v → T (joins records u v k)
+joins-make records u v k (inl x) = joins-one records u v k (x .0) (x .1)
+joins-make records u v k (inr x) = joins-other records u v k (x .0) (x .1)
 
-pub joins-take : (part : List ℕ) (u v k : ℕ) → T (joins part u v k) → SamePair (endA part k) (endB part k) u v
+pub joins-take : (records : List ℕ) (u v k : ℕ) → T (joins records u v k) → SamePair (endA records k) (endB records k) u v
 joins-take = joins-cases
 
 pub pair-sym : (a b c d : ℕ) → SamePair a b c d → SamePair c d a b

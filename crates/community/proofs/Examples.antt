@@ -2,14 +2,14 @@
 use mathlib.Core.Path.{refl}
 use Rattle.image.specs.Image.{headerOf, mu}
 use Rattle.image.specs.Questions.{openOf}
-use Rattle.near.specs.Near.{proximity, neighbour, olderNeighbour}
+use Rattle.near.specs.Near.{proximity, neighbour}
 use Rattle.community.specs.Network.{neighbourhoodSize, commonNeighbours, similar, cores, communities, role}
 use Rattle.community.specs.Tables.{startTable}
 use Rattle.community.specs.Reach.{reach}
 use Rattle.community.specs.Examples.{Examples}
 
 pub examples : Examples
-unfolding openOf headerOf proximity neighbour olderNeighbour mu neighbourhoodSize commonNeighbours similar cores communities role startTable reach
+unfolding openOf headerOf proximity neighbour mu neighbourhoodSize commonNeighbours similar cores communities role startTable reach
 examples = record {
   accepted-S = refl;
   cores-mu4 = refl;
@@ -32,8 +32,6 @@ examples = record {
   apart-4 = refl;
   near-5-negative = refl;
   apart-4-negative = refl;
-  older-5 = refl;
-  older-4 = refl;
   accepted-nobody = refl;
   communities-nobody = refl;
   starts-nobody = refl;
@@ -45,7 +43,6 @@ examples = record {
   reach-4 = refl;
   reach-one-end = refl;
   reach-lone = refl;
-  planar-refused = refl;
   accepted-floors = refl;
   near-9-floors = refl;
   apart-8-floors = refl;

@@ -7,7 +7,6 @@ pub mod Roles
 pub mod Tables
 pub mod Multiplicities
 pub mod Site
-pub mod Older
 pub mod Reach
 pub mod Bound
 pub mod Examples

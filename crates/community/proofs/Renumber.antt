@@ -13,7 +13,7 @@ use Rattle.sets.proofs.Counting.{count-cong, count-across, count-pairs, inverse
 use Rattle.community.specs.Network.{Network, neighbourhoodSize, commonNeighbours, meetsEpsilon, similar, isCore, step, Reachable, one, more, reachable, IsCommunity, isLeader, leaders, communities}
 use Rattle.community.specs.Renumbered.{NumberedBack}
 use Rattle.community.proofs.Reachability.{Reachable-trans, from-below, to-below, reachable-sound, reachable-complete}
-use Rattle.community.specs.Held.{Sound}
+use Rattle.community.specs.ForProofs.{Sound}
 use Rattle.community.proofs.Similarity.{core-self, Reachable-back}
 use Rattle.community.proofs.Communities.{leader-of, leader-one, leader-core, length-communities}
 

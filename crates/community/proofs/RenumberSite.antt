@@ -22,8 +22,9 @@ use Rattle.sets.proofs.Counting.{to-apart, inverse, count-le, sum-across}
 use Rattle.bytes.specs.Bytes.{number}
 use Rattle.fields.specs.Fields.{handsetBytes, coreSize}
 use Rattle.bytes.proofs.Bytes.{number-cong}
-use Rattle.image.specs.Image.{headerOf, handsetCount, edgeCount, limitSquared, mu, handsetRecords, edgeRecords, handsetRecord, endA, endB, joins, adjacent}
-use Rattle.image.specs.Questions.{outOfLimits, badEnd, isLoop, repeatsEarlier, HeaderAccepted, Accepted}
+use Rattle.limits.specs.Limits.{outOfLimits}
+use Rattle.image.specs.Image.{headerOf, handsetCount, edgeCount, limitOf, mu, handsetRecords, edgeRecords, handsetRecord, endA, endB, joins, adjacent}
+use Rattle.image.specs.Questions.{badEnd, isLoop, repeatsEarlier, HeaderAccepted, Accepted}
 use Rattle.image.specs.declared.Header.{Header}
 use Rattle.near.specs.Near.{proximity, isNear, neighbour}
 use Rattle.image.proofs.Acceptance.{handsets-length, ends-below}
@@ -31,7 +32,7 @@ use Rattle.community.specs.Network.{Network, IsCommunity, isLeader, reac
 use Rattle.community.specs.Tables.{memberTable}
 use Rattle.community.specs.Site.{network}
 use Rattle.community.specs.Renumbered.{Renumbered, SamePair, NumberedBack, SameRole}
-use Rattle.community.specs.Held.{Sound}
+use Rattle.community.specs.ForProofs.{Sound}
 use Rattle.community.proofs.Site.{network-sound, accepted-sound}
 use Rattle.community.proofs.Edges.{joins-make, joins-take, pair-sym, pair-trans, pair-map, pair-back}
 use Rattle.community.proofs.Bound.{memberships}
@@ -67,7 +68,7 @@ module _ (s t : List ℕ) (r : Renumbered s t) (ok : Accepted s) where
   same-edges : edgeCount t ≡ edgeCount s
   same-edges = ap (λ (h : Header). h .m) same-header
 
-  same-limit : limitSquared t ≡ limitSquared s
+  same-limit : limitOf t ≡ limitOf s
   same-limit = ap (λ (h : Header). h .limit) same-header
 
   header-t : HeaderAccepted t
@@ -81,13 +82,13 @@ module _ (s t : List ℕ) (r : Renumbered s t) (ok : Accepted s) where
   }
 
   -- ---- handset records
-  record-long : (part : List ℕ) (v : ℕ) → length part ≡ handsetBytes * handsetCount s → v < handsetCount s → length (handsetRecord part v) ≡ handsetBytes
+  record-long : (records : List ℕ) (v : ℕ) → length records ≡ handsetBytes * handsetCount s → v < handsetCount s → length (handsetRecord records v) ≡ handsetBytes
   unfolding handsetRecord
-  record-long part v e h = simp (length-take, length-drop) (omega arith)
+  record-long records v e h = simp (length-take, length-drop) (omega arith)
 
-  record-at : (part : List ℕ) (v i : ℕ) → i < handsetBytes → getD (handsetRecord part v) i 0 ≡ getD part (handsetBytes * v + i) 0
+  record-at : (records : List ℕ) (v i : ℕ) → i < handsetBytes → getD (handsetRecord records v) i 0 ≡ getD records (handsetBytes * v + i) 0
   unfolding handsetRecord
-  record-at part v i h = getD-take handsetBytes (drop (handsetBytes * v) part) i 0 h ∙ getD-drop (handsetBytes * v) part i 0
+  record-at records v i h = getD-take handsetBytes (drop (handsetBytes * v) records) i 0 h ∙ getD-drop (handsetBytes * v) records i 0
 
   record-moved : (v : ℕ) → v < handsetCount s → handsetRecord (handsetRecords t) (r .map .to v) ≡ handsetRecord (handsetRecords s) v
   record-moved v h =

@@ -19,7 +19,7 @@ use Rattle.community.specs.declared.Role.{Role}
 use Rattle.community.specs.declared.Role.the-variants.{Core, Border, Outlier}
 use Rattle.community.specs.Renumbered.{SameRole}
 use Rattle.community.specs.Renumbered.SameRole.{both-core, both-border, both-outlier}
-use Rattle.community.specs.Held.{Sound}
+use Rattle.community.specs.ForProofs.{Sound}
 use Rattle.community.proofs.Communities.{core-once}
 use Rattle.community.proofs.Renumber.{withNeighbour, Moved, leadersReaching, core-moved, leadersReaching-moved}
 

@@ -9,7 +9,7 @@ use Rattle.sets.proofs.Tests.{and-make, and-left, and-right, and-comm, any-take
 use Rattle.sets.proofs.Counting.{count-cong, count-some}
 use Rattle.sets.specs.Below.{count}
 use Rattle.community.specs.Network.{Network, neighbourhoodSize, commonNeighbours, meetsEpsilon, similar, isCore, step, Reachable, one, more}
-use Rattle.community.specs.Held.{Sound}
+use Rattle.community.specs.ForProofs.{Sound}
 use Rattle.community.proofs.Reachability.{Reachable-trans, to-below}
 
 pub commonNeighbours-sym : (g : Network) (u v : ℕ) → commonNeighbours g u v ≡ commonNeighbours g v u

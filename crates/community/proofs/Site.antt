@@ -12,7 +12,7 @@ use Rattle.near.specs.declared.Proximity.{Proximity}
 use Rattle.image.proofs.Acceptance.{accepted-fits}
 use Rattle.near.proofs.Near.{proximity-comm, near-itself}
 use Rattle.community.specs.Site.{network}
-use Rattle.community.specs.Held.{Sound}
+use Rattle.community.specs.ForProofs.{Sound}
 
 pub neighbour-comm : (s : List ℕ) (u v : ℕ) → neighbour s u v ≡ neighbour s v u
 unfolding neighbour

@@ -48,7 +48,7 @@ next-of : (gs : List (List ℕ)) (x : List ℕ) (k : ℕ) → k < length gs → 
 next-of gs x k h =
     start-of gs x (k + 1) (omega arith) ∙ ap (λ (j : ℕ). length (memberTable (take j gs))) (add-one k) ∙ memberTable-suc gs k h
 
--- of two tables that begin with the plan's: the part of the member table from start k to start k + 1 is the k-th community
+-- of two tables that begin with the plan's: the slice of the member table from start k to start k + 1 is the k-th community
 module _ (gs : List (List ℕ)) (x y : List ℕ) (k : ℕ) (h : k < length gs) where
   pub table-community : slice (getD (startTable gs ++ x) k 0) (getD (startTable gs ++ x) (k + 1) 0) (memberTable gs ++ y) ≡ getD gs k []
   table-community =

@@ -6,7 +6,6 @@
 --     position x y z   a handset's record
 --     edgesS           the edges of site S
 --     siteS p q m      site S with epsilon p/q and mu m
---     planarS          site S with mu 4 as it was written until paper 02, order 7: no z, and zero in bytes 30 and 31
 --     pair G           two handsets, tied, at (0, 0, 0) and (1, 2, 0), with the square G of the near distance
 --     pairNeg G        two handsets, tied, at (-1, -1, 0) and (0, 1, 0), with G
 --     floors G         two handsets, tied, one above the other, at (4, 5, -1) and (4, 5, 2), with G
@@ -18,12 +17,11 @@ use Prim.Native.Nat.{ℕ, _-_, _/_, _%_}
 use mathlib.Core.Path.{_≡_}
 use mathlib.Core.Bool.{true, false}
 use mathlib.Core.List.{List, [], _∷_, _++_}
-use lib.ListN.{take, replicate}
+use lib.ListN.{replicate}
 use Rattle.image.specs.Image.{headerOf}
 use Rattle.image.specs.Questions.{openOf}
-use Rattle.image.specs.Answers.{refusal}
-use Rattle.image.specs.declared.Opened.the-variants.{Site, Refused}
-use Rattle.near.specs.Near.{proximity, olderNeighbour}
+use Rattle.image.specs.declared.Opened.the-variants.{Site}
+use Rattle.near.specs.Near.{proximity}
 use Rattle.near.specs.declared.Proximity.the-variants.{Near, NotNear}
 use Rattle.community.specs.Network.{neighbourhoodSize, commonNeighbours, similar, cores, communities, role}
 use Rattle.community.specs.Tables.{startTable}
@@ -51,10 +49,6 @@ edgesS = 0 ∷ 0 ∷ 1 ∷ 0 ∷ 0 ∷ 0 ∷ 2 ∷ 0 ∷ 1 ∷ 0 ∷ 2 ∷ 0 ∷
 -- seven records of twelve bytes that are 0
 abbrev pub siteS : ℕ → ℕ → ℕ → List ℕ
 siteS p q m = header 7 8 32 116 148 0 p q m ++ (replicate 84 0 ++ edgesS)
-
--- seven records of eight
-abbrev pub planarS : List ℕ
-planarS = take 30 (header 7 8 32 88 120 0 1 2 4) ++ (0 ∷ 0 ∷ replicate 56 0 ++ edgesS)
 
 abbrev pub pair : ℕ → List ℕ
 pair G = header 2 1 32 56 60 G 1 2 3 ++ (position (small 0) (small 0) (small 0) ++ (position (small 1) (small 2) (small 0) ++ (0 ∷ 0 ∷ 1 ∷ 0 ∷ [])))
@@ -102,8 +96,6 @@ pub record Examples : Type 0 where
   pub apart-4 : proximity (pair 4) 0 1 ≡ NotNear
   pub near-5-negative : proximity (pairNeg 5) 0 1 ≡ Near 5
   pub apart-4-negative : proximity (pairNeg 4) 0 1 ≡ NotNear
-  pub older-5 : olderNeighbour (pair 5) 0 1 ≡ true
-  pub older-4 : olderNeighbour (pair 4) 0 1 ≡ false
   -- n = 0: no groups, start table 0
   pub accepted-nobody : openOf nobody ≡ Site (headerOf nobody)
   pub communities-nobody : communities (network nobody) ≡ []
@@ -118,8 +110,7 @@ pub record Examples : Type 0 where
   pub reach-4 : reach (pair 4) (0 ∷ 1 ∷ []) ≡ NotNear
   pub reach-one-end : reach (pair 5) (1 ∷ []) ≡ NotNear
   pub reach-lone : reach (lone 1) (0 ∷ []) ≡ NotNear
-  -- paper 02, order 7: an image of before is refused with 4; two that differ in z alone are near at the limit, 3², and not one below
-  pub planar-refused : openOf planarS ≡ Refused (refusal 4)
+  -- paper 02, order 7: two that differ in z alone are near at the limit, 3², and not one below
   pub accepted-floors : openOf (floors 9) ≡ Site (headerOf (floors 9))
   pub near-9-floors : proximity (floors 9) 0 1 ≡ Near 9
   pub apart-8-floors : proximity (floors 8) 0 1 ≡ NotNear

@@ -1,9 +1,8 @@
 pub mod Network
-pub mod Held
+pub mod ForProofs
 pub mod Tables
 pub mod Scores
 pub mod Site
-pub mod Older
 pub mod Reach
 pub mod Renumbered
 pub mod Examples

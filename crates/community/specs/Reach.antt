@@ -13,7 +13,7 @@ use mathlib.Core.Logic.{_↔_}
 use mathlib.Core.Bool.{Bool, _&&_, cond}
 use mathlib.Core.List.{List, [], _∷_}
 use lib.Dec.{T}
-use Rattle.image.specs.Image.{edgeCount, limitSquared, edgeRecords, endA, endB, adjacent}
+use Rattle.image.specs.Image.{edgeCount, limitOf, edgeRecords, endA, endB, adjacent}
 use Rattle.image.specs.Questions.{Accepted}
 use Rattle.near.specs.Near.{proximity}
 use Rattle.near.specs.declared.Proximity.{Proximity}
@@ -44,7 +44,7 @@ Spans s l d = (u : ℕ) × (v : ℕ) × T (contains u l) × T (contains v l) × 
 pub record ReachMeans : Type 0 where
   -- the largest: some near edge between two members has that distance, and none has a larger one; so it is no more than G
   pub largest : (s l : List ℕ) (d : ℕ) → (reach s l ≡ Near d) ↔ (Spans s l d × ((e : ℕ) → Spans s l e → e ≤ d))
-  pub in-limit : (s l : List ℕ) (d : ℕ) → reach s l ≡ Near d → d ≤ limitSquared s
+  pub in-limit : (s l : List ℕ) (d : ℕ) → reach s l ≡ Near d → d ≤ limitOf s
   -- none, which is not 0: exactly where no near edge joins two members; a group of one has none
   pub none : (s l : List ℕ) → (reach s l ≡ NotNear) ↔ ((d : ℕ) → Spans s l d → ⊥)
   pub alone : (s : List ℕ) (v : ℕ) → Accepted s → reach s (v ∷ []) ≡ NotNear

@@ -12,8 +12,8 @@ use mathlib.Core.Logic.{_⊎_}
 use mathlib.Core.List.{List}
 use lib.ListN.{length, getD}
 use Rattle.sets.specs.Renumbering.{Renumbering}
-use Rattle.fields.specs.Fields.{handsetBytes}
-use Rattle.image.specs.Image.{headerBytes, handsetCount, edgeCount, handsetRecords, edgeRecords, endA, endB}
+use Rattle.fields.specs.Fields.{handsetBytes, headerBytes}
+use Rattle.image.specs.Image.{handsetCount, edgeCount, handsetRecords, edgeRecords, endA, endB}
 use Rattle.community.specs.declared.Role.{Role}
 use Rattle.community.specs.declared.Role.the-variants.{Core, Border, Outlier}
 

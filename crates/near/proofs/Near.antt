@@ -1,12 +1,12 @@
--- The near test of two handsets. It answers near exactly when the older test said yes, and then with the squared distance of the two.
+-- The near test of two handsets. It answers near where they are the same, or adjacent and no farther apart than gamma, and then with their squared distance.
 --
 --     near-apart, near-same     not near is not near at some distance, and near at one distance is not near at another
 --     proximity-same            two answers with the same values are the same
 --     near-most                 a test by records that answers near: the distance that it tells is that of the records, and at most the limit
 --     adjacent-comm             adjacent, either way round
 --     proximity-comm            the test, either way round
---     neighbour-older           the test answers near exactly when the older one did
---     neighbour-cases           neighbours are the same handset, or adjacent
+--     neighbour-is              neighbours are the same handset, or adjacent and no farther apart than gamma
+--     neighbour-cases           so they are the same, or adjacent
 --     near-itself               a handset is near itself at 0
 --     near-limit                what is near is no farther apart than gamma
 --     edge-proximity            the test of the ends of an edge of an accepted image is that by their records
@@ -21,11 +21,11 @@ use lib.ListN.{getD}
 use borrow.Author.Tests.{leb-true, le-leb, eqb-true, eq-eqb}
 use Rattle.sets.proofs.Tests.{and-left, or-cases, T-true, T-false, any-make, any-cong, eqb-comm}
 use Rattle.sets.proofs.Counting.{sum-cong, sum-zero}
-use Rattle.fields.specs.Fields.{coordinateCount, gap}
-use Rattle.image.specs.Image.{edgeCount, limitSquared, handsetRecords, handsetRecord, edgeRecords, coordinateOf, gapSquared, distanceBetween, distanceSquared, endA, endB, joins, adjacent}
+use Rattle.fields.specs.Fields.{coordinateCount, gap, coordinateOf}
+use Rattle.image.specs.Image.{edgeCount, limitOf, handsetRecords, handsetRecord, edgeRecords, gapSquared, distanceBetween, distanceSquared, endA, endB, joins, adjacent}
 use Rattle.image.specs.Answers.{Answer}
 use Rattle.image.specs.Questions.{Accepted, isLoop}
-use Rattle.near.specs.Near.{proximityOf, proximity, isNear, neighbour, olderNeighbour, proximityAnswer, OneAnswer, NearTest}
+use Rattle.near.specs.Near.{proximityOf, proximity, isNear, neighbour, proximityAnswer, OneAnswer, NearTest}
 use Rattle.near.specs.declared.Proximity.{Proximity}
 use Rattle.near.specs.declared.Proximity.the-variants.{Near, NotNear}
 use Rattle.image.proofs.Edges.{joins-one, joins-comm}
@@ -101,13 +101,13 @@ unfolding proximity
 proximity-comm s u v =
     let a : List ℕ = handsetRecord (handsetRecords s) u in
     let b : List ℕ = handsetRecord (handsetRecords s) v in
-    ap (λ (x : Bool). tested x (adjacent s u v) (proximityOf a b (limitSquared s))) (eqb-comm u v)
-    ∙ ap₂ (λ (y : Bool) (p : Proximity). tested (eqb v u) y p) (adjacent-comm s u v) (records-comm a b (limitSquared s))
+    ap (λ (x : Bool). tested x (adjacent s u v) (proximityOf a b (limitOf s))) (eqb-comm u v)
+    ∙ ap₂ (λ (y : Bool) (p : Proximity). tested (eqb v u) y p) (adjacent-comm s u v) (records-comm a b (limitOf s))
 
 pub near-itself : (s : List ℕ) (u : ℕ) → proximity s u u ≡ Near 0
 unfolding proximity
 near-itself s u =
-    ap (λ (x : Bool). tested x (adjacent s u u) (proximityOf (handsetRecord (handsetRecords s) u) (handsetRecord (handsetRecords s) u) (limitSquared s))) (eq-eqb u u refl)
+    ap (λ (x : Bool). tested x (adjacent s u u) (proximityOf (handsetRecord (handsetRecords s) u) (handsetRecord (handsetRecords s) u) (limitOf s))) (eq-eqb u u refl)
 
 is-near : (x y t : Bool) (d : ℕ) → isNear (tested x y (cond t (Near d) NotNear)) ≡ (x || (y && t))
 unfolding isNear
@@ -116,15 +116,14 @@ is-near false true true d = refl
 is-near false true false d = refl
 is-near false false t d = refl
 
-pub neighbour-older : (s : List ℕ) (u v : ℕ) → neighbour s u v ≡ olderNeighbour s u v
-unfolding neighbour proximity proximityOf olderNeighbour distanceSquared
-neighbour-older s u v = is-near (eqb u v) (adjacent s u v) (leb (distanceSquared s u v) (limitSquared s)) (distanceSquared s u v)
+pub neighbour-is : (s : List ℕ) (u v : ℕ) → neighbour s u v ≡ (eqb u v || (adjacent s u v && leb (distanceSquared s u v) (limitOf s)))
+unfolding neighbour proximity proximityOf distanceSquared
+neighbour-is s u v = is-near (eqb u v) (adjacent s u v) (leb (distanceSquared s u v) (limitOf s)) (distanceSquared s u v)
 
 pub neighbour-cases : (s : List ℕ) (u v : ℕ) → T (neighbour s u v) → (u ≡ v) ⊎ T (adjacent s u v)
-unfolding olderNeighbour
 neighbour-cases s u v t =
-    let close : Bool = leb (distanceSquared s u v) (limitSquared s) in
-    ⊎-elim (λ x. inl (eqb→eq u v x)) (λ x. inr (and-left (adjacent s u v) close x)) (or-cases (eqb u v) (adjacent s u v && close) (subst T (neighbour-older s u v) t))
+    let close : Bool = leb (distanceSquared s u v) (limitOf s) in
+    ⊎-elim (λ x. inl (eqb→eq u v x)) (λ x. inr (and-left (adjacent s u v) close x)) (or-cases (eqb u v) (adjacent s u v && close) (subst T (neighbour-is s u v) t))
 
 near-distance : (s : List ℕ) (u v d : ℕ) → proximity s u v ≡ Near d → d ≡ distanceSquared s u v
 unfolding proximity distanceSquared
@@ -136,26 +135,25 @@ near-distance s u v d = go (eqb u v) (adjacent s u v) refl
     b : List ℕ
     b = handsetRecord (handsetRecords s) v
 
-    go : (x y : Bool) → eqb u v ≡ x → tested x y (proximityOf a b (limitSquared s)) ≡ Near d → d ≡ distanceBetween a b
+    go : (x y : Bool) → eqb u v ≡ x → tested x y (proximityOf a b (limitOf s)) ≡ Near d → d ≡ distanceBetween a b
     go true y h e =
         let same : u ≡ v = eqb-true u v h in
         sym (near-same e) ∙ sym (distance-itself a) ∙ ap (λ (w : ℕ). distanceBetween a (handsetRecord (handsetRecords s) w)) same
-    go false true h e = near-most a b (limitSquared s) d e .0
+    go false true h e = near-most a b (limitOf s) d e .0
     go false false h e = near-apart d e
 
 -- near at no more than gamma
-pub near-limit : (s : List ℕ) (u v d : ℕ) → proximity s u v ≡ Near d → d ≤ limitSquared s
+pub near-limit : (s : List ℕ) (u v d : ℕ) → proximity s u v ≡ Near d → d ≤ limitOf s
 unfolding proximity
 near-limit s u v d = go (eqb u v) (adjacent s u v)
   where
-    go : (x y : Bool) → tested x y (proximityOf (handsetRecord (handsetRecords s) u) (handsetRecord (handsetRecords s) v) (limitSquared s)) ≡ Near d → d ≤ limitSquared s
+    go : (x y : Bool) → tested x y (proximityOf (handsetRecord (handsetRecords s) u) (handsetRecord (handsetRecords s) v) (limitOf s)) ≡ Near d → d ≤ limitOf s
     go true y e = omega (arith, near-same e)
-    go false true e = near-most (handsetRecord (handsetRecords s) u) (handsetRecord (handsetRecords s) v) (limitSquared s) d e .1
+    go false true e = near-most (handsetRecord (handsetRecords s) u) (handsetRecord (handsetRecords s) v) (limitOf s) d e .1
     go false false e = near-apart d e
 
 pub near-test : NearTest
 near-test = record {
-  older = neighbour-older;
   distance = near-distance;
   itself = near-itself;
   same-record = record-itself;
@@ -166,11 +164,11 @@ near-test = record {
 
 pub edge-proximity : (s : List ℕ) → Accepted s → (k : ℕ) → k < edgeCount s
     → proximity s (endA (edgeRecords s) k) (endB (edgeRecords s) k)
-    ≡ proximityOf (handsetRecord (handsetRecords s) (endA (edgeRecords s) k)) (handsetRecord (handsetRecords s) (endB (edgeRecords s) k)) (limitSquared s)
+    ≡ proximityOf (handsetRecord (handsetRecords s) (endA (edgeRecords s) k)) (handsetRecord (handsetRecords s) (endB (edgeRecords s) k)) (limitOf s)
 unfolding proximity adjacent isLoop
 edge-proximity s ok k h =
     let a : ℕ = endA (edgeRecords s) k in
     let b : ℕ = endB (edgeRecords s) k in
-    let p : Proximity = proximityOf (handsetRecord (handsetRecords s) a) (handsetRecord (handsetRecords s) b) (limitSquared s) in
+    let p : Proximity = proximityOf (handsetRecord (handsetRecords s) a) (handsetRecord (handsetRecords s) b) (limitOf s) in
     ap₂ (λ (x y : Bool). tested x y p) (T-false (eqb a b) (ok .q9 k h))
     (T-true (adjacent s a b) (any-make (edgeCount s) (joins (edgeRecords s) a b) k h (joins-one (edgeRecords s) a b k refl refl)))

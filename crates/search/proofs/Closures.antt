@@ -24,7 +24,7 @@ use Rattle.sets.proofs.Counting.{bit-true}
 use Rattle.sets.proofs.Tests.{and-make, and-left, and-right, or-left, decide, eqb-of, eqb-not, any-make, none-any, not-any, find-law, find-is, find-none}
 use Rattle.community.specs.Network.{chain}
 use Rattle.community.proofs.Reachability.{chain-step, chain-meet, chain-least}
-use Rattle.search.specs.Held.{FirstCommon, Joined, Stored, Collected}
+use Rattle.search.specs.ForProofs.{FirstCommon, Joined, Stored, Collected}
 use Rattle.search.specs.Search.{steps, closure, leftAfter, foundBy, Searched, Sized, SearchCall}
 use Rattle.search.proofs.Growth.{cell-at, sum-less}
 

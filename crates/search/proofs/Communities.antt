@@ -21,12 +21,13 @@ use Rattle.sets.proofs.Tests.{and-make, and-left, and-right, or-right, or-cases
 use Rattle.sets.proofs.Counting.{bit-true}
 use Rattle.sets.proofs.Selecting.{select-yes, select-same}
 use Rattle.community.specs.Network.{Network, similar, isCore, Reachable, one, more, reachable, isLeader, leaders}
-use Rattle.community.specs.Held.{Sound}
+use Rattle.community.specs.ForProofs.{Sound}
 use Rattle.community.proofs.Reachability.{Reachable-trans, from-below, to-below, reachable-sound, reachable-complete}
 use Rattle.community.proofs.Similarity.{core-self, Reachable-back, step-make, step-core, step-similar}
 use Rattle.community.proofs.Communities.{leader-core, leader-least, leader-of}
 use Rattle.search.specs.Search.{closure, leftAfter, foundBy, Searched, SearchCall}
-use Rattle.search.specs.Communities.{both, similarIn, coreIn, reachableIn, Surveyed, Grouped}
+use Rattle.search.specs.Communities.{both, similarIn, coreIn, reachableIn, Grouped}
+use Rattle.search.specs.ForProofs.{Surveyed}
 use Rattle.search.proofs.Closures.{bit-one, closure-start, closure-on, closure-least, left-first, left-next, found-is}
 
 -- ---- the relations among the handsets

@@ -23,7 +23,7 @@ use Rattle.sets.proofs.Tests.{below}
 use Rattle.sets.proofs.Counting.{sum-le}
 use Rattle.sets.proofs.Bits.{bitOf-none, bitOf-lt, bitAt-lt, bitOf-and, bitOf-or, bitOf-xor, differ-self, differ-none, word-bit, cell-word, zeros, bitAt-zeros, bitAt-clear-same, bitAt-clear-other}
 use Rattle.sets.proofs.Lowest.{Lowest, cleared, cleared-lt, cleared-le, cleared-other}
-use Rattle.search.specs.Held.{FirstCommon, Joined, JoinedAll, Stored, Collected}
+use Rattle.search.specs.ForProofs.{FirstCommon, Joined, JoinedAll, Stored, Collected}
 
 -- ---- the first word that two sets share a bit of
 

@@ -1,3 +1,3 @@
 pub mod Search
-pub mod Held
+pub mod ForProofs
 pub mod Communities

@@ -18,6 +18,7 @@ use lib.Dec.{T, eqb}
 use lib.ListN.{length, getD}
 use Rattle.sets.specs.Below.{any, find, bit}
 use Rattle.sets.specs.Bits.{bitAt, Words, cell}
+use Rattle.sets.specs.Rows.{tableWords}
 use Rattle.community.specs.Network.{chain}
 
 unfoldable pub steps : List ℕ → (ℕ → Bool) → ℕ → ℕ → Bool
@@ -48,7 +49,7 @@ pub record Searched (rows cores after : List ℕ) (r : ℕ) : Type 0 where
   pub kept : (i : ℕ) → 8 * r ≤ i → getD after i 0 ≡ getD rows i 0
 
 abbrev pub Sized : List ℕ → List ℕ → Type 0
-Sized rows cores = (length rows ≡ 4096) × (length cores ≡ 8)
+Sized rows cores = (length rows ≡ tableWords) × (length cores ≡ 8)
 
 pub record SearchCall (rows cores after : List ℕ) (r : ℕ) : Type 0 where
   pub searched : Sized rows cores → Searched rows cores after r

@@ -5,7 +5,8 @@
 ghost use Prim.Native.Nat.{_+_, _*_, _≤_, _<_};
 ghost use mathlib.Core.Path.{_≡_};
 ghost use lib.ListN.{length};
-ghost use Rattle.search.specs.Held.{FirstCommon, Joined, JoinedAll, Stored, Collected};
+ghost use Rattle.sets.specs.Rows.{tableWords};
+ghost use Rattle.search.specs.ForProofs.{FirstCommon, Joined, JoinedAll, Stored, Collected};
 ghost use Rattle.search.specs.Search.{SearchCall};
 
 // The first number in both sets, or 512 where there is none.
@@ -38,7 +39,7 @@ fn join_row(table: &[u64], u: usize, set: &mut [u64])
 
 // Adds row base + k of the table to the set, for each set bit k of the word.
 fn join_all(table: &[u64], word: u64, base: usize, set: &mut [u64])
-    requires { ⌜ (length (now table) ≡ 4096) × (base + 64 ≤ 512) × (length (now set) ≡ 8) ⌝ }
+    requires { ⌜ (length (now table) ≡ tableWords) × (base + 64 ≤ 512) × (length (now set) ≡ 8) ⌝ }
     ensures { λ _. ⌜ JoinedAll (now (table .entry)) word base (now (set .entry)) (now (set .exit)) ⌝ }
 {
     let mut w = word;
@@ -51,7 +52,7 @@ fn join_all(table: &[u64], word: u64, base: usize, set: &mut [u64])
 
 // Makes the set row k of the table.
 fn store_row(rows: &mut [u64], k: usize, set: &[u64])
-    requires { ⌜ (length (now rows) ≡ 4096) × (k < 512) × (length (now set) ≡ 8) ⌝ }
+    requires { ⌜ (length (now rows) ≡ tableWords) × (k < 512) × (length (now set) ≡ 8) ⌝ }
     ensures { λ _. ⌜ Stored (now (rows .entry)) k (now (set .entry)) (now (rows .exit)) ⌝ }
 {
     let mut j: usize = 0;
@@ -64,7 +65,7 @@ fn store_row(rows: &mut [u64], k: usize, set: &[u64])
 // The closure of u, a core of `left`: row u, the row of each core left in that row, and so on. Takes u out of `left`, and whatever it comes by, a word
 // of cores at a time, so that no row is added twice.
 fn collect(table: &[u64], left: &mut [u64], u: usize) -> [u64; 8]
-    requires { ⌜ (length (now table) ≡ 4096) × (length (now left) ≡ 8) × (u < 512) ⌝ }
+    requires { ⌜ (length (now table) ≡ tableWords) × (length (now left) ≡ 8) × (u < 512) ⌝ }
     ensures { λ r. ⌜ Collected (now (table .entry)) (now (left .entry)) u (now (left .exit)) r ⌝ }
 {
     let mut set = [0u64; 8];
@@ -86,7 +87,7 @@ fn collect(table: &[u64], left: &mut [u64], u: usize) -> [u64; 8]
 pub fn find_communities(table: &mut [u64], cores: &[u64]) -> usize
     ensures { λ r. ⌜ SearchCall (now (table .entry)) (now (cores .entry)) (now (table .exit)) r ⌝ }
 {
-    if (table.len() != 4096) | (cores.len() != 8) {
+    if (table.len() != sets::TABLE_WORDS) | (cores.len() != 8) {
         return 0;
     }
     let mut left = [0u64; 8];

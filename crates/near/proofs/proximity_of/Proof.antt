@@ -11,8 +11,8 @@ use lib.Dec.{T, leb, leb→le, le→leb}
 use borrow.Author.Needs.{needs}
 use Rattle.sets.specs.Below.{sum}
 use Rattle.sets.proofs.Tests.{T-true, T-ext, and-make, and-left, and-right}
-use Rattle.fields.specs.Fields.{coordinateCount}
-use Rattle.image.specs.Image.{coordinateOf, gapSquared, distanceBetween}
+use Rattle.fields.specs.Fields.{coordinateCount, coordinateOf}
+use Rattle.image.specs.Image.{gapSquared, distanceBetween}
 use Rattle.near.specs.Near.{proximityOf, proximityAnswer}
 use Rattle.near.specs.declared.Proximity.the-variants.{Near, NotNear}
 use Rattle.near.proofs.proximity_of.Statement.{statement}

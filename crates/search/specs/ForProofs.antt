@@ -6,6 +6,7 @@
 --     JoinedAll table w b s t        t is the set s with the rows b + k added, for each bit k of the word w
 --     Stored rows k s after          the table `after` has the set s as row k; the words of its other rows are those of rows
 --     Collected table left u ..      the closure of u over the numbers left, and what is left after it
+--     Surveyed g table cores         the two are the similarity relation and the set of cores of the network
 use Prim.Native.Nat.{ℕ, _+_, _-_, _/_, _≤_, _<_, min, max}
 use mathlib.Core.Path.{_≡_}
 use mathlib.Core.Bool.{Bool}
@@ -13,6 +14,10 @@ use mathlib.Core.List.{List}
 use lib.Dec.{T}
 use lib.ListN.{length, getD}
 use Rattle.sets.specs.Bits.{bitOf, bitAt, cell}
+use Rattle.sets.specs.Rows.{SetOf, Table}
+use Rattle.community.specs.Network.{Network}
+use Rattle.community.specs.ForProofs.{Sound}
+use Rattle.search.specs.Communities.{similarIn, coreIn}
 
 pub record FirstCommon (a b : List ℕ) (r : ℕ) : Type 0 where
   pub within : r ≤ 512
@@ -48,3 +53,9 @@ pub record Collected (table left : List ℕ) (u : ℕ) (left′ set : List ℕ) 
       → (v : ℕ) → v < 512 → bitAt set v ≡ 1 → T (f v)
   pub gone : bitAt left′ u ≡ 0
   pub rest : (v : ℕ) → v < 512 → (v ≡ u → ⊥) → bitAt left′ v ≡ min (bitAt left v) (1 - bitAt set v)
+
+pub record Surveyed (g : Network) (table cores : List ℕ) : Type 0 where
+  pub sound : Sound g
+  pub most : g .n ≤ 512
+  pub similar-table : Table table (similarIn g)
+  pub core-set : SetOf cores (coreIn g)
