@@ -6,18 +6,16 @@ use mathlib.Core.Path.{_≡_, refl, sym, ap, ap₂, _∙_, subst}
 use mathlib.Core.Logic.{_↔_}
 use mathlib.Core.Bool.{Bool, true, false, cond}
 use mathlib.Core.List.{List, [], _∷_, _++_, List·Memᴰ}
-use lib.Dec.{T, ltb, leb, lt→ltb, ltb→lt, leb→le}
+use lib.Dec.{T, ltb, leb, ltb→lt, leb→le}
 use lib.ListN.{length, getD, drop}
-use Rattle.sets.proofs.Tests.{T-true}
 use Rattle.sets.proofs.Counting.{inverse}
 use Rattle.image.specs.Image.{handsetCount}
 use Rattle.image.specs.Answers.{refusal}
 use Rattle.image.specs.Questions.{Accepted}
-use Rattle.image.specs.declared.Opened.{Opened}
-use Rattle.image.proofs.Acceptance.{opened}
+use Rattle.image.proofs.Acceptance.{opened, when-accepted}
 use Rattle.community.specs.Network.{isCore, IsCommunity}
 use Rattle.community.specs.Tables.{startTable, memberTable}
-use Rattle.community.specs.Site.{network}
+use Rattle.community.specs.Site.{network, communitiesOf}
 use Rattle.community.specs.Renumbered.{Renumbered, NumberedBack}
 use Rattle.community.proofs.Communities as C
 use Rattle.community.proofs.Tables.{table-community}
@@ -26,13 +24,12 @@ use Rattle.community.proofs.Bound.{memberships-bound}
 use Rattle.community.proofs.RenumberSite.{accepted-too, same-handsets, image-communities, image-memberships, image-roles, image-neighbours, community-numbered-back, community-numbered-on}
 use Rattle.tables.specs.Plan.{made, planned, planAnswer, over}
 use Rattle.tables.proofs.Answers.{plan-same}
-use Rattle.planner.specs.Plan.{PlanCall, communitiesOf, planOf, planFor, knownOf, knownFor, knownAnswer, standing}
+use Rattle.planner.specs.Plan.{PlanCall, planOf, knownOf, knownAnswer, standing}
 use Rattle.planner.proofs.Answers.{known-same}
-use Rattle.planner.proofs.Calls.{plan-made, starts-made, members-made}
+use Rattle.planner.proofs.Calls.{plan-made, starts-made, members-made, known-handset}
 use Rattle.tables.specs.declared.Planned.{Planned}
 use Rattle.tables.specs.declared.Planned.the-variants as P
 use Rattle.planner.specs.declared.Known.{Known}
-use Rattle.planner.specs.declared.Known.the-variants.{Handset, Refused}
 use Rattle.demands.specs.Demand3 as D
 use Rattle.demands.specs.Demand3.{group, ListedAs, Plan, SameStanding, Again, LongEnough, Demand3}
 
@@ -121,18 +118,9 @@ pub room-of : (s ss ms ss′ ms′ : List ℕ) (g c : ℕ) → Accepted s → Pl
     → LongEnough s ss ms × (length (communitiesOf s) ≡ g) × (length (memberTable (communitiesOf s)) ≡ c)
 unfolding planOf
 room-of s ss ms ss′ ms′ g c ok call =
-    let e : planned (communitiesOf s) (length ss) (length ms) ≡ made g c =
-    ap (λ (o : Opened). planFor s o (length ss) (length ms)) (sym (opened s ok)) ∙ sym (answer-is call) in
+    let e : planned (communitiesOf s) (length ss) (length ms) ≡ made g c = sym (when-accepted s _ _ ok) ∙ sym (answer-is call) in
     let r = made-room (communitiesOf s) (length ss) (length ms) g c e in
     ((r .0, r .1), r .2, r .3)
-
--- ---- the role call
-
-known : (s : List ℕ) (v : ℕ) → Accepted s → v < handsetCount s → knownOf s v ≡ Handset (standing s v)
-unfolding knownOf
-known s v ok h =
-    ap (λ (o : Opened). knownFor s o v) (opened s ok)
-    ∙ ap (λ (b : Bool). cond b (Handset (standing s v)) (Refused (refusal 13))) (T-true (ltb v (handsetCount s)) (lt→ltb v (handsetCount s) h))
 
 -- ---- the second image
 
@@ -148,8 +136,8 @@ module _ (s t : List ℕ) (r : Renumbered s t) (ok : Accepted s) where
       record {
         x = standing s v;
         y = standing t w;
-        first = known-same _ _ d ∙ known s v ok h;
-        second = known-same _ _ e ∙ known t w ok-t (subst (λ (n : ℕ). w < n) (sym (same-handsets s t r ok)) (r .map .to-below v h));
+        first = known-same _ _ d ∙ known-handset s ok v h;
+        second = known-same _ _ e ∙ known-handset t ok-t w (subst (λ (n : ℕ). w < n) (sym (same-handsets s t r ok)) (r .map .to-below v h));
         same-neighbours = sym (image-neighbours s t r ok v h);
         same-role = image-roles s t r ok v h;
       }

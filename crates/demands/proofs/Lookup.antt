@@ -13,7 +13,8 @@ use Rattle.image.specs.Questions.{Accepted}
 use Rattle.community.specs.Tables.{startTable, memberTable}
 use Rattle.community.proofs.Tables.{table-community, starts-ordered, starts-within, length-startTable}
 use Rattle.tables.specs.Plan.{made, over}
-use Rattle.planner.specs.Plan.{PlanCall, communitiesOf}
+use Rattle.community.specs.Site.{communitiesOf}
+use Rattle.planner.specs.Plan.{PlanCall}
 use Rattle.planner.proofs.Calls.{starts-made, members-made}
 use Rattle.lookup.specs.Lookup.{placed, membersOf, lookedOf}
 use Rattle.lookup.specs.declared.Looked.the-variants.{Found}

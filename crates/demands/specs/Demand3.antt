@@ -29,10 +29,10 @@ use Rattle.image.specs.Questions.{Accepted, openOf}
 use Rattle.image.specs.declared.Opened.the-variants.{Site}
 use Rattle.community.specs.Network.{isCore, IsCommunity}
 use Rattle.community.specs.Tables.{memberTable}
-use Rattle.community.specs.Site.{network}
+use Rattle.community.specs.Site.{network, communitiesOf}
 use Rattle.community.specs.Renumbered.{Renumbered, NumberedBack, SameRole}
 use Rattle.community.specs.declared.Standing.{Standing}
-use Rattle.planner.specs.Plan.{PlanCall, communitiesOf, knownOf, knownAnswer}
+use Rattle.planner.specs.Plan.{PlanCall, knownOf, knownAnswer}
 use Rattle.tables.specs.declared.Planned.{Planned}
 use Rattle.tables.specs.Plan.{made}
 use Rattle.planner.specs.declared.Known.{Known}
@@ -71,8 +71,8 @@ pub record Again (s t : List ℕ) (r : Renumbered s t) (ss₀ ms₀ ss ms : List
   pub same-sets : (ts us : List ℕ) (b : Planned) (ts′ us′ : List ℕ) → length ss₀ ≤ length ts → length ms₀ ≤ length us
       → PlanCall t ts us b ts′ us′
       → (P : ℕ → Type 0) → Listed ss ms g P ↔ ((k : ℕ) × (k < g) × ((v : ℕ) → P v ↔ NumberedBack (r .map) (λ w. List·Memᴰ w (group ts′ us′ k)) v))
-  pub same-roles : (v : ℕ) → v < handsetCount s → (a b : Known) → knownAnswer a ≡ knownAnswer (knownOf s v) → knownAnswer b ≡ knownAnswer (knownOf t (r .map .to v))
-      → SameStanding a b
+  pub same-roles : (v : ℕ) → v < handsetCount s → (a b : Known) → knownAnswer a ≡ knownAnswer (knownOf s v)
+      → knownAnswer b ≡ knownAnswer (knownOf t (r .map .to v)) → SameStanding a b
 
 abbrev pub LongEnough : List ℕ → List ℕ → List ℕ → Type 0
 LongEnough s ss ms = (length (communitiesOf s) + 1 ≤ length ss) × (length (memberTable (communitiesOf s)) ≤ length ms)

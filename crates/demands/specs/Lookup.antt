@@ -7,7 +7,8 @@ use mathlib.Core.Path.{_≡_}
 use mathlib.Core.List.{List, []}
 use lib.ListN.{length, getD}
 use Rattle.image.specs.Questions.{Accepted}
-use Rattle.planner.specs.Plan.{PlanCall, communitiesOf}
+use Rattle.community.specs.Site.{communitiesOf}
+use Rattle.planner.specs.Plan.{PlanCall}
 use Rattle.tables.specs.Plan.{made}
 use Rattle.lookup.specs.Lookup.{membersOf, lookedOf}
 use Rattle.lookup.specs.Answers.{lookAnswer}

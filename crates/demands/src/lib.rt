@@ -1,1 +1,2 @@
-// Demand 3 as a theorem of the planner's calls: specs/Demand3 says it, proofs/Demand3 proves it. There is no code here.
+// Theorems of the planner's calls: demand 3 (specs/Demand3), the lookup on a plan's tables (specs/Lookup), and tables that are long enough (specs/Lengths). There
+// is no code here.

@@ -11,8 +11,8 @@ use lib.Dec.{T}
 use lib.IntN.{ℤ, pos}
 use lib.ListN.{length, getD}
 use Rattle.sets.proofs.Counting.{sum-le, sum-const}
-use Rattle.fields.specs.Fields.{coordinateCount, coordinateLimit, gap}
-use Rattle.image.specs.Image.{handsetCount, handsetRecords, handsetRecord, coordinateOf, gapSquared}
+use Rattle.fields.specs.Fields.{coordinateCount, coordinateLimit, gap, coordinateOf}
+use Rattle.image.specs.Image.{handsetCount, handsetRecords, handsetRecord, gapSquared}
 use Rattle.image.specs.Questions.{Accepted}
 use Rattle.image.specs.Signed.{raised}
 use Rattle.image.proofs.Acceptance.{coordinate-limits}

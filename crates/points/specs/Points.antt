@@ -13,8 +13,8 @@ use lib.Dec.{T}
 use lib.IntN.{ℤ, pos}
 use lib.ListN.{length, getD}
 use Rattle.sets.specs.Below.{sum}
-use Rattle.fields.specs.Fields.{coordinateCount}
-use Rattle.image.specs.Image.{handsetRecords, handsetRecord, coordinateOf, gapSquared}
+use Rattle.fields.specs.Fields.{coordinateCount, coordinateOf}
+use Rattle.image.specs.Image.{handsetRecords, handsetRecord, gapSquared}
 use Rattle.image.specs.Signed.{raised, withinLimits, signedCoordinate, signedApart, Bytes}
 
 abbrev pub pointInLimits : List ℤ → Bool

@@ -7,7 +7,7 @@
 --     table-le            no place holds more than 512
 --     tiesOf, leaves      what one edge adds to t, and whether it adds to o, by a table; ties-le: at most 512 * 512
 --     joined-none, leaving-none, joined-more, leaving-more     no edge, and one more; joined-le, leaving-le: how much the first edges make
---     table-tally         the counts by a table of multiplicities are the tally over the part
+--     table-tally         the counts by a table of multiplicities are the tally over the edges
 use Prim.Native.Nat.{ℕ, zero, suc, _+_, _*_, _≤_, _<_}
 use native.Mathlib.Omega.{arith}
 use native.Mathlib.Numerals.{add-one}
@@ -30,7 +30,7 @@ use Rattle.community.specs.Network.{contains}
 use Rattle.community.specs.Scores.{pairs, justOne}
 use Rattle.community.proofs.Multiplicities.{multiplicity-contains}
 use Rattle.scores.specs.Scored.{badEntry, askEntries}
-use Rattle.scores.specs.Held.{tallyAt, GoodEntries, Multiplicities, joinedSum, leavingSum}
+use Rattle.scores.specs.ForProofs.{tallyAt, GoodEntries, Multiplicities, joinedSum, leavingSum}
 use Rattle.scores.specs.declared.Tally.{Tally}
 use Rattle.scores.specs.declared.Tallied.the-variants as T
 
@@ -98,31 +98,31 @@ entries-good n l t a b =
 
 -- ---- the edges, by a table
 
-module _ (table part : List ℕ) (test : ℕ → Bool) where
+module _ (table records : List ℕ) (test : ℕ → Bool) where
   -- what edge k adds to t, and whether it adds to o, by a table
   abbrev pub tiesOf : ℕ → ℕ
-  tiesOf k = cond (test k) (getD table (endA part k) 0 * getD table (endB part k) 0) 0
+  tiesOf k = cond (test k) (getD table (endA records k) 0 * getD table (endB records k) 0) 0
 
   abbrev pub leaves : ℕ → Bool
-  leaves k = test k && justOne (leb 1 (getD table (endA part k) 0)) (leb 1 (getD table (endB part k) 0))
+  leaves k = test k && justOne (leb 1 (getD table (endA records k) 0)) (leb 1 (getD table (endB records k) 0))
 
-  pub joined-none : joinedSum table part test 0 ≡ 0
+  pub joined-none : joinedSum table records test 0 ≡ 0
   unfolding joinedSum sum
   joined-none = refl
 
-  pub leaving-none : leavingSum table part test 0 ≡ 0
+  pub leaving-none : leavingSum table records test 0 ≡ 0
   unfolding leavingSum count
   leaving-none = refl
 
-  pub joined-more : (k : ℕ) → joinedSum table part test (k + 1) ≡ joinedSum table part test k + tiesOf k
+  pub joined-more : (k : ℕ) → joinedSum table records test (k + 1) ≡ joinedSum table records test k + tiesOf k
   unfolding joinedSum sum
   joined-more k = rw (add-one k) (omega arith)
 
-  pub leaving-more : (k : ℕ) → leavingSum table part test (k + 1) ≡ leavingSum table part test k + bit (leaves k)
+  pub leaving-more : (k : ℕ) → leavingSum table records test (k + 1) ≡ leavingSum table records test k + bit (leaves k)
   unfolding leavingSum
   leaving-more k = count-more k leaves
 
-  pub leaving-le : (k : ℕ) → leavingSum table part test k ≤ k
+  pub leaving-le : (k : ℕ) → leavingSum table records test k ≤ k
   unfolding leavingSum
   leaving-le k = count-le k _
 
@@ -130,20 +130,20 @@ module _ (table part : List ℕ) (test : ℕ → Bool) where
     pub ties-le : (k : ℕ) → tiesOf k ≤ 262144
     ties-le k = pick (test k)
       where
-        pick : (b : Bool) → cond b (getD table (endA part k) 0 * getD table (endB part k) 0) 0 ≤ 262144
-        pick true = mul-le-mul {n₂ = 512} {m₂ = 512} (h (endA part k)) (h (endB part k))
+        pick : (b : Bool) → cond b (getD table (endA records k) 0 * getD table (endB records k) 0) 0 ≤ 262144
+        pick true = mul-le-mul {n₂ = 512} {m₂ = 512} (h (endA records k)) (h (endB records k))
         pick false = omega arith
 
-    pub joined-le : (k : ℕ) → joinedSum table part test k ≤ 262144 * k
+    pub joined-le : (k : ℕ) → joinedSum table records test k ≤ 262144 * k
     unfolding joinedSum sum
     joined-le zero = omega arith
     joined-le (suc k) = omega (arith, joined-le k, ties-le k)
 
-pub table-tally : (part : List ℕ) (m : ℕ) (test : ℕ → Bool) (l table : List ℕ) → Multiplicities table l
-    → record { pairs = pairs l; joined = joinedSum table part test m; leaving = leavingSum table part test m } ≡ tallyAt part m test l
+pub table-tally : (records : List ℕ) (m : ℕ) (test : ℕ → Bool) (l table : List ℕ) → Multiplicities table l
+    → record { pairs = pairs l; joined = joinedSum table records test m; leaving = leavingSum table records test m } ≡ tallyAt records m test l
 unfolding tallyAt joinedSum leavingSum
-table-tally part m test l table h =
+table-tally records m test l table h =
     let named : (v : ℕ) → leb 1 (getD table v 0) ≡ contains v l = λ v. ap (leb 1) (h .held v) ∙ multiplicity-contains l v in
     ap₂ (λ (x y : ℕ). record { pairs = pairs l; joined = x; leaving = y })
-    (sum-cong m _ _ (λ k d. ap₂ (λ (x y : ℕ). cond (test k) (x * y) 0) (h .held (endA part k)) (h .held (endB part k))))
-    (count-cong m _ _ (λ k d. ap₂ (λ (x y : Bool). test k && justOne x y) (named (endA part k)) (named (endB part k))))
+    (sum-cong m _ _ (λ k d. ap₂ (λ (x y : ℕ). cond (test k) (x * y) 0) (h .held (endA records k)) (h .held (endB records k))))
+    (count-cong m _ _ (λ k d. ap₂ (λ (x y : Bool). test k && justOne x y) (named (endA records k)) (named (endB records k))))

@@ -2,7 +2,8 @@
 --
 --     pairs-product           pairs of places of which one passes f and the other g, where none passes both: the product of the two counts
 --     pairs-half              all pairs of places: twice as many, and the places, make the square
-use Prim.Native.Nat.{ℕ, zero, suc, _+_, _*_, _<_}
+--     pairs-few               all pairs of places of a list of at most 512, by its size
+use Prim.Native.Nat.{ℕ, zero, suc, _+_, _*_, _≤_, _<_, min}
 use native.Mathlib.Omega.{arith}
 use native.Mathlib.Nat.{mul-add, add-mul}
 use mathlib.Core.Path.{_≡_, refl, ap, _∙_}
@@ -13,6 +14,7 @@ use lib.ListN.{length}
 use Rattle.sets.specs.Below.{count, sum, bit}
 use Rattle.sets.proofs.Counting.{count-cong, count-false}
 use Rattle.community.specs.Scores.{countPairs, pairs}
+use Rattle.scores.specs.Scored.{pairsOf}
 
 -- one of the two places passes f and the other g
 abbrev pub oneOfEach : (ℕ → Bool) → (ℕ → Bool) → ℕ → ℕ → Bool
@@ -56,14 +58,14 @@ unfolding count
 all-pass zero = refl
 all-pass (suc n) = omega (arith, all-pass n)
 
-half : (n : ℕ) → countPairs n (λ i j. true) * 2 + n ≡ n * n
+pub pairs-half : (n : ℕ) → pairsOf n * 2 + n ≡ n * n
 unfolding countPairs sum
-half zero = refl
-half (suc n) =
-    let e : sum n (λ j. count j (λ i. true)) * 2 + n ≡ n * n = half n in
+pairs-half zero = refl
+pairs-half (suc n) =
+    let e : sum n (λ j. count j (λ i. true)) * 2 + n ≡ n * n = pairs-half n in
     let q : suc n * suc n ≡ n * n + n + n + 1 = omega arith in
     omega (arith, all-pass n)
 
-pub pairs-half : (l : List ℕ) → pairs l * 2 + length l ≡ length l * length l
+pub pairs-few : (l : List ℕ) (n : ℕ) → n ≡ length l → n ≤ 512 → pairsOf (min n 512) ≡ pairs l
 unfolding pairs
-pairs-half l = half (length l)
+pairs-few l n e few = ap pairsOf (let q : min n 512 ≡ length l = omega arith in q)

@@ -12,30 +12,30 @@
 --     site-tallied       question 13 and the tally over the edge records of an opened image are the call's answer for it
 --     site-refused       the call's answer for a refused image is its refusal
 use Prim.Native.Nat.{ℕ, _+_, _*_, _≤_, _<_}
-use native.Mathlib.Omega.{arith}
 use mathlib.Core.Path.{_≡_, refl, sym, ap, ap₂, _∙_, subst}
 use mathlib.Core.Bool.{Bool, true, false, _&&_, cond}
 use mathlib.Core.List.{List}
 use lib.Dec.{T, eqb, eqb→eq, T-not}
-use lib.ListN.{length, getD, take, drop}
+use lib.ListN.{length, getD}
 use Rattle.sets.specs.Below.{count, sum, bit}
 use Rattle.sets.proofs.Tests.{and-right, any-make, eqb-of}
 use Rattle.sets.proofs.Counting.{count-once, count-sum, count-swap, count-false, sum-cong, sum-swap, sum-zero}
 use Rattle.sets.specs.Entries.{multiplicity}
 use Rattle.fields.specs.Fields.{edgeBytes}
-use Rattle.image.specs.Image.{headerOf, handsetCount, edgeCount, edgeRecords, endA, endB, joins, adjacent}
+use Rattle.limits.specs.Limits.{handsetsMost, edgesMost}
+use Rattle.image.specs.Image.{handsetCount, edgeCount, edgeRecords, endA, endB, joins, adjacent}
 use Rattle.image.specs.Questions.{isLoop, repeatsEarlier, openOf, Accepted}
 use Rattle.image.specs.declared.Header.{Header}
 use Rattle.image.specs.declared.Refusal.{Refusal}
-use Rattle.image.specs.declared.Opened.{Opened}
 use Rattle.image.specs.declared.Opened.the-variants as O
-use Rattle.image.proofs.Acceptance.{accepted, accepted-fits, length-is, opened}
+use Rattle.image.proofs.Acceptance.{accepted, Fits, accepted-fits, edges-fit, when-accepted, when-refused}
+use Rattle.image.proofs.Records.{edgeSlice, edgeSlice-is}
 use Rattle.community.specs.Network.{contains}
 use Rattle.community.specs.Scores.{countPairs, pairs, everyEdge, joinedBy, joinedPairs, leaving}
 use Rattle.community.proofs.Multiplicities.{Apart, multiplicity-once}
 use Rattle.community.proofs.Edges.{joins-make, joins-take, pair-sym, pair-trans}
-use Rattle.scores.specs.Scored.{tallyBy, tallyOf, askEntries, talliedFor, talliedOf, scoresFor, scoredFor, scoredOf}
-use Rattle.scores.specs.Held.{tallyAt}
+use Rattle.scores.specs.Scored.{tallyBy, tallyOf, askEntries, talliedOf, scoresFor, scoredFor, scoredOf}
+use Rattle.scores.specs.ForProofs.{tallyAt}
 use Rattle.scores.specs.declared.Tallied.the-variants as T
 use Rattle.scores.specs.declared.Scored.the-variants as S
 use Rattle.scores.proofs.Pairing.{pairs-product}
@@ -46,24 +46,24 @@ unfolding joinedBy adjacent
 joined-adjacent s u v = refl
 
 -- two edges that join the same two handsets: one joins what the other joins
-same-ends : (part : List ℕ) (u v i j : ℕ) → T (joins part u v i) → T (joins part u v j) → T (joins part (endA part j) (endB part j) i)
-same-ends part u v i j x y =
-    joins-make part _ _ i (pair-trans _ _ u v _ _ (joins-take part u v i x) (pair-sym _ _ u v (joins-take part u v j y)))
+same-ends : (records : List ℕ) (u v i j : ℕ) → T (joins records u v i) → T (joins records u v j) → T (joins records (endA records j) (endB records j) i)
+same-ends records u v i j x y =
+    joins-make records _ _ i (pair-trans _ _ u v _ _ (joins-take records u v i x) (pair-sym _ _ u v (joins-take records u v j y)))
 
 module _ (s : List ℕ) (a : Accepted s) where
   pub edge-once : (u v i j : ℕ) → i < j → j < edgeCount s → T (joins (edgeRecords s) u v i) → T (joins (edgeRecords s) u v j) → ⊥
   unfolding repeatsEarlier
   edge-once u v i j h k x y =
-      let part : List ℕ = edgeRecords s in
-      T-not (repeatsEarlier part j) (a .q10 j k)
-      (any-make j (joins part (endA part j) (endB part j)) i h (same-ends part u v i j x y))
+      let records : List ℕ = edgeRecords s in
+      T-not (repeatsEarlier records j) (a .q10 j k)
+      (any-make j (joins records (endA records j) (endB records j)) i h (same-ends records u v i j x y))
 
   -- no place holds both ends of an edge
   apart : (l : List ℕ) (k : ℕ) → k < edgeCount s → (i : ℕ) → i < length l → T (eqb (endA (edgeRecords s) k) (getD l i 0)) → T (eqb (endB (edgeRecords s) k) (getD l i 0)) → ⊥
   unfolding isLoop
   apart l k h i d x y =
-      let part : List ℕ = edgeRecords s in
-      T-not (isLoop part k) (a .q9 k h) (eqb-of (endA part k) (endB part k) (eqb→eq (endA part k) (getD l i 0) x ∙ sym (eqb→eq (endB part k) (getD l i 0) y)))
+      let records : List ℕ = edgeRecords s in
+      T-not (isLoop records k) (a .q9 k h) (eqb-of (endA records k) (endB records k) (eqb→eq (endA records k) (getD l i 0) x ∙ sym (eqb→eq (endB records k) (getD l i 0) y)))
 
   -- the pairs of places of one edge
   edge-pairs : (l : List ℕ) (k : ℕ) → k < edgeCount s
@@ -90,12 +90,12 @@ module _ (s : List ℕ) (a : Accepted s) where
         → count j (λ i. joinedBy s test (getD l i 0) (getD l j 0)) ≡ sum (edgeCount s) (λ k. count j (λ i. joinsAt l i j k))
     unfolding joinedBy
     before-place l j =
-        let part : List ℕ = edgeRecords s in
+        let records : List ℕ = edgeRecords s in
         count-sum j (λ i. joinedBy s test (getD l i 0) (getD l j 0))
         ∙ sum-cong j (λ i. bit (joinedBy s test (getD l i 0) (getD l j 0))) (λ i. count (edgeCount s) (joinsAt l i j))
         (λ i h. count-once (edgeCount s) (joinsAt l i j)
         (λ k n d b x y. edge-once (getD l i 0) (getD l j 0) k n d b
-        (and-right (test k) (joins part (getD l i 0) (getD l j 0) k) x) (and-right (test n) (joins part (getD l i 0) (getD l j 0) n) y)))
+        (and-right (test k) (joins records (getD l i 0) (getD l j 0) k) x) (and-right (test n) (joins records (getD l i 0) (getD l j 0) n) y)))
         ∙ count-swap j (edgeCount s) (λ i k. joinsAt l i j k)
 
     pub joined-is : (l : List ℕ) → joinedPairs s test l ≡ sum (edgeCount s) (λ k. cond (test k) (multiplicity l (endA (edgeRecords s) k) * multiplicity l (endB (edgeRecords s) k)) 0)
@@ -135,28 +135,28 @@ module _ (s : List ℕ) (a : Accepted s) where
 module _ (s : List ℕ) (a : Accepted s) (l : List ℕ) (few : length l ≤ 512) (below : (i : ℕ) → i < length l → getD l i 0 < handsetCount s) where
   pub good-tallied : talliedOf s l ≡ T.Of (tallyOf s l)
   unfolding talliedOf
-  good-tallied = ap (λ (o : Opened). talliedFor s o l) (opened s a) ∙ entries-good (handsetCount s) l (tallyOf s l) few below
+  good-tallied = when-accepted s _ _ a ∙ entries-good (handsetCount s) l (tallyOf s l) few below
 
   pub good-scored : scoredOf s l ≡ S.Of (scoresFor (tallyOf s l))
   unfolding scoredOf
   good-scored = ap scoredFor good-tallied
 
 module _ (s : List ℕ) (h : Header) (e : openOf s ≡ O.Site h) where
-  pub site-fits : (h .edges + edgeBytes * h .m ≤ length s) × (h .m ≤ 4096) × (h .n ≤ 512)
+  pub site-fits : (h .edges + edgeBytes * h .m ≤ length s) × (h .m ≤ edgesMost) × (h .n ≤ handsetsMost)
   site-fits =
       let r = accepted s h e in
-      let f = accepted-fits s (r .0) in
-      let to : headerOf s .edges + edgeBytes * edgeCount s ≤ length s = omega (arith, f .edges-to, length-is s (r .0)) in
-      subst (λ (g : Header). (g .edges + edgeBytes * g .m ≤ length s) × (g .m ≤ 4096) × (g .n ≤ 512)) (sym (r .1)) (to, f .m-limit, f .n-limit)
+      let f : Fits h = subst Fits (sym (r .1)) (accepted-fits s (r .0)) in
+      (edges-fit s (r .0) h (r .1), f .m-limit, f .n-limit)
 
-  pub site-tallied : (l : List ℕ) → askEntries (h .n) l (tallyAt (take (edgeBytes * h .m) (drop (h .edges) s)) (h .m) everyEdge l) ≡ talliedOf s l
-  unfolding edgeRecords talliedOf tallyOf
+  pub site-tallied : (l : List ℕ) → askEntries (h .n) l (tallyAt (edgeSlice s h) (h .m) everyEdge l) ≡ talliedOf s l
+  unfolding talliedOf tallyOf
   site-tallied l =
       let r = accepted s h e in
-      ap (λ (g : Header). askEntries (g .n) l (tallyAt (take (edgeBytes * g .m) (drop (g .edges) s)) (g .m) everyEdge l)) (r .1)
+      ap (λ (records : List ℕ). askEntries (h .n) l (tallyAt records (h .m) everyEdge l)) (edgeSlice-is s h (r .1))
+      ∙ ap (λ (g : Header). askEntries (g .n) l (tallyAt (edgeRecords s) (g .m) everyEdge l)) (r .1)
       ∙ ap (askEntries (handsetCount s) l) (tally-is s (r .0) everyEdge l)
-      ∙ sym (ap (λ (o : Opened). talliedFor s o l) (opened s (r .0)))
+      ∙ sym (when-accepted s _ _ (r .0))
 
 pub site-refused : (s : List ℕ) (r : Refusal) (l : List ℕ) → openOf s ≡ O.Refused r → talliedOf s l ≡ T.Refused r
 unfolding talliedOf
-site-refused s r l e = ap (λ (o : Opened). talliedFor s o l) e
+site-refused s r l e = when-refused s _ _ r e

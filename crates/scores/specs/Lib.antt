@@ -1,3 +1,3 @@
 pub mod Scored
-pub mod Held
+pub mod ForProofs
 pub mod Answers

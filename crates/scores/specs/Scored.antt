@@ -1,5 +1,6 @@
 -- The tally and the scores of a list of handsets (source document 003, 5.3; paper 01, "Scores, lookup, report" and question 13).
 --
+--     pairsOf n              s of a list of n places; pairs l is pairsOf (length l)
 --     tallyBy s test l       s, t and o of the paper for an image and a list, where the edges that count are those that pass a test
 --     tallyOf s l            the same where every edge counts: the paper's
 --     scoresFor t            density (s - t) / s and conductance o / (2t + o), neither reduced; a zero divisor gives no score
@@ -9,15 +10,13 @@
 --
 -- The laws are in proofs/Tallying.
 use Prim.Native.Nat.{ℕ, _+_, _*_, _-_}
-use mathlib.Core.Bool.{Bool, _||_, cond}
+use mathlib.Core.Bool.{Bool, true, _||_, cond}
 use mathlib.Core.List.{List}
 use lib.Dec.{leb, eqb}
 use lib.ListN.{length, getD}
 use Rattle.sets.specs.Below.{any, find}
-use Rattle.image.specs.Questions.{openOf}
-use Rattle.image.specs.declared.Opened.{Opened}
-use Rattle.image.specs.declared.Opened.the-variants as O
-use Rattle.community.specs.Scores.{pairs, everyEdge, joinedPairs, leaving}
+use Rattle.image.specs.Questions.{openOf, whenOpened}
+use Rattle.community.specs.Scores.{countPairs, pairs, everyEdge, joinedPairs, leaving}
 use Rattle.scores.specs.declared.Tally.{Tally}
 use Rattle.scores.specs.declared.Tallied.{Tallied}
 use Rattle.scores.specs.declared.Tallied.the-variants as T
@@ -26,6 +25,9 @@ use Rattle.scores.specs.declared.Score.the-variants.{Ratio, Nothing}
 use Rattle.scores.specs.declared.Scores.{Scores}
 use Rattle.scores.specs.declared.Scored.{Scored}
 use Rattle.scores.specs.declared.Scored.the-variants as S
+
+abbrev pub pairsOf : ℕ → ℕ
+pairsOf n = countPairs n (λ i j. true)
 
 abbrev pub tallyBy : List ℕ → (ℕ → Bool) → List ℕ → Tally
 tallyBy s test l = record { pairs = pairs l; joined = joinedPairs s test l; leaving = leaving s test l }
@@ -52,13 +54,9 @@ unfoldable pub askEntries : ℕ → List ℕ → Tally → Tallied
 unfolding any find badEntry
 askEntries n l t = cond (any (length l) (badEntry n l)) (T.Refused (record { number = 13; place = find (length l) (badEntry n l) })) (T.Of t)
 
-abbrev pub talliedFor : List ℕ → Opened → List ℕ → Tallied
-talliedFor s (O.Site h) l = askEntries (h .n) l (tallyOf s l)
-talliedFor s (O.Refused r) l = T.Refused r
-
 unfoldable pub talliedOf : List ℕ → List ℕ → Tallied
 unfolding openOf askEntries tallyOf
-talliedOf s l = talliedFor s (openOf s) l
+talliedOf s l = whenOpened s (λ h. askEntries (h .n) l (tallyOf s l)) T.Refused
 
 abbrev pub scoredFor : Tallied → Scored
 scoredFor (T.Of t) = S.Of (scoresFor t)

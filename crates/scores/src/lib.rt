@@ -5,15 +5,15 @@
 // `scored-same` of proofs/Answers make equations of the answers.
 ghost use mathlib.Core.Path.{_≡_};
 ghost use mathlib.Core.Bool.{_||_};
-ghost use Prim.Native.Nat.{ℕ, _*_, _-_, _≤_};
+ghost use Prim.Native.Nat.{ℕ, _-_, _≤_, min};
 ghost use lib.Dec.{leb};
-ghost use lib.ListN.{length, getD, take};
+ghost use lib.ListN.{length, getD};
 ghost use Rattle.sets.specs.Below.{bit, find};
-ghost use Rattle.fields.specs.Fields.{edgeBytes};
-ghost use Rattle.community.specs.Scores.{justOne, pairs, everyEdge};
-ghost use Rattle.scores.specs.Scored.{badEntry, score, scoresFor, talliedOf, scoredOf};
+ghost use Rattle.limits.specs.Limits.{edgesMost};
+ghost use Rattle.community.specs.Scores.{justOne, everyEdge};
+ghost use Rattle.scores.specs.Scored.{pairsOf, badEntry, score, scoresFor, talliedOf, scoredOf};
 ghost use Rattle.scores.specs.Answers.{tallyAnswer, scoreAnswer};
-ghost use Rattle.scores.specs.Held.{tallyAt, GoodEntries, joinedSum, leavingSum};
+ghost use Rattle.scores.specs.ForProofs.{tallyAt, GoodEntries, joinedSum, leavingSum};
 use image::Opened;
 use image::Refusal;
 
@@ -69,7 +69,7 @@ fn first_bad_entry(n: usize, list: &[u16]) -> usize
 }
 
 // What the table holds for v; 0 past its end.
-fn held(table: &[u16], v: usize) -> u32
+fn at_or_zero(table: &[u16], v: usize) -> u32
     ensures { λ r. ⌜ r ≡ getD (now (table .entry)) v 0 ⌝ }
 {
     if v < table.len() { table[v] as u32 } else { 0 }
@@ -86,18 +86,16 @@ fn just_one(a: u32, b: u32) -> u32
 
 // The tally with s as given, and t and o over the first m edges, by a table of multiplicities.
 fn tally_edges(edges: &[u8], m: usize, table: &[u16], all: u32) -> Tally
-    requires { ⌜ (edgeBytes * m ≤ length (now edges)) × (m ≤ 4096) × ((v : ℕ) → getD (now table) v 0 ≤ 512) ⌝ }
+    requires { ⌜ (m ≤ edgesMost) × ((v : ℕ) → getD (now table) v 0 ≤ 512) ⌝ }
     ensures { λ r. ⌜ r ≡ record { pairs = all; joined = joinedSum (now (table .entry)) (now (edges .entry)) everyEdge m; leaving = leavingSum (now (table .entry)) (now (edges .entry)) everyEdge m } ⌝ }
 {
     let mut joined: u32 = 0;
     let mut leaving: u32 = 0;
     let mut k: usize = 0;
     while k < m {
-        let at = fields::EDGE_BYTES * k;
-        let past = at + fields::EDGE_BYTES;
-        let ends = fields::read_ends(&edges[at..past]);
-        let a = held(table, ends.a);
-        let b = held(table, ends.b);
+        let ends = near::ends_at(edges, k);
+        let a = at_or_zero(table, ends.a);
+        let b = at_or_zero(table, ends.b);
         joined += a * b;
         leaving += just_one(a, b);
         k += 1;
@@ -109,22 +107,22 @@ fn tally_edges(edges: &[u8], m: usize, table: &[u16], all: u32) -> Tally
     }
 }
 
-// s, the count of all pairs of places of a list. Entries past the first 512 are not looked at: question 13 refuses them.
-pub fn pairs_of(list: &[u16]) -> u32
-    ensures { λ r. ⌜ r ≡ pairs (take 512 (now (list .entry))) ⌝ }
+// s, the count of all pairs of places of a list of that size. Places past the first 512 do not count: question 13 refuses them.
+pub fn pairs_of(size: usize) -> u32
+    ensures { λ r. ⌜ r ≡ pairsOf (min size 512) ⌝ }
 {
-    let n = sets::smaller(list.len(), 512);
+    let n = sets::smaller(size, 512);
     ((n * n - n) / 2) as u32
 }
 
 // The tally of a list that question 13 passes, over m edges, in one turn over the list and one over the edges.
 fn tally_listed(edges: &[u8], m: usize, list: &[u16]) -> Tally
-    requires { ⌜ (edgeBytes * m ≤ length (now edges)) × (m ≤ 4096) × GoodEntries (now list) ⌝ }
+    requires { ⌜ (m ≤ edgesMost) × GoodEntries (now list) ⌝ }
     ensures { λ r. ⌜ r ≡ tallyAt (now (edges .entry)) m everyEdge (now (list .entry)) ⌝ }
 {
     let mut table = [0u16; 512];
     sets::count_entries(list, &mut table);
-    tally_edges(edges, m, &table, pairs_of(list))
+    tally_edges(edges, m, &table, pairs_of(list.len()))
 }
 
 // The tally of a list of handsets of an image: the image's refusal, 13 with the first bad entry's index, or s, t and o.
@@ -133,7 +131,7 @@ pub fn tally_list(image: &[u8], list: &[u16]) -> Tallied
 {
     let opened = image::open(image);
     let Opened::Site(h) = opened else {
-        return Tallied::Refused(image::refusal_of(opened));
+        return Tallied::Refused(refusals::refusal_of(opened));
     };
     let bad = first_bad_entry(h.n as usize, list);
     if bad < list.len() {

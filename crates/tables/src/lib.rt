@@ -1,64 +1,25 @@
 // The tables of a plan and the role of a handset, from the communities as rows of bits: eight words to a row, one bit a handset.
 //
-// Counting comes first, so that a refusal writes nothing; a row's members are found word by word, by the lowest set bit. Rows past the end of the lent
-// words are empty, and more than 512 rows count as 512. The definitions are in specs/Plan.
+// Counting comes first, so that a refusal writes nothing; a row's members are found word by word, by the lowest set bit. More than 512 rows count as 512. The
+// definitions are in specs/Plan.
 use community::Role;
 use image::Refusal;
+use rows::Counts;
 ghost use mathlib.Core.Path.{_≡_};
 ghost use Prim.Native.Nat.{_+_, _≤_, _<_, min};
-ghost use lib.ListN.{length, getD};
+ghost use lib.ListN.{length};
 ghost use lib.Seq.{sets};
 ghost use Rattle.community.specs.Network.{contains, communityNumber, membershipCount, roleValues};
 ghost use Rattle.community.specs.Tables.{startTable, memberTable};
-ghost use Rattle.tables.specs.Held.{wordMembers};
-ghost use Rattle.tables.specs.Plan.{askRoom, rowMembers, rowsOf, over, tableAfter, PlanWritten, roleFor};
-
-// The counts of a plan.
-pub struct Counts {
-    pub groups: usize,
-    pub memberships: usize,
-}
+ghost use Rattle.sets.specs.Rows.{tableWords};
+ghost use Rattle.rows.specs.Rows.{rowMembers, rowsOf};
+ghost use Rattle.tables.specs.ForProofs.{wordMembers};
+ghost use Rattle.tables.specs.Plan.{askRoom, over, tableAfter, PlanWritten, roleFor};
 
 // What a call for a plan answers: its counts, or the refusal.
 pub enum Planned {
     Made(Counts),
     Refused(Refusal),
-}
-
-// A word of the rows; 0 past the last.
-fn word_at(rows: &[u64], i: usize) -> u64
-    ensures { λ r. ⌜ r ≡ getD (now (rows .entry)) i 0 ⌝ }
-{
-    if i < rows.len() { rows[i] } else { 0 }
-}
-
-// How many members row k has: the ones of its eight words.
-fn row_size(rows: &[u64], k: usize) -> u32
-    requires { ⌜ k < 512 ⌝ }
-    ensures { λ r. ⌜ r ≡ length (rowMembers (now (rows .entry)) k) ⌝ }
-{
-    let mut n: u32 = 0;
-    let mut j: usize = 0;
-    while j < 8 {
-        n += u64::count_ones(word_at(rows, k * 8 + j));
-        j += 1;
-    }
-    n
-}
-
-// How many memberships the first `count` rows have.
-fn count_members(rows: &[u64], count: usize) -> usize
-    requires { ⌜ count ≤ 512 ⌝ }
-    ensures { λ r. ⌜ r ≡ length (memberTable (rowsOf (now (rows .entry)) count)) ⌝ }
-{
-    let mut total: usize = 0;
-    let mut k: usize = 0;
-    while k < count {
-        let size = row_size(rows, k);
-        total += size as usize;
-        k += 1;
-    }
-    total
 }
 
 // Writes base + k for each set bit k of the word, ascending, from the place `at` on, and gives the place after them. A zero word writes nothing.
@@ -80,14 +41,14 @@ fn write_word(word: u64, base: usize, members: &mut [u16], at: usize) -> usize
 
 // Writes the members of row k, ascending, from the place `at` on, and gives the place after them. An empty row writes nothing.
 fn write_row(rows: &[u64], k: usize, members: &mut [u16], at: usize) -> usize
-    requires { ⌜ (k < 512) × (at + length (rowMembers (now rows) k) ≤ length (now members)) ⌝ }
+    requires { ⌜ (length (now rows) ≡ tableWords) × (k < 512) × (at + length (rowMembers (now rows) k) ≤ length (now members)) ⌝ }
     ensures next { λ r. ⌜ r ≡ at + length (rowMembers (now (rows .entry)) k) ⌝ }
     ensures written { λ r. ⌜ now (members .exit) ≡ sets (now (members .entry)) at (rowMembers (now (rows .entry)) k) ⌝ }
 {
     let mut place = at;
     let mut j: usize = 0;
     while j < 8 {
-        place = write_word(word_at(rows, k * 8 + j), j * 64, members, place);
+        place = write_word(rows[k * 8 + j], j * 64, members, place);
         j += 1;
     }
     place
@@ -95,7 +56,7 @@ fn write_row(rows: &[u64], k: usize, members: &mut [u16], at: usize) -> usize
 
 // Writes both tables of the first `count` rows, from their first places on, and leaves the places after them alone. With no rows the start table gets a 0.
 fn write_tables(rows: &[u64], count: usize, starts: &mut [u32], members: &mut [u16])
-    requires { ⌜ (count ≤ 512) × (count < length (now starts)) × (length (memberTable (rowsOf (now rows) count)) ≤ length (now members)) ⌝ }
+    requires { ⌜ (length (now rows) ≡ tableWords) × (count ≤ 512) × (count < length (now starts)) × (length (memberTable (rowsOf (now rows) count)) ≤ length (now members)) ⌝ }
     ensures started { λ _. ⌜ now (starts .exit) ≡ over (startTable (rowsOf (now (rows .entry)) count)) (now (starts .entry)) ⌝ }
     ensures written { λ _. ⌜ now (members .exit) ≡ over (memberTable (rowsOf (now (rows .entry)) count)) (now (members .entry)) ⌝ }
 {
@@ -139,7 +100,7 @@ fn write_where_it_fits(
     starts: &mut [u32],
     members: &mut [u16],
 )
-    requires { ⌜ (groups ≤ 512) × (memberships ≡ length (memberTable (rowsOf (now rows) groups))) ⌝ }
+    requires { ⌜ (length (now rows) ≡ tableWords) × (groups ≤ 512) × (memberships ≡ length (memberTable (rowsOf (now rows) groups))) ⌝ }
     ensures started { λ _. ⌜ now (starts .exit) ≡ tableAfter (rowsOf (now (rows .entry)) groups) (length (now (starts .entry))) (length (now (members .entry))) (startTable (rowsOf (now (rows .entry)) groups)) (now (starts .entry)) ⌝ }
     ensures written { λ _. ⌜ now (members .exit) ≡ tableAfter (rowsOf (now (rows .entry)) groups) (length (now (starts .entry))) (length (now (members .entry))) (memberTable (rowsOf (now (rows .entry)) groups)) (now (members .entry)) ⌝ }
 {
@@ -151,11 +112,17 @@ fn write_where_it_fits(
 }
 
 // The plan of the first `count` rows in both tables, with its counts; or question 11 or 12, which writes nothing.
-pub fn write_plan(rows: &[u64], count: usize, starts: &mut [u32], members: &mut [u16]) -> Planned
+pub fn write_plan(
+    rows: &[u64; sets::TABLE_WORDS],
+    count: usize,
+    starts: &mut [u32],
+    members: &mut [u16],
+) -> Planned
     ensures { λ r. ⌜ PlanWritten (rowsOf (now (rows .entry)) (min count 512)) (now (starts .entry)) (now (members .entry)) r (now (starts .exit)) (now (members .exit)) ⌝ }
 {
-    let groups = sets::smaller(count, 512);
-    let memberships = count_members(rows, groups);
+    let counts = rows::counts_of(rows, count);
+    let groups = counts.groups;
+    let memberships = counts.memberships;
     write_where_it_fits(rows, groups, memberships, starts, members);
     ask_room(groups, memberships, starts.len(), members.len())
 }
@@ -203,7 +170,12 @@ fn first_containing(rows: &[u64], count: usize, v: usize) -> usize
 }
 
 // The role of v, from the set of cores and the communities as the first `count` rows.
-pub fn role_in(cores: &[u64], rows: &[u64], count: usize, v: usize) -> Role
+pub fn role_in<'a>(
+    cores: &'a [u64; 8],
+    rows: &'a [u64; sets::TABLE_WORDS],
+    count: usize,
+    v: usize,
+) -> Role
     ensures { λ r. ⌜ roleValues r ≡ roleValues (roleFor (now (cores .entry)) (now (rows .entry)) (min count 512) v) ⌝ }
 {
     let groups = sets::smaller(count, 512);

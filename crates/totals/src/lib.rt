@@ -1,12 +1,12 @@
-// How many handsets have each role, from a plan's member table and the set of its cores.
+// How many handsets have each role, from the groups as rows of bits and the set of cores.
 //
-// One pass over the member table gives each handset's count of groups; one over the handsets then counts the roles. The definitions are in specs/Totals.
-ghost use Prim.Native.Nat.{_≤_};
+// The handsets in one row or more, and in two or more, are found first; the roles are then counted a word at a time, as ones. The definitions are in
+// specs/Totals.
+ghost use Prim.Native.Nat.{_<_, min};
 ghost use mathlib.Core.Path.{_≡_};
-ghost use lib.ListN.{length, replicate};
-ghost use Rattle.sets.specs.Below.{bit};
-ghost use Rattle.totals.specs.Totals.{roleBy, RolesCounted};
-ghost use Rattle.totals.specs.Held.{withRole, TotalsAtMost, RolesSummed};
+ghost use lib.ListN.{length};
+ghost use Rattle.totals.specs.Totals.{RolesCounted};
+ghost use Rattle.totals.specs.ForProofs.{BitsBelow, withWords, TotalsAtMost, WordsCounted};
 
 // The handsets of a site: cores, borders, outliers; and of the borders those in two groups or more.
 pub struct Totals {
@@ -16,31 +16,44 @@ pub struct Totals {
     pub multiple: usize,
 }
 
-// 1 for a yes, 0 for a no.
-fn one_if(yes: bool) -> usize
-    ensures value { λ r. ⌜ r ≡ bit yes ⌝ }
-    ensures small { λ r. ⌜ r ≤ 1 ⌝ }
+// The word with the handsets below n of the 64 from 64 j on.
+fn word_below(n: usize, j: usize) -> u64
+    requires { ⌜ j < 8 ⌝ }
+    ensures { λ r. ⌜ BitsBelow n j r ⌝ }
 {
-    if yes { 1 } else { 0 }
+    if n <= j * 64 {
+        return 0;
+    }
+    if j * 64 + 64 <= n {
+        return 18446744073709551615;
+    }
+    (1u64 << (n - j * 64)) - 1
 }
 
-// The totals with one handset more, by whether it is a core and by how many groups it is in.
-fn add_handset(t: Totals, core: bool, groups: u16) -> Totals
+// The totals with a word of handsets more, by the words of those in each role.
+fn add_word(t: Totals, cores: u64, borders: u64, outliers: u64, multiple: u64) -> Totals
     requires { ⌜ TotalsAtMost t 512 ⌝ }
-    ensures { λ r. ⌜ r ≡ withRole t (roleBy core groups) ⌝ }
+    ensures { λ r. ⌜ r ≡ withWords t cores borders outliers multiple ⌝ }
 {
     Totals {
-        cores: t.cores + one_if(core),
-        borders: t.borders + one_if(!core & (0 < groups)),
-        outliers: t.outliers + one_if(!core & (groups == 0)),
-        multiple: t.multiple + one_if(!core & (1 < groups)),
+        cores: t.cores + u64::count_ones(cores) as usize,
+        borders: t.borders + u64::count_ones(borders) as usize,
+        outliers: t.outliers + u64::count_ones(outliers) as usize,
+        multiple: t.multiple + u64::count_ones(multiple) as usize,
     }
 }
 
-// Adds up the roles of the handsets below n, and marks the outliers in an empty set.
-fn add_handsets(counts: &[u16], cores: &[u64], n: usize, outliers: &mut [u64]) -> Totals
-    requires { ⌜ (n ≤ 512) × ((length (now counts) ≡ 512) × (now outliers ≡ replicate 8 0)) ⌝ }
-    ensures { λ r. ⌜ RolesSummed (now (counts .entry)) (now (cores .entry)) n r (now (outliers .exit)) ⌝ }
+// Counts the roles of the handsets below n, by the sets of those in one group or more and in two or more, and the set of cores; the set that is lent gets
+// the outliers. A core is neither border nor outlier.
+fn add_words<'a>(
+    once: &'a [u64],
+    twice: &'a [u64],
+    cores: &'a [u64; 8],
+    n: usize,
+    outliers: &mut [u64],
+) -> Totals
+    requires { ⌜ (length (now once) ≡ 8) × ((length (now twice) ≡ 8) × (length (now outliers) ≡ 8)) ⌝ }
+    ensures { λ r. ⌜ WordsCounted (now (once .entry)) (now (twice .entry)) (now (cores .entry)) n r (now (outliers .exit)) ⌝ }
 {
     let mut totals = Totals {
         cores: 0,
@@ -48,27 +61,34 @@ fn add_handsets(counts: &[u16], cores: &[u64], n: usize, outliers: &mut [u64]) -
         outliers: 0,
         multiple: 0,
     };
-    let mut v: usize = 0;
-    while v < n {
-        let core = sets::has(cores, v);
-        let groups = counts[v];
-        totals = add_handset(totals, core, groups);
-        if !core & (groups == 0) {
-            sets::mark(outliers, v);
-        }
-        v += 1;
+    let mut j: usize = 0;
+    while j < 8 {
+        let all = word_below(n, j);
+        let core = all & cores[j];
+        let other = all ^ core;
+        let border = other & once[j];
+        let outlier = other ^ border;
+        outliers[j] = outlier;
+        totals = add_word(totals, core, border, outlier, border & twice[j]);
+        j += 1;
     }
     totals
 }
 
-// Counts the roles of the handsets below n, by a member table and a set of cores; the set that is lent gets the outliers. A handset's groups are counted by
-// how often it stands in the table. It looks at no more than 512 handsets and 65,535 entries; a site has no more.
-pub fn count_roles(members: &[u16], cores: &[u64], n: usize, outliers: &mut [u64; 8]) -> Totals
-    ensures { λ r. ⌜ RolesCounted (now (members .entry)) (now (cores .entry)) n r (now (outliers .exit)) ⌝ }
+// Counts the roles of the handsets below n, by the first `count` rows and a set of cores; the set that is lent gets the outliers. It looks at no more than
+// 512 handsets and 512 rows; a site has no more.
+pub fn count_roles<'a>(
+    rows: &'a [u64; sets::TABLE_WORDS],
+    count: usize,
+    cores: &'a [u64; 8],
+    n: usize,
+    outliers: &mut [u64; 8],
+) -> Totals
+    ensures { λ r. ⌜ RolesCounted (now (cores .entry)) (now (rows .entry)) (min count 512) n r (now (outliers .exit)) ⌝ }
 {
-    let bound = sets::smaller(n, 512);
-    let mut counts = [0u16; 512];
-    sets::count_entries(members, &mut counts);
+    let mut once = [0u64; 8];
+    let mut twice = [0u64; 8];
+    rows::find_members(rows, count, &mut once, &mut twice);
     *outliers = [0u64; 8];
-    add_handsets(&counts, cores, bound, outliers)
+    add_words(&once, &twice, cores, n, outliers)
 }

@@ -1,37 +1,68 @@
--- `nearest::take_closer` meets its contract, by the cases of the answer so far.
-use mathlib.Core.Path.{refl}
-use borrow.Author.Tests.{lt-ltb, le-ltb}
+-- `nearest::take_closer` meets its contract, by the cases of a handset that is farther than the nearest so far, nearer, or as near.
+use Prim.Native.Nat.{ℕ}
+use native.Mathlib.Omega.{arith}
+use mathlib.Core.Path.{_≡_, sym, subst₂}
+use mathlib.Core.List.{List}
+use denote.Ref.{now}
+use Rattle.nearest.specs.ForProofs.{wrapped, Closest, also}
+use Rattle.nearest.proofs.Taking.{closest-far, closest-same, closest-nearer}
 use borrow.Author.Needs.{needs}
-use Rattle.nearest.specs.Nearest.{closer}
 use Rattle.nearest.proofs.take_closer.Statement.{statement}
 use Rattle.nearest.proofs.take_closer.Tie as tie
 
-enum-known-best : tie.Need-enum-known-best
-enum-known-best c = search needs
+-- the places that the answers speak of
+abbrev start : tie.After-distance-to → tie.Start
+start c = c .before .before
 
-enum-told : tie.Need-enum-told
-enum-told c = search needs
+abbrev far : tie.After-distance-to → ℕ → ℕ
+far c = let a = start c .args in wrapped (now (a .point)) (now (a .handsets))
 
-enum-told-2 : tie.Need-enum-told-2
-enum-told-2 c = search needs
+cast-distance-to : tie.Need-cast-distance-to
+cast-distance-to c = search needs
+
+distance-to-requires : tie.Need-distance-to-requires
+distance-to-requires c κs = search needs
 
 returns : tie.Need-returns
-unfolding closer
-returns c = rw (c .before .before .best .given .1) (simp (lt-ltb _ _ (c .if1 .taken)))
+returns c =
+    let m = c .before in
+    let a = start m .args in
+    record { each = λ seen k. closest-far (far m) seen (a .least) (now (a .closest)) (a .v) (start m .pre) k (omega (arith, m .distance-to .ensures, c .if1 .taken)) }
+
+mark-requires : tie.Need-mark-requires
+mark-requires c κs = search needs
 
 returns-2 : tie.Need-returns-2
-unfolding closer
-returns-2 c = rw (c .before .before .best .given .1) (simp (le-ltb _ _ (c .if1 .left)))
+returns-2 c =
+    let m = c .before .before .before .before .before in
+    let a = start m .args in
+    record {
+      each = λ seen k. subst₂ (λ (d : ℕ) (ws : List ℕ). Closest (far m) (also seen (a .v)) d ws) (sym (m .distance-to .ensures)) (sym (c .mark .ensures))
+          (closest-nearer (far m) seen (a .least) (now (a .closest)) (a .v) (start m .pre) k (omega (arith, m .distance-to .ensures, c .before .before .before .if2 .taken)));
+    }
+
+mark-requires-2 : tie.Need-mark-requires-2
+mark-requires-2 c κs = search needs
 
 returns-3 : tie.Need-returns-3
-unfolding closer
-returns-3 c = rw (c .enum-told .given .1) refl
-
-returns-4 : tie.Need-returns-4
-unfolding closer
-returns-4 c = rw (c .enum-told2 .given .1) refl
+returns-3 c =
+    let m = c .before .before .before .before in
+    let a = start m .args in
+    let e : far m (a .v) ≡ a .least = omega (arith, m .distance-to .ensures, c .before .before .if2 .left, c .before .before .before .if1 .left) in
+    let d : a .least ≡ m .distance-to .result = omega (arith, m .distance-to .ensures, e) in
+    record {
+      each = λ seen k. subst₂ (λ (d : ℕ) (ws : List ℕ). Closest (far m) (also seen (a .v)) d ws) d (sym (c .mark2 .ensures))
+          (closest-same (far m) seen (a .least) (now (a .closest)) (a .v) (start m .pre) k e);
+    }
 
 pub take-closer-spec : {M : Type 1} → statement M
 take-closer-spec =
     tie.close
-    (tie.spec enum-known-best enum-told enum-told-2 returns returns-2 returns-3 returns-4)
+    (tie.spec
+    cast-distance-to
+    distance-to-requires
+    returns
+    mark-requires
+    returns-2
+    mark-requires-2
+    returns-3)

@@ -9,9 +9,9 @@ use lib.ListN.{getD}
 use borrow.Author.Needs.{needs}
 use Rattle.sets.specs.Below.{sum}
 use Rattle.bytes.specs.Bytes.{number}
-use Rattle.fields.specs.Fields.{coordinateBytes, coordinateCount, handsetBytes, shifted, gap}
-use Rattle.bytes.proofs.Bytes.{number-part}
-use Rattle.image.specs.Image.{handsetRecord, coordinateOf, gapSquared}
+use Rattle.fields.specs.Fields.{coordinateBytes, coordinateCount, handsetBytes, shifted, gap, coordinateOf}
+use Rattle.bytes.proofs.Bytes.{number-slice}
+use Rattle.image.specs.Image.{handsetRecord, gapSquared}
 use Rattle.points.specs.Points.{distanceFrom}
 use Rattle.points.proofs.distance_to.Statement.{statement}
 use Rattle.points.proofs.distance_to.Tie as tie
@@ -21,10 +21,10 @@ abbrev squares : List ℕ → List ℕ → ℕ → ℕ → ℕ
 squares point handsets v = gapSquared (λ i. getD point i 0) (coordinateOf (handsetRecord handsets v))
 
 -- a coordinate read from the records is that of the handset's record
-coordinate-at : (part : List ℕ) (v i : ℕ) → i < coordinateCount → shifted (number coordinateBytes part (handsetBytes * v + coordinateBytes * i)) ≡ coordinateOf (handsetRecord part v) i
+coordinate-at : (records : List ℕ) (v i : ℕ) → i < coordinateCount → shifted (number coordinateBytes records (handsetBytes * v + coordinateBytes * i)) ≡ coordinateOf (handsetRecord records v) i
 unfolding coordinateOf handsetRecord
-coordinate-at part v i h =
-    ap shifted (sym (number-part coordinateBytes part (handsetBytes * v) handsetBytes (coordinateBytes * i) (omega arith) (omega arith)))
+coordinate-at records v i h =
+    ap shifted (sym (number-slice coordinateBytes records (handsetBytes * v) handsetBytes (coordinateBytes * i) (omega arith) (omega arith)))
 
 -- one square more
 wrap-more : (total r d x y : ℕ) → total ≡ x % 2 ^ 64 → d ≡ y → r ≡ (total + d) % 2 ^ 64 → r ≡ (y + x) % 2 ^ 64

@@ -1,12 +1,9 @@
 -- `scores::pairs_of` meets its contract: twice the pairs, and the places, make the square of the places, which is at most 512 * 512.
-use Prim.Native.Nat.{ℕ, _+_, _*_, _≤_}
+use Prim.Native.Nat.{ℕ, _+_, _*_, _≤_, min}
 use native.Mathlib.Omega.{arith}
 use native.Mathlib.Nat.{mul-le-mul}
 use mathlib.Core.Path.{_≡_}
-use mathlib.Core.List.{List}
-use lib.ListN.{length, take, length-take}
-use denote.Ref.{now}
-use Rattle.community.specs.Scores.{pairs}
+use Rattle.scores.specs.Scored.{pairsOf}
 use Rattle.scores.proofs.Pairing.{pairs-half}
 use Rattle.scores.proofs.pairs_of.Statement.{statement}
 use Rattle.scores.proofs.pairs_of.Tie as tie
@@ -14,15 +11,8 @@ use Rattle.scores.proofs.pairs_of.Tie as tie
 smaller-requires : tie.Need-smaller-requires
 smaller-requires c κs = tt
 
--- the places looked at
-abbrev looked : tie.After-smaller → List ℕ
-looked c = take 512 (now (c .before .before .args .list))
-
-places : (c : tie.After-smaller) → c .smaller .result ≡ length (looked c)
-places c = omega (arith, c .smaller .ensures, length-take 512 (now (c .before .before .args .list)))
-
-half : (c : tie.After-smaller) → pairs (looked c) * 2 + c .smaller .result ≡ c .smaller .result * c .smaller .result
-half c = rw (places c) (pairs-half (looked c))
+half : (c : tie.After-smaller) → pairsOf (min (c .before .args .size) 512) * 2 + c .smaller .result ≡ c .smaller .result * c .smaller .result
+half c = rw (c .smaller .ensures) (pairs-half _)
 
 square : (c : tie.After-smaller) → c .smaller .result * c .smaller .result ≤ 262144
 square c = let few : c .smaller .result ≤ 512 = omega (arith, c .smaller .ensures) in mul-le-mul {n₂ = 512} {m₂ = 512} few few

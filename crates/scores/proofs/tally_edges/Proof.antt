@@ -10,9 +10,8 @@ use denote.Ref.{now}
 use Rattle.fields.specs.declared.Ends.{Ends}
 use Rattle.sets.specs.Below.{bit}
 use Rattle.image.specs.Image.{endA, endB}
-use Rattle.image.proofs.Records.{ends-part}
 use Rattle.community.specs.Scores.{everyEdge, justOne}
-use Rattle.scores.specs.Held.{joinedSum, leavingSum}
+use Rattle.scores.specs.ForProofs.{joinedSum, leavingSum}
 use Rattle.sets.proofs.Counting.{bit-le}
 use Rattle.scores.proofs.Entries.{joined-none, leaving-none, joined-more, leaving-more, joined-le, leaving-le, ties-le}
 use Rattle.scores.proofs.tally_edges.Statement.{statement}
@@ -28,10 +27,10 @@ abbrev μ-loop : tie.MeasureT-loop
 abbrev start : tie.At-loop Inv-loop μ-loop → tie.Start Inv-loop μ-loop
 start c = c .before .before .before
 
-abbrev turn : tie.After-held2 Inv-loop μ-loop → tie.At-loop Inv-loop μ-loop
-turn c = c .before .before .before .before .before
+abbrev turn : tie.After-at-or-zero2 Inv-loop μ-loop → tie.At-loop Inv-loop μ-loop
+turn c = c .before .before .before .before
 
-abbrev read : tie.After-held2 Inv-loop μ-loop → tie.After-read-ends Inv-loop μ-loop
+abbrev read : tie.After-at-or-zero2 Inv-loop μ-loop → tie.After-ends-at Inv-loop μ-loop
 read c = c .before .before
 
 -- ---- their parts: the edges, the table, the number of the edge, what the table holds for its ends
@@ -41,58 +40,41 @@ edges-of c = now (start c .args .edges)
 abbrev table-of : tie.At-loop Inv-loop μ-loop → List ℕ
 table-of c = now (start c .args .table)
 
-abbrev a-of : tie.After-held2 Inv-loop μ-loop → ℕ
-a-of c = c .before .held .result
+abbrev a-of : tie.After-at-or-zero2 Inv-loop μ-loop → ℕ
+a-of c = c .before .at-or-zero .result
 
-abbrev b-of : tie.After-held2 Inv-loop μ-loop → ℕ
-b-of c = c .held2 .result
+abbrev b-of : tie.After-at-or-zero2 Inv-loop μ-loop → ℕ
+b-of c = c .at-or-zero2 .result
 
--- the record holds the ends of edge k
-ends-are : (c : tie.After-held2 Inv-loop μ-loop)
-    → (let l = turn c in read c .read-ends .result ≡ record { a = endA (edges-of l) (l .loop .k); b = endB (edges-of l) (l .loop .k) })
-ends-are c =
-    let l = turn c in
-    read c .read-ends .ensures ∙ ends-part (edges-of l) (l .loop .k) (omega (arith, start l .pre .0, c .before .before .before .before .loop-test .taken))
+-- the ends that are read are those of edge k
+ends-are : (c : tie.After-at-or-zero2 Inv-loop μ-loop)
+    → (let l = turn c in let e = read c .ends-at .result in (e .a ≡ endA (edges-of l) (l .loop .k)) × (e .b ≡ endB (edges-of l) (l .loop .k)))
+ends-are c = let e = read c .ends-at .ensures in (ap (λ (x : Ends). x .a) e, ap (λ (x : Ends). x .b) e)
 
 -- the two counts are what the table holds for the two ends
-a-is : (c : tie.After-held2 Inv-loop μ-loop) → (let l = turn c in a-of c ≡ getD (table-of l) (endA (edges-of l) (l .loop .k)) 0)
-a-is c = c .before .held .ensures ∙ ap (λ (e : Ends). getD (table-of (turn c)) (e .a) 0) (ends-are c)
+a-is : (c : tie.After-at-or-zero2 Inv-loop μ-loop) → (let l = turn c in a-of c ≡ getD (table-of l) (endA (edges-of l) (l .loop .k)) 0)
+a-is c = c .before .at-or-zero .ensures ∙ ap (λ (v : ℕ). getD (table-of (turn c)) v 0) (ends-are c .0)
 
-b-is : (c : tie.After-held2 Inv-loop μ-loop) → (let l = turn c in b-of c ≡ getD (table-of l) (endB (edges-of l) (l .loop .k)) 0)
-b-is c = c .held2 .ensures ∙ ap (λ (e : Ends). getD (table-of (turn c)) (e .b) 0) (ends-are c)
+b-is : (c : tie.After-at-or-zero2 Inv-loop μ-loop) → (let l = turn c in b-of c ≡ getD (table-of l) (endB (edges-of l) (l .loop .k)) 0)
+b-is c = c .at-or-zero2 .ensures ∙ ap (λ (v : ℕ). getD (table-of (turn c)) v 0) (ends-are c .1)
 
-small : (c : tie.After-held2 Inv-loop μ-loop) → a-of c * b-of c ≤ 262144
+small : (c : tie.After-at-or-zero2 Inv-loop μ-loop) → a-of c * b-of c ≤ 262144
 small c =
     let l = turn c in
-    omega (arith, ap₂ _*_ (a-is c) (b-is c), ties-le (table-of l) (edges-of l) everyEdge (start l .pre .2) (l .loop .k))
+    omega (arith, ap₂ _*_ (a-is c) (b-is c), ties-le (table-of l) (edges-of l) everyEdge (start l .pre .1) (l .loop .k))
 
 -- ---- the answers
 loop-holds : tie.Need-loop-holds Inv-loop μ-loop
 loop-holds c = (omega arith, sym (joined-none _ _ everyEdge), sym (leaving-none _ _ everyEdge))
 
-mul-at : tie.Need-mul-at Inv-loop μ-loop
-mul-at c = omega (arith, start (c .before) .pre .1)
+ends-at-requires : tie.Need-ends-at-requires Inv-loop μ-loop
+ends-at-requires c κs = tt
 
-add-past : tie.Need-add-past Inv-loop μ-loop
-add-past c = omega (arith, start (c .before) .pre .1)
+at-or-zero-requires : tie.Need-at-or-zero-requires Inv-loop μ-loop
+at-or-zero-requires c κs = tt
 
-sub-read-ends : tie.Need-sub-read-ends Inv-loop μ-loop
-sub-read-ends c = omega arith
-
-part-read-ends-start : tie.Need-part-read-ends-start Inv-loop μ-loop
-part-read-ends-start c = omega arith
-
-part-read-ends-end : tie.Need-part-read-ends-end Inv-loop μ-loop
-part-read-ends-end c = omega (arith, start (c .before) .pre .0)
-
-read-ends-requires : tie.Need-read-ends-requires Inv-loop μ-loop
-read-ends-requires c κs = tt
-
-held-requires : tie.Need-held-requires Inv-loop μ-loop
-held-requires c κs = tt
-
-held-requires-2 : tie.Need-held-requires-2 Inv-loop μ-loop
-held-requires-2 c κs = tt
+at-or-zero-requires-2 : tie.Need-at-or-zero-requires-2 Inv-loop μ-loop
+at-or-zero-requires-2 c κs = tt
 
 mul-joined : tie.Need-mul-joined Inv-loop μ-loop
 mul-joined c = omega (arith, small c)
@@ -100,7 +82,7 @@ mul-joined c = omega (arith, small c)
 add-joined : tie.Need-add-joined Inv-loop μ-loop
 add-joined c =
     let l = turn c in
-    omega (arith, small c, l .loop .inv .1, joined-le (table-of l) (edges-of l) everyEdge (start l .pre .2) (l .loop .k), start l .pre .1)
+    omega (arith, small c, l .loop .inv .1, joined-le (table-of l) (edges-of l) everyEdge (start l .pre .1) (l .loop .k), start l .pre .0)
 
 just-one-requires : tie.Need-just-one-requires Inv-loop μ-loop
 just-one-requires c κs = tt
@@ -112,13 +94,13 @@ add-leaving c =
       arith,
       l .loop .inv .2,
       leaving-le (table-of l) (edges-of l) everyEdge (l .loop .k),
-      start l .pre .1,
+      start l .pre .0,
       c .just-one .ensures,
       bit-le (justOne (leb 1 (a-of (c .before))) (leb 1 (b-of (c .before)))),
     )
 
 add-k : tie.Need-add-k Inv-loop μ-loop
-add-k c = omega (arith, start (turn (c .before)) .pre .1)
+add-k c = omega (arith, start (turn (c .before)) .pre .0)
 
 loop-less : tie.Need-loop-less Inv-loop μ-loop
 loop-less c = omega arith
@@ -149,14 +131,9 @@ tally-edges-spec =
     Inv-loop
     μ-loop
     loop-holds
-    mul-at
-    add-past
-    sub-read-ends
-    part-read-ends-start
-    part-read-ends-end
-    read-ends-requires
-    held-requires
-    held-requires-2
+    ends-at-requires
+    at-or-zero-requires
+    at-or-zero-requires-2
     mul-joined
     add-joined
     just-one-requires

@@ -1,22 +1,23 @@
 -- `scores::tally_list` meets its contract: a refused image gives its refusal. An opened one is accepted, the scan of the entries stops at the first bad
--- one, or there is none and the list is within its limits, and the part from the offset to the end of the edge records is theirs.
+-- one, or there is none and the list is within its limits, and the slice from the offset to the end of the edge records is theirs.
 use Prim.Native.Nat.{ℕ, _+_, _*_, _≤_}
 use native.Mathlib.Omega.{arith}
-use native.Mathlib.Nat.{add-sub-cancel-left}
 use mathlib.Core.Path.{_≡_, sym, ap, _∙_}
 use mathlib.Core.List.{List}
-use lib.ListN.{length, take, drop, length-take, length-drop}
+use lib.ListN.{length}
 use denote.Ref.{now}
 use Rattle.sets.specs.Below.{find}
 use Rattle.fields.specs.Fields.{edgeBytes}
+use Rattle.limits.specs.Limits.{handsetsMost, edgesMost}
 use Rattle.image.proofs.Answers.{open-same}
+use Rattle.image.proofs.Records.{edgeSlice}
 use Rattle.image.specs.Questions.{openOf, refusalOf}
 use Rattle.image.specs.declared.Header.{Header}
 use Rattle.image.specs.declared.Opened.the-variants as O
 use Rattle.community.specs.Scores.{everyEdge}
 use Rattle.scores.specs.Scored.{badEntry}
 use Rattle.scores.specs.Answers.{tallyAnswer}
-use Rattle.scores.specs.Held.{tallyAt}
+use Rattle.scores.specs.ForProofs.{tallyAt}
 use Rattle.scores.specs.declared.Tally.{Tally}
 use Rattle.scores.specs.declared.Tallied.the-variants as T
 use Rattle.scores.proofs.Entries.{listed, entries-no, none-bad, entries-yes}
@@ -49,7 +50,7 @@ abbrev header : tie.After-known-told → Header
 header c = c .before .opened .given .0 .0
 
 abbrev tally : tie.After-known-told → Tally
-tally c = let h = header c in tallyAt (take (edgeBytes * h .m) (drop (h .edges) (image-of (read c)))) (h .m) everyEdge (list-of (read c))
+tally c = let h = header c in tallyAt (edgeSlice (image-of (read c)) h) (h .m) everyEdge (list-of (read c))
 
 -- the reader's answer
 opened-is : (c : tie.After-open) → c .open .result ≡ openOf (image-of c)
@@ -59,7 +60,7 @@ answered : (c : tie.After-known-told) → openOf (image-of (read c)) ≡ O.Site 
 answered c = sym (opened-is (read c)) ∙ c .before .opened .given .1
 
 -- the bounds of its header
-fits : (c : tie.After-known-told) → (let h = header c in (h .edges + edgeBytes * h .m ≤ length (image-of (read c))) × (h .m ≤ 4096) × (h .n ≤ 512))
+fits : (c : tie.After-known-told) → (let h = header c in (h .edges + edgeBytes * h .m ≤ length (image-of (read c))) × (h .m ≤ edgesMost) × (h .n ≤ handsetsMost))
 fits c = site-fits (image-of (read c)) (header c) (answered c)
 
 -- where the scan of the entries stopped
@@ -124,11 +125,8 @@ tally-listed-requires c κs =
     let g = good (c .before) in
     let k = known (g .before) in
     let l = list-of (read k) in
-    let f = fits k in (
-      simp (length-take, length-drop) (omega (arith, f .0)),
-      f .1,
-      listed (header k .n) l (f .2) (none-bad (header k .n) l (tally k) _ (scanned (g .before)) (g .if1 .left)),
-    )
+    let f = fits k in
+    (f .1, listed (header k .n) l (f .2) (none-bad (header k .n) l (tally k) _ (scanned (g .before)) (g .if1 .left)))
 
 returns-3 : tie.Need-returns-3
 returns-3 c =
@@ -138,9 +136,7 @@ returns-3 c =
     let s = image-of (read k) in
     let l = list-of (read k) in
     ap tallyAnswer
-    (ap T.Of (c .tally-listed .ensures ∙ ap (λ (w : ℕ). tallyAt (take w (drop (h .edges) s)) (h .m) everyEdge l) (add-sub-cancel-left (h .edges) (edgeBytes * h .m)))
-    ∙ entries-yes (h .n) l (tally k) _ (scanned (g .before)) (g .if1 .left)
-    ∙ site-tallied s h (answered k) l)
+    (ap T.Of (c .tally-listed .ensures) ∙ entries-yes (h .n) l (tally k) _ (scanned (g .before)) (g .if1 .left) ∙ site-tallied s h (answered k) l)
 
 pub tally-list-spec : {M : Type 1} → statement M
 tally-list-spec =

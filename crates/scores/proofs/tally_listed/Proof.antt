@@ -1,10 +1,11 @@
 -- `scores::tally_listed` meets its contract: the table holds the list's multiplicities, and the counts by it are the tally.
 use Prim.Native.Nat.{ℕ}
 use mathlib.Core.List.{List}
-use lib.Seq.{take-all}
+use mathlib.Core.Path.{refl}
 use denote.Ref.{now}
 use Rattle.community.specs.Scores.{everyEdge}
-use Rattle.scores.specs.Held.{Multiplicities}
+use Rattle.scores.specs.ForProofs.{Multiplicities}
+use Rattle.scores.proofs.Pairing.{pairs-few}
 use Rattle.scores.proofs.Entries.{counted, table-le, table-tally}
 use borrow.Author.Needs.{needs}
 use Rattle.scores.proofs.tally_listed.Statement.{statement}
@@ -35,19 +36,19 @@ pairs-of-requires c κs = search needs
 
 -- it holds the multiplicities
 held : (c : tie.After-count-entries) → Multiplicities (table-of c) (list-of c)
-held c = counted (list-of c) (table-of c) (start (c .before) .pre .2) (c .count-entries .ensures)
+held c = counted (list-of c) (table-of c) (start (c .before) .pre .1) (c .count-entries .ensures)
 
 tally-edges-requires : tie.Need-tally-edges-requires
 tally-edges-requires c κs =
     let e = entries (c .before) in
     let p = start (e .before) .pre in
-    (p .0, p .1, table-le (list-of e) (table-of e) (p .2) (held e))
+    (p .0, table-le (list-of e) (table-of e) (p .1) (held e))
 
 returns : tie.Need-returns
 returns c =
     let e = entries (c .before .before) in
     let s = start (e .before) in
-    rw (c .tally-edges .ensures, c .before .pairs-of .ensures, take-all 512 (list-of e) (s .pre .2 .short))
+    rw (c .tally-edges .ensures, c .before .pairs-of .ensures, pairs-few (list-of e) _ refl (s .pre .1 .short))
     (table-tally (now (s .args .edges)) (s .args .m) everyEdge (list-of e) (table-of e) (held e))
 
 pub tally-listed-spec : {M : Type 1} → statement M
