@@ -1,8 +1,9 @@
 -- The cases of the report's answer: of a refused image, and of a text that fits the buffer or does not; and what the program makes of each.
 --
 --     report-same                          two answers with the same number, place and values are the same
---     site-answer, refused-answer          the call's answer and the buffer after it, for an accepted image and for a refused one
---     filled-written, filled-refused       a text that is measured, and then written where it fits
+--     report-accepted, report-refused      the answer for an accepted image and for a refused one; after-accepted, after-refused: the buffer
+--     site-answer, refused-answer          the outcome of the call for each
+--     filled-written, filled-refused       a text that is written where it fits; filled-same: the same of an equal text
 --     program-long                         an input of more than 65,536 bytes
 --     program-written, program-refused     what the program prints after either answer
 use Prim.Native.Nat.{ℕ, _+_, _≤_, _<_}
@@ -17,13 +18,13 @@ use Rattle.sets.proofs.Writing.{sets-front}
 use Rattle.image.specs.Questions.{Accepted, openOf}
 use Rattle.image.specs.Answers.{Answer, refusal}
 use Rattle.image.specs.declared.Refusal.{Refusal}
-use Rattle.image.specs.declared.Opened.{Opened}
 use Rattle.image.specs.declared.Opened.the-variants as O
-use Rattle.image.proofs.Acceptance.{opened}
+use Rattle.image.proofs.Acceptance.{when-accepted, when-refused, when-either}
 use Rattle.image.proofs.Answers.{given-refused, refused-same}
 use Rattle.text.specs.Text.{Wrote}
-use Rattle.reporting.specs.Report.{reportText, writtenOf, writtenIn, reportFor, reportOf, afterFor, textAfter, refusedText, printed, programText, reportAnswer, ReportCall, OneAnswer}
-use Rattle.reporting.specs.Held.{Filled}
+use Rattle.reporting.specs.Report.{reportText, writtenOf, writtenIn, reportOf, textAfter, printed, programText, reportAnswer, ReportCall, OneAnswer}
+use Rattle.reporting.specs.ForProofs.{Filled}
+use Rattle.lines.specs.Lines.{refusedText}
 use Rattle.reporting.specs.declared.Reported.{Reported}
 use Rattle.reporting.specs.declared.Reported.the-variants as R
 
@@ -36,19 +37,28 @@ report-same (R.Refused r) (R.Refused q) e = ap R.Refused (refused-same r q e)
 pub one-answer : OneAnswer
 one-answer = record { reported = report-same }
 
+module _ (s : List ℕ) where
+  pub report-accepted : (room : ℕ) → Accepted s → reportOf s room ≡ writtenOf (reportText s) room
+  unfolding reportOf
+  report-accepted room a = when-accepted s (λ h. writtenOf (reportText s) room) R.Refused a
+
+  pub report-refused : (room : ℕ) (r : Refusal) → openOf s ≡ O.Refused r → reportOf s room ≡ R.Refused r
+  unfolding reportOf
+  report-refused room r e = when-refused s (λ h. writtenOf (reportText s) room) R.Refused r e
+
+  pub after-accepted : (l : List ℕ) → Accepted s → textAfter s l ≡ writtenIn (reportText s) l
+  unfolding textAfter
+  after-accepted l a = when-accepted s (λ h. writtenIn (reportText s) l) (λ r. l) a
+
+  pub after-refused : (l : List ℕ) (r : Refusal) → openOf s ≡ O.Refused r → textAfter s l ≡ l
+  unfolding textAfter
+  after-refused l r e = when-refused s (λ h. writtenIn (reportText s) l) (λ r. l) r e
+
 pub site-answer : {s l l′ : List ℕ} {r : Reported} → Accepted s → Filled (reportText s) l r l′ → ReportCall s l r l′
-unfolding reportOf textAfter
-site-answer {s} {l} a f = record {
-  answer = ap reportAnswer (f .answer ∙ sym (ap (λ (o : Opened). reportFor s o (length l)) (opened s a)));
-  text = f .text ∙ sym (ap (λ (o : Opened). afterFor s o l) (opened s a));
-}
+site-answer {s} {l} a f = record { answer = ap reportAnswer (f .answer ∙ sym (report-accepted s (length l) a)); text = f .text ∙ sym (after-accepted s l a) }
 
 pub refused-answer : (s l : List ℕ) (r : Refusal) → openOf s ≡ O.Refused r → ReportCall s l (R.Refused r) l
-unfolding reportOf textAfter
-refused-answer s l r e = record {
-  answer = ap reportAnswer (sym (ap (λ (o : Opened). reportFor s o (length l)) e));
-  text = sym (ap (λ (o : Opened). afterFor s o l) e);
-}
+refused-answer s l r e = record { answer = ap reportAnswer (sym (report-refused s (length l) r e)); text = sym (after-refused s l r e) }
 
 -- a written answer is that of a text that fits
 written-fits : (t l : List ℕ) (k : ℕ) → R.Written k ≡ writtenOf t (length l) → (k ≡ length t) × (length t ≤ length l)
@@ -59,20 +69,20 @@ written-fits t l k q = go (leb (length t) (length l)) refl q
     go true e q = (cc, leb-true (length t) (length l) e)
     go false e q = let z : _≡_ {A = ℕ} 0 1 = cc in absurd (omega arith)
 
--- a text that is measured, in any buffer, and then written where it fits
-module _ {t u l m m′ : List ℕ} {need : ℕ} (same : t ≡ u) (small : length l < 9223372036854775808) (measured : Wrote m 0 t m′ need) where
-  pub filled-written : {l′ : List ℕ} {k : ℕ} → need ≤ length l → Wrote l 0 t l′ k → Filled u l (R.Written k) l′
+-- a text that is written where it fits
+module _ {t l : List ℕ} where
+  pub filled-written : {l′ : List ℕ} {k : ℕ} → length l < 9223372036854775808 → length t ≤ length l → Wrote l 0 t l′ k → Filled t l (R.Written k) l′
   unfolding writtenOf writtenIn
-  filled-written {l′} {k} h q =
-      let fits : length t ≤ length l = omega (arith, measured .next) in
+  filled-written {l′} {k} small fits q =
       let e : k ≡ length t = omega (arith, q .next) in
-      rw (← same) (record { answer = simp (le-leb _ _ fits) (ap R.Written e); text = simp (le-leb _ _ fits) (q .list ∙ sets-front l t fits) })
+      record { answer = simp (le-leb _ _ fits) (ap R.Written e); text = simp (le-leb _ _ fits) (q .list ∙ sets-front l t fits) }
 
-  pub filled-refused : length l < need → Filled u l (R.Refused (refusal 16)) l
+  pub filled-refused : length l < length t → Filled t l (R.Refused (refusal 16)) l
   unfolding writtenOf writtenIn
-  filled-refused h =
-      let short : length l < length t = omega (arith, measured .next) in
-      rw (← same) (record { answer = simp (lt-leb _ _ short); text = simp (lt-leb _ _ short) })
+  filled-refused short = record { answer = simp (lt-leb _ _ short); text = simp (lt-leb _ _ short) }
+
+pub filled-same : {t u l l′ : List ℕ} {r : Reported} → t ≡ u → Filled t l r l′ → Filled u l r l′
+filled-same {l = l} {l′} {r} e f = subst (λ (x : List ℕ). Filled x l r l′) e f
 
 -- a refusal leaves the buffer as it was
 refused-keeps : (t l : List ℕ) (r : Refusal) → R.Refused r ≡ writtenOf t (length l) → writtenIn t l ≡ l
@@ -96,26 +106,27 @@ unfolding programText
 program-short s room h = simp (le-ltb _ _ h)
 
 module _ (s l : List ℕ) (short : length s ≤ 65536) where
+  -- what holds of an accepted image and of a refused one
+  by-answer : {X : Type 0} → (Accepted s → X) → ((r : Refusal) → openOf s ≡ O.Refused r → X) → X
+  by-answer {X} f g = when-either s (λ h. l) (λ r. l) (λ (_ : List ℕ). X) f g
+
   written-text : (l′ : List ℕ) (k : ℕ) → length l < 9223372036854775808 → ReportCall s l (R.Written k) l′ → Wrote l 0 (reportText s) l′ k
-  unfolding reportOf textAfter
-  written-text l′ k small call = go (openOf s) refl (report-same (R.Written k) (reportOf s (length l)) (call .answer))
-    where
-      go : (o : Opened) → openOf s ≡ o → R.Written k ≡ reportFor s o (length l) → Wrote l 0 (reportText s) l′ k
-      go (O.Refused r) e q = let z : _≡_ {A = ℕ} 0 1 = cc in absurd (omega arith)
-      go (O.Site h) e q =
-          let f = written-fits (reportText s) l k q in
-          record {
-            list = call .text ∙ ap (λ (o : Opened). afterFor s o l) e ∙ in-front (reportText s) l (f .1) ∙ sym (sets-front l (reportText s) (f .1));
-            next = omega (arith, f .0, f .1);
-          }
+  written-text l′ k small call =
+      let same : R.Written k ≡ reportOf s (length l) = report-same (R.Written k) (reportOf s (length l)) (call .answer) in
+      by-answer
+      (λ a.
+      let f = written-fits (reportText s) l k (same ∙ report-accepted s (length l) a) in
+      record {
+        list = call .text ∙ after-accepted s l a ∙ in-front (reportText s) l (f .1) ∙ sym (sets-front l (reportText s) (f .1));
+        next = omega (arith, f .0, f .1);
+      })
+      (λ r e. let q : R.Written k ≡ R.Refused r = same ∙ report-refused s (length l) r e in let z : _≡_ {A = ℕ} 0 1 = cc in absurd (omega arith))
 
   refused-text : (l′ : List ℕ) (r : Refusal) → ReportCall s l (R.Refused r) l′ → l′ ≡ l
-  unfolding reportOf textAfter
-  refused-text l′ r call = call .text ∙ go (openOf s) refl (report-same (R.Refused r) (reportOf s (length l)) (call .answer))
-    where
-      go : (o : Opened) → openOf s ≡ o → R.Refused r ≡ reportFor s o (length l) → afterFor s (openOf s) l ≡ l
-      go (O.Refused x) e q = ap (λ (o : Opened). afterFor s o l) e
-      go (O.Site h) e q = ap (λ (o : Opened). afterFor s o l) e ∙ refused-keeps (reportText s) l r q
+  refused-text l′ r call =
+      let same : R.Refused r ≡ reportOf s (length l) = report-same (R.Refused r) (reportOf s (length l)) (call .answer) in
+      call .text
+      ∙ by-answer (λ a. after-accepted s l a ∙ refused-keeps (reportText s) l r (same ∙ report-accepted s (length l) a)) (λ x e. after-refused s l x e)
 
   pub program-written : (l′ : List ℕ) (k : ℕ) (answer : Reported) → length l < 9223372036854775808 → answer ≡ R.Written k
       → ReportCall s l answer l′ → Wrote l 0 (programText s (length l)) l′ k

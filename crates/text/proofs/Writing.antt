@@ -1,12 +1,14 @@
 -- How writes follow one another, and how the texts that a loop writes grow by one step.
 --
 --     chain                        a write after a write is one write
+--     from-start, chain-from       so from a buffer and a position that are known by an equation
 --     nothing                      no bytes written: the position alone is capped
 --     digits-small, digits-large   the last digit, and a digit more
+--     decimal-one, decimal-two, decimal-three    a number below 10, below 100 and below 1,000
 --     numbers-one                  the numbers of a table, one more
 --     members-yes, members-no      the members of a set below a bound, one bound more
 use Prim.Native.Nat.{ℕ, zero, suc, _+_, _-_, _/_, _%_, _≤_, _<_, min}
-use mathlib.Core.Path.{_≡_, refl, sym, ap, _∙_}
+use mathlib.Core.Path.{_≡_, refl, sym, ap, _∙_, subst₂}
 use mathlib.Core.Bool.{Bool, not}
 use mathlib.Core.List.{List, [], _∷_, _++_, append-assoc, append-nil}
 use native.Mathlib.Omega.{arith}
@@ -39,6 +41,14 @@ chain {l} {l₁} {l₂} {at} {r₁} {r₂} {vs} {ws} h p q = record {
   next = omega (arith, length-append vs ws, p .next, q .next);
 }
 
+-- a write from a buffer and a position that are known by an equation
+pub from-start : {l l₁ l₂ : List ℕ} {at r₁ r₂ : ℕ} {vs : List ℕ} → l₁ ≡ l → r₁ ≡ at → Wrote l₁ r₁ vs l₂ r₂ → Wrote l at vs l₂ r₂
+from-start {l₂ = l₂} {r₂ = r₂} {vs} e d w = subst₂ (λ (m : List ℕ) (k : ℕ). Wrote m k vs l₂ r₂) e d w
+
+pub chain-from : {l l₁ l₂ m : List ℕ} {at r₁ r₂ k : ℕ} {vs ws : List ℕ} → length l ≤ 9223372036854775808 → m ≡ l₁ → k ≡ r₁
+    → Wrote l at vs l₁ r₁ → Wrote m k ws l₂ r₂ → Wrote l at (vs ++ ws) l₂ r₂
+chain-from h e d p q = chain h p (from-start e d q)
+
 pub nothing : (l : List ℕ) (at r : ℕ) → r ≡ min at 9223372036854775808 → Wrote l at [] l r
 nothing l at r e = record { list = refl; next = omega arith }
 
@@ -52,14 +62,35 @@ unfolding digitsOf
 digits-large zero n any h = absurd (any refl)
 digits-large (suc k) n any h = simp (le-ltb _ _ h) (ap (λ (j : ℕ). digitsOf j (n / 10) ++ ((48 + n % 10) ∷ [])) (sym (sub-one (suc k))))
 
-pub numbers-append : (a b : List ℕ) → numbers (a ++ b) ≡ numbers a ++ numbers b
-unfolding numbers
-numbers-append [] b = refl
-numbers-append (x ∷ a) b = ap (λ (l : List ℕ). (32 ∷ decimal x) ++ l) (numbers-append a b) ∙ sym (append-assoc (32 ∷ decimal x) (numbers a) (numbers b))
+pub decimal-one : (n : ℕ) → n < 10 → decimal n ≡ (48 + n % 10) ∷ []
+unfolding decimal
+decimal-one n h = digits-small 20 n (λ e. omega arith) h ∙ ap (λ (d : ℕ). (48 + d) ∷ []) (let e : n ≡ n % 10 = omega arith in e)
+
+pub decimal-two : (n : ℕ) → 10 ≤ n → n < 100 → decimal n ≡ ((48 + n / 10 % 10) ∷ []) ++ ((48 + n % 10) ∷ [])
+unfolding decimal
+decimal-two n l h =
+    digits-large 20 n (λ e. omega arith) l
+    ∙ ap (λ (d : List ℕ). d ++ ((48 + n % 10) ∷ []))
+    (digits-small 19 (n / 10) (λ e. omega arith) (omega arith) ∙ ap (λ (d : ℕ). (48 + d) ∷ []) (let e : n / 10 ≡ n / 10 % 10 = omega arith in e))
+
+pub decimal-three : (n : ℕ) → 100 ≤ n → n < 1000 → decimal n ≡ (((48 + n / 100) ∷ []) ++ ((48 + n / 10 % 10) ∷ [])) ++ ((48 + n % 10) ∷ [])
+unfolding decimal
+decimal-three n l h =
+    let tens : n / 10 / 10 ≡ n / 100 = omega arith in
+    digits-large 20 n (λ e. omega arith) (omega arith)
+    ∙ ap (λ (d : List ℕ). d ++ ((48 + n % 10) ∷ []))
+    (digits-large 19 (n / 10) (λ e. omega arith) (omega arith)
+    ∙ ap (λ (d : List ℕ). d ++ ((48 + n / 10 % 10) ∷ []))
+    (digits-small 18 (n / 10 / 10) (λ e. omega arith) (omega arith) ∙ ap (λ (k : ℕ). (48 + k) ∷ []) tens))
 
 one-number : (x : ℕ) → numbers (x ∷ []) ≡ 32 ∷ decimal x
 unfolding numbers
 one-number x = append-nil (32 ∷ decimal x)
+
+pub numbers-append : (a b : List ℕ) → numbers (a ++ b) ≡ numbers a ++ numbers b
+unfolding numbers
+numbers-append [] b = refl
+numbers-append (x ∷ a) b = ap (λ (l : List ℕ). (32 ∷ decimal x) ++ l) (numbers-append a b) ∙ sym (append-assoc (32 ∷ decimal x) (numbers a) (numbers b))
 
 pub numbers-one : (l : List ℕ) (i : ℕ) → i < length l → numbers (take (i + 1) l) ≡ numbers (take i l) ++ (32 ∷ decimal (getD l i 0))
 numbers-one l i h =

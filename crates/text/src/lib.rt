@@ -2,13 +2,12 @@
 // it writes nothing and still counts, so the same functions measure a text and write it. Positions stop at 2^63, which no buffer reaches.
 //
 // Every contract is the record Wrote of specs/Text; runs of writes are joined by the law `chain` of proofs/Writing.
-ghost use Prim.Native.Nat.{_<_, min};
+ghost use Prim.Native.Nat.{_+_, _*_, _<_, min};
 ghost use mathlib.Core.Path.{_≡_};
 ghost use mathlib.Core.List.{[], _∷_};
-ghost use lib.Dec.{eqb};
-ghost use lib.ListN.{getD};
+ghost use lib.ListN.{length};
 ghost use Rattle.text.specs.Text.{Wrote, digitsOf, decimal, numbers, elementsOf};
-ghost use Rattle.text.specs.Held.{Skips};
+ghost use Rattle.text.specs.ForProofs.{MembersWritten};
 
 // Writes one byte.
 pub fn put(text: &mut [u8], at: usize, byte: u8) -> usize
@@ -63,10 +62,28 @@ fn put_digits(text: &mut [u8], at: usize, k: u32, n: u64) -> usize
     put(text, next, (48 + n % 10) as u8)
 }
 
+// Writes the one, two or three digits of a number below 1,000, with no leading zero.
+fn put_short(text: &mut [u8], at: usize, n: u64) -> usize
+    requires { ⌜ n < 1000 ⌝ }
+    ensures { λ r. ⌜ Wrote (now (text .entry)) at (decimal n) (now (text .exit)) r ⌝ }
+{
+    let mut next = at;
+    if 100 <= n {
+        next = put(text, next, (48 + n / 100) as u8);
+    }
+    if 10 <= n {
+        next = put(text, next, (48 + n / 10 % 10) as u8);
+    }
+    put(text, next, (48 + n % 10) as u8)
+}
+
 // Writes n in decimal, with no leading zero; 0 is one digit.
 pub fn put_decimal(text: &mut [u8], at: usize, n: u64) -> usize
     ensures { λ r. ⌜ Wrote (now (text .entry)) at (decimal n) (now (text .exit)) r ⌝ }
 {
+    if n < 1000 {
+        return put_short(text, at, n);
+    }
     put_digits(text, at, 20, n)
 }
 
@@ -74,7 +91,7 @@ pub fn put_decimal(text: &mut [u8], at: usize, n: u64) -> usize
 fn put_number(text: &mut [u8], at: usize, n: u64) -> usize
     ensures { λ r. ⌜ Wrote (now (text .entry)) at (32 ∷ decimal n) (now (text .exit)) r ⌝ }
 {
-    let next = put_all(text, at, b" ");
+    let next = put(text, at, 32);
     put_decimal(text, next, n)
 }
 
@@ -91,36 +108,31 @@ pub fn put_numbers(text: &mut [u8], at: usize, table: &[u16]) -> usize
     next
 }
 
-// Whether word j of a set is empty, or not there.
-fn is_empty(set: &[u64], j: usize) -> bool
-    ensures { λ r. ⌜ r ≡ eqb (getD (now (set .entry)) j 0) 0 ⌝ }
+// Writes each member in word j of a set of bits after a space, ascending.
+fn put_word(text: &mut [u8], at: usize, set: &[u64], j: usize) -> usize
+    requires { ⌜ (j < length (now set)) × (j < 8) ⌝ }
+    ensures { λ r. ⌜ MembersWritten (now (set .entry)) (j * 64) (j * 64 + 64) (now (text .entry)) at (now (text .exit)) r ⌝ }
 {
-    if j < set.len() { set[j] == 0 } else { true }
-}
-
-// The number to look at after v: the next one, or the next word's first where v is the first of an empty word.
-fn after(set: &[u64], v: usize) -> usize
-    requires { ⌜ v < 512 ⌝ }
-    ensures { λ r. ⌜ Skips (now (set .entry)) v r ⌝ }
-{
-    if (v % 64 == 0) & is_empty(set, v / 64) {
-        v + 64
-    } else {
-        v + 1
+    let mut w = set[j];
+    let mut next = capped(at);
+    while w != 0 {
+        let k = u64::trailing_zeros(w);
+        next = put_number(text, next, (j * 64 + k as usize) as u64);
+        w = w & (w - 1);
     }
+    next
 }
 
-// Writes each member below 512 of a set of bits after a space, ascending; a number past the last word is in no set. Empty words are skipped.
+// Writes each member below 512 of a set of bits after a space, ascending; a number past the last word is in no set.
 pub fn put_members(text: &mut [u8], at: usize, set: &[u64]) -> usize
     ensures { λ r. ⌜ Wrote (now (text .entry)) at (numbers (elementsOf (now (set .entry)))) (now (text .exit)) r ⌝ }
 {
-    let mut v: usize = 0;
+    let count = sets::smaller(set.len(), 8);
     let mut next = capped(at);
-    while v < 512 {
-        if sets::has(set, v) {
-            next = put_number(text, next, v as u64);
-        }
-        v = after(set, v);
+    let mut j: usize = 0;
+    while j < count {
+        next = put_word(text, next, set, j);
+        j += 1;
     }
     next
 }

@@ -16,7 +16,7 @@ abbrev start : tie.After-report → tie.Start
 start c = c .before .before .before .before .before
 
 put-refusal-requires : tie.Need-put-refusal-requires
-put-refusal-requires c κs = search needs
+put-refusal-requires c κs = tt
 
 same-length : tie.Need-same-length
 same-length c = omega arith
@@ -28,7 +28,7 @@ returns c =
     rw (program-long (now (a .input)) (length (now (a .out))) (w .before .before .if1 .taken)) (w .put-refusal .ensures)
 
 report-requires : tie.Need-report-requires
-report-requires c κs = search needs
+report-requires c κs = tt
 
 enum-known-reported : tie.Need-enum-known-reported
 enum-known-reported c = search needs
@@ -37,7 +37,7 @@ enum-known-reported-2 : tie.Need-enum-known-reported-2
 enum-known-reported-2 c = search needs
 
 put-refusal-requires-2 : tie.Need-put-refusal-requires-2
-put-refusal-requires-2 c κs = search needs
+put-refusal-requires-2 c κs = tt
 
 same-length-2 : tie.Need-same-length-2
 same-length-2 c = omega arith

@@ -1,25 +1,28 @@
--- `reporting::report` meets its contract: an image that the reader refuses ends the call with its refusal, and the report of an accepted one is `report_site`'s.
+-- `reporting::report` meets its contract: an image that the reader refuses ends the call with its refusal, and the report of an accepted one is `report_groups`'s.
 use native.Mathlib.Omega.{arith}
 use mathlib.Core.Path.{_≡_, sym, ap, _∙_}
 use denote.Ref.{now}
 use Rattle.image.specs.Questions.{openOf, refusalOf}
 use Rattle.image.specs.declared.Opened.the-variants as O
 use Rattle.image.proofs.Acceptance.{accepted}
-use Rattle.image.proofs.Answers.{open-same}
-use Rattle.reporting.proofs.Answers.{refused-answer}
+use Rattle.reporting.proofs.Whole.{rows-held}
+use Rattle.reporting.proofs.Answers.{site-answer, refused-answer}
 use borrow.Author.Needs.{needs}
 use Rattle.reporting.proofs.report.Statement.{statement}
 use Rattle.reporting.proofs.report.Tie as tie
 
--- where the function starts, and what the reader answered there
-abbrev start : tie.After-open → tie.Start
-start c = c .before .before .before
+-- where the function starts, and when the rows are found of an accepted image
+abbrev start : tie.After-find-rows → tie.Start
+start c = c .before .before .before .before .before
 
-answered : (c : tie.After-open) → c .«open» .result ≡ openOf (now (start c .args .image))
-answered c = open-same _ _ (c .«open» .ensures)
+abbrev told : tie.After-cores2 → tie.After-opened
+told c = c .before .before .before .before
 
-open-requires : tie.Need-open-requires
-open-requires c κs = search needs
+abbrev found : tie.After-opened → tie.After-find-rows
+found c = c .before .before
+
+find-rows-requires : tie.Need-find-rows-requires
+find-rows-requires c κs = tt
 
 enum-known-opened : tie.Need-enum-known-opened
 enum-known-opened c = search needs
@@ -28,38 +31,41 @@ enum-told : tie.Need-enum-told
 enum-told c = search needs
 
 refusal-of-requires : tie.Need-refusal-of-requires
-refusal-of-requires c κs = search needs
+refusal-of-requires c κs = tt
 
 returns : tie.Need-returns
 returns c =
-    let told = c .before .enum-told .given .1 in
+    let refused = c .before .enum-told .given .1 in
     let read = c .before .before .before in
     let s = start read in
     let e : openOf (now (s .args .image)) ≡ O.Refused (c .refusal-of .result) =
-    sym (answered read) ∙ told ∙ ap O.Refused (sym (c .refusal-of .ensures ∙ ap refusalOf told)) in
+    sym (read .find-rows .ensures .site .answered) ∙ refused ∙ ap O.Refused (sym (c .refusal-of .ensures ∙ ap refusalOf refused)) in
     refused-answer (now (s .args .image)) (now (s .args .text)) (c .refusal-of .result) e
 
-report-site-requires : tie.Need-report-site-requires
-report-site-requires c κs =
-    let told = c .before .before .opened .given in
-    let read = c .before .before .before .before in
-    accepted (now (start read .args .image)) (told .0 .0) (sym (answered read) ∙ told .1)
+report-groups-requires : tie.Need-report-groups-requires
+report-groups-requires c κs =
+    let t = told c .opened .given in
+    let read = found (told c) in
+    let a = accepted (now (start read .args .image)) (t .0 .0) (sym (read .find-rows .ensures .site .answered) ∙ t .1) in
+    rows-held (t .0 .0) (a .0) (a .1) (read .find-rows .ensures)
 
 same-length : tie.Need-same-length
 same-length c = omega arith
 
 returns-2 : tie.Need-returns-2
-returns-2 c = c .before .before .report-site .ensures
+returns-2 c =
+    let w = c .before .before in
+    site-answer (report-groups-requires (w .before) (w .report-groups .lifetimes) .accepted) (w .report-groups .ensures)
 
 pub report-spec : {M : Type 1} → statement M
 report-spec =
     tie.close
     (tie.spec
-    open-requires
+    find-rows-requires
     enum-known-opened
     enum-told
     refusal-of-requires
     returns
-    report-site-requires
+    report-groups-requires
     same-length
     returns-2)

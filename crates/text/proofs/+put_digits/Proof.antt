@@ -1,6 +1,5 @@
 -- `text::put_digits` meets its contract. A number below 10 is one digit; of a larger one the digits of its tenth come first, and then the last. The
 -- measure is the count of digits allowed.
-use borrow.Author.Needs.{needs}
 use native.Mathlib.Omega.{arith}
 use mathlib.Core.Path.{refl}
 use Rattle.text.specs.Text.{digitsOf}
@@ -33,23 +32,23 @@ claims t = (capped-reads.Asked, capped-reads.Learnt, put-reads.Asked, put-reads.
 
 module _ (t : ℕ) where
   capped-requires : tie.Need-capped-requires (claims t) (put-digits-at t) put-digits.Post
-  capped-requires c κs = search needs
+  capped-requires c κs = tt
 
   returns : tie.Need-returns (claims t) (put-digits-at t) put-digits.Post
   unfolding digitsOf
   returns c = rw (c .before .if1 .taken) (record { list = refl; next = omega (arith, c .capped .ensures) })
 
   add-put : tie.Need-add-put (claims t) (put-digits-at t) put-digits.Post
-  add-put c = search needs
+  add-put c = omega arith
 
   cast-put : tie.Need-cast-put (claims t) (put-digits-at t) put-digits.Post
-  cast-put c = search needs
+  cast-put c = omega arith
 
   put-requires : tie.Need-put-requires (claims t) (put-digits-at t) put-digits.Post
-  put-requires c κs = search needs
+  put-requires c κs = tt
 
   same-length : tie.Need-same-length (claims t) (put-digits-at t) put-digits.Post
-  same-length c = search needs
+  same-length c = omega arith
 
   returns-2 : tie.Need-returns-2 (claims t) (put-digits-at t) put-digits.Post
   returns-2 c =
@@ -57,22 +56,22 @@ module _ (t : ℕ) where
       rw (digits-small (a .k) (a .n) (c .before .before .before .before .before .if1 .left) (omega arith)) (c .before .before .put .ensures)
 
   sub-put-digits : tie.Need-sub-put-digits (claims t) (put-digits-at t) put-digits.Post
-  sub-put-digits c = search needs
+  sub-put-digits c = omega arith
 
   put-digits-requires : tie.Need-put-digits-requires (claims t) (put-digits-at t) put-digits.Post
-  put-digits-requires c κs = search needs
+  put-digits-requires c κs = (omega arith, tt)
 
   add-put-2 : tie.Need-add-put-2 (claims t) (put-digits-at t) put-digits.Post
-  add-put-2 c = search needs
+  add-put-2 c = omega arith
 
   cast-put-2 : tie.Need-cast-put-2 (claims t) (put-digits-at t) put-digits.Post
-  cast-put-2 c = search needs
+  cast-put-2 c = omega arith
 
   put-requires-2 : tie.Need-put-requires-2 (claims t) (put-digits-at t) put-digits.Post
-  put-requires-2 c κs = search needs
+  put-requires-2 c κs = tt
 
   same-length-2 : tie.Need-same-length-2 (claims t) (put-digits-at t) put-digits.Post
-  same-length-2 c = search needs
+  same-length-2 c = omega arith
 
   returns-3 : tie.Need-returns-3 (claims t) (put-digits-at t) put-digits.Post
   returns-3 c =
