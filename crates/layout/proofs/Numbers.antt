@@ -2,8 +2,8 @@
 -- one table is coordinate j % coordinateCount of handset j / coordinateCount, and number j of the other an end of edge j / endCount.
 --
 --     word-below, signed-word, word-signed     a signed coordinate and the number in its bytes; shifted-word, shifted-raised: the same plus 2 ^ 31, and back
---     coordinate-place                         where a coordinate's bytes stand in the part of the handset records
---     first-place, second-place                where the ends of an edge stand in the part of the edge records
+--     coordinate-place                         where a coordinate's bytes stand in the handset records
+--     first-place, second-place                where the ends of an edge stand in the edge records
 --     coordinate-written, end-written          what is read there
 --     coordinate-raised, out-of-limits         the same plus 2 ^ 31, and its limits
 --     record-numbers                           the theorem of specs/Layout
@@ -21,14 +21,14 @@ use borrow.Author.Tests.{lt-ltb, le-ltb}
 use Rattle.sets.specs.Below.{any}
 use Rattle.sets.proofs.Tests.{decide, T-true, T-false, any-cong}
 use Rattle.bytes.specs.Bytes.{number, Below}
-use Rattle.bytes.proofs.Bytes.{number-part}
+use Rattle.bytes.proofs.Bytes.{number-slice}
 use Rattle.bytes.proofs.Writing.{number-table-bytes}
-use Rattle.fields.specs.Fields.{coordinateBytes, coordinateCount, handsetBytes, endBytes, endCount, shifted, inLimits}
-use Rattle.image.specs.Image.{handsetRecord, coordinateOf, endA, endB}
-use Rattle.image.specs.Questions.{outOfLimits}
+use Rattle.fields.specs.Fields.{coordinateBytes, coordinateCount, handsetBytes, endBytes, endCount, shifted, inLimits, coordinateOf}
+use Rattle.limits.specs.Limits.{outOfLimits}
+use Rattle.image.specs.Image.{handsetRecord, endA, endB}
 use Rattle.image.specs.Signed.{signed32, raised, withinLimits}
 use Rattle.image.proofs.Signed.{limits-raised}
-use Rattle.layout.specs.Layout.{word32, handsetPart, edgePart, Signed32, RecordNumbers}
+use Rattle.layout.specs.Layout.{word32, handsetTable, edgeTable, Signed32, RecordNumbers}
 use Rattle.layout.proofs.Storing.{getD-word}
 
 -- ---- a coordinate
@@ -66,43 +66,43 @@ shifted-raised (negsuc x) h = omega arith
 
 -- ---- places
 
-module _ (part : List ℕ) where
+module _ (records : List ℕ) where
   pub coordinate-place : (v i : ℕ) → i < coordinateCount
-      → number coordinateBytes (handsetRecord part v) (coordinateBytes * i) ≡ number coordinateBytes part (coordinateBytes * (coordinateCount * v + i))
+      → number coordinateBytes (handsetRecord records v) (coordinateBytes * i) ≡ number coordinateBytes records (coordinateBytes * (coordinateCount * v + i))
   unfolding handsetRecord
   coordinate-place v i h =
-      number-part coordinateBytes part (handsetBytes * v) handsetBytes (coordinateBytes * i) (omega arith) (omega arith)
-      ∙ ap (number coordinateBytes part) (omega arith)
+      number-slice coordinateBytes records (handsetBytes * v) handsetBytes (coordinateBytes * i) (omega arith) (omega arith)
+      ∙ ap (number coordinateBytes records) (omega arith)
 
-  pub first-place : (k : ℕ) → endA part k ≡ number endBytes part (endBytes * (endCount * k))
+  pub first-place : (k : ℕ) → endA records k ≡ number endBytes records (endBytes * (endCount * k))
   unfolding endA
-  first-place k = ap (number endBytes part) (omega arith)
+  first-place k = ap (number endBytes records) (omega arith)
 
-  pub second-place : (k : ℕ) → endB part k ≡ number endBytes part (endBytes * (endCount * k + 1))
+  pub second-place : (k : ℕ) → endB records k ≡ number endBytes records (endBytes * (endCount * k + 1))
   unfolding endB
-  second-place k = ap (number endBytes part) (omega arith)
+  second-place k = ap (number endBytes records) (omega arith)
 
 -- ---- tables in bytes
 
 pub coordinate-written : (coords : List ℤ) → Signed32 coords → (j : ℕ) → j < length coords
-    → number coordinateBytes (handsetPart coords) (coordinateBytes * j) ≡ word32 (getD coords j (pos 0))
+    → number coordinateBytes (handsetTable coords) (coordinateBytes * j) ≡ word32 (getD coords j (pos 0))
 coordinate-written coords signed j h =
     let e : word32 (getD coords j (pos 0)) ≡ getD (map word32 coords) j 0 = getD-word coords j in
     number-table-bytes coordinateBytes (map word32 coords) j (omega (arith, e, word-below (getD coords j (pos 0)) (signed j))) (omega (arith, length-map coords word32))
     ∙ sym e
 
-pub end-written : (ends : List ℕ) → Below 65536 ends → (j : ℕ) → j < length ends → number endBytes (edgePart ends) (endBytes * j) ≡ getD ends j 0
+pub end-written : (ends : List ℕ) → Below 65536 ends → (j : ℕ) → j < length ends → number endBytes (edgeTable ends) (endBytes * j) ≡ getD ends j 0
 end-written ends low j h = number-table-bytes endBytes ends j (low j) h
 
 coordinate-raised : (coords : List ℤ) → Signed32 coords → (v i : ℕ) → i < coordinateCount → coordinateCount * v + i < length coords
-    → coordinateOf (handsetRecord (handsetPart coords) v) i ≡ raised (getD coords (coordinateCount * v + i) (pos 0))
+    → coordinateOf (handsetRecord (handsetTable coords) v) i ≡ raised (getD coords (coordinateCount * v + i) (pos 0))
 unfolding coordinateOf
 coordinate-raised coords signed v i l h =
-    ap shifted (coordinate-place (handsetPart coords) v i l ∙ coordinate-written coords signed (coordinateCount * v + i) h)
+    ap shifted (coordinate-place (handsetTable coords) v i l ∙ coordinate-written coords signed (coordinateCount * v + i) h)
     ∙ shifted-word (getD coords (coordinateCount * v + i) (pos 0)) (signed (coordinateCount * v + i))
 
 out-of-limits : (coords : List ℤ) → Signed32 coords → (v : ℕ) → coordinateCount * v + coordinateCount ≤ length coords
-    → outOfLimits (handsetRecord (handsetPart coords) v) ≡ any coordinateCount (λ i. not (withinLimits (getD coords (coordinateCount * v + i) (pos 0))))
+    → outOfLimits (handsetRecord (handsetTable coords) v) ≡ any coordinateCount (λ i. not (withinLimits (getD coords (coordinateCount * v + i) (pos 0))))
 unfolding outOfLimits
 out-of-limits coords signed v h =
     any-cong coordinateCount _ _
@@ -114,6 +114,6 @@ pub record-numbers : RecordNumbers
 record-numbers = record {
   coordinates = coordinate-raised;
   limits = out-of-limits;
-  first-ends = λ ends low k h. first-place (edgePart ends) k ∙ end-written ends low (endCount * k) h;
-  second-ends = λ ends low k h. second-place (edgePart ends) k ∙ end-written ends low (endCount * k + 1) h;
+  first-ends = λ ends low k h. first-place (edgeTable ends) k ∙ end-written ends low (endCount * k) h;
+  second-ends = λ ends low k h. second-place (edgeTable ends) k ∙ end-written ends low (endCount * k + 1) h;
 }

@@ -5,7 +5,7 @@
 --     image-below                   every number of the image is a byte
 --     Asked x coords ends           questions 3, 5 and 6 of the writer got a yes
 --     asked-length, header-read     then the image is as long as its header says, and its header is read back
---     handsets-read, edges-read     the parts of the records are the tables in bytes
+--     handsets-read, edges-read     the records are the tables in bytes
 --     header-accepted               questions 1 to 6 of the reader get a yes
 --     open-image                    and what is left to ask is 7 to 10
 use Prim.Native.Nat.{ℕ, _+_, _*_, _^_, _≤_, _<_}
@@ -20,12 +20,13 @@ use borrow.Author.Tests.{le-leb}
 use Rattle.sets.proofs.Tests.{and-left, and-right, eqb-of}
 use Rattle.bytes.specs.Bytes.{number, leBytes, Below}
 use Rattle.bytes.proofs.Writing.{le-bytes-below, append-below, table-bytes-below, number-at, length-table-bytes}
-use Rattle.fields.specs.Fields.{coordinateBytes, coordinateCount, handsetBytes, endBytes, endCount, edgeBytes, countsFit, thresholdsFit}
-use Rattle.image.specs.Image.{headerBytes, headerOf, handsetRecords, edgeRecords}
+use Rattle.fields.specs.Fields.{coordinateBytes, coordinateCount, handsetBytes, endBytes, endCount, edgeBytes, headerBytes}
+use Rattle.limits.specs.Limits.{countsFit, thresholdsFit}
+use Rattle.image.specs.Image.{headerOf, handsetRecords, edgeRecords}
 use Rattle.image.specs.Questions.{tablesFit, askRecords, openOf, HeaderAccepted}
 use Rattle.image.specs.declared.Header.{Header}
 use Rattle.image.proofs.Acceptance.{fits, go-on-header}
-use Rattle.layout.specs.Layout.{headerFor, headerPart, word32, handsetPart, edgePart, imageOf, lengthsFit}
+use Rattle.layout.specs.Layout.{headerFor, headerBytesOf, word32, handsetTable, edgeTable, imageOf, lengthsFit}
 use Rattle.layout.specs.declared.Parameters.{Parameters}
 
 -- ---- the image, whatever its numbers
@@ -38,16 +39,16 @@ module _ (x : Parameters) (coords : List ℤ) (ends : List ℕ) where
   h = headerFor x
 
   length-image : length image ≡ headerBytes + (coordinateBytes * length coords + endBytes * length ends)
-  unfolding imageOf headerPart leBytes
+  unfolding imageOf headerBytesOf leBytes
   length-image =
-      omega (arith, length-append (handsetPart coords) (edgePart ends), length-table-bytes coordinateBytes (map word32 coords), length-table-bytes endBytes ends, length-map coords word32)
+      omega (arith, length-append (handsetTable coords) (edgeTable ends), length-table-bytes coordinateBytes (map word32 coords), length-table-bytes endBytes ends, length-map coords word32)
 
-  after-header : drop headerBytes image ≡ handsetPart coords ++ edgePart ends
-  unfolding imageOf headerPart leBytes
+  after-header : drop headerBytes image ≡ handsetTable coords ++ edgeTable ends
+  unfolding imageOf headerBytesOf leBytes
   after-header = refl
 
   pub image-below : Below 256 image
-  unfolding imageOf headerPart
+  unfolding imageOf headerBytesOf
   image-below =
       let l9 : List ℕ = leBytes 2 (h .width) in
       let l8 : List ℕ = leBytes 2 (h .mu) ++ l9 in
@@ -58,10 +59,10 @@ module _ (x : Parameters) (coords : List ℤ) (ends : List ℕ) where
       let l3 : List ℕ = leBytes 4 (h .edges) ++ l4 in
       let l2 : List ℕ = leBytes 4 (h .handsets) ++ l3 in
       let l1 : List ℕ = leBytes 2 (h .m) ++ l2 in
-      append-below 256 (leBytes 2 (h .n) ++ l1) (handsetPart coords ++ edgePart ends)
+      append-below 256 (leBytes 2 (h .n) ++ l1) (handsetTable coords ++ edgeTable ends)
       (put 2 (h .n) l1 (put 2 (h .m) l2 (put 4 (h .handsets) l3 (put 4 (h .edges) l4 (put 4 (h .len) l5 (put 8 (h .limit) l6 (put 2 (h .p) l7 (put 2 (h .q) l8
       (put 2 (h .mu) l9 (le-bytes-below 2 (h .width)))))))))))
-      (append-below 256 (handsetPart coords) (edgePart ends) (table-bytes-below coordinateBytes (map word32 coords)) (table-bytes-below endBytes ends))
+      (append-below 256 (handsetTable coords) (edgeTable ends) (table-bytes-below coordinateBytes (map word32 coords)) (table-bytes-below endBytes ends))
     where
       put : (w v : ℕ) (rest : List ℕ) → Below 256 rest → Below 256 (leBytes w v ++ rest)
       put w v rest b = append-below 256 (leBytes w v) rest (le-bytes-below w v) b
@@ -103,7 +104,7 @@ module _ (x : Parameters) (coords : List ℤ) (ends : List ℕ) (ok : Asked x co
   asked-length = omega (arith, length-image x coords ends, coords-length, ends-length)
 
   pub header-read : headerOf (imageOf x coords ends) ≡ made
-  unfolding imageOf headerPart leBytes headerOf
+  unfolding imageOf headerBytesOf leBytes headerOf
   header-read =
       let f = fits made (ok .q3) (ok .q5) (tables-fit x) in
       let read = field x coords ends in
@@ -120,27 +121,27 @@ module _ (x : Parameters) (coords : List ℤ) (ends : List ℕ) (ok : Asked x co
         width = read 2 (made .width) 30 _ (omega arith) (omega arith) refl i;
       }
 
-  handsets-long : length (handsetPart coords) ≡ handsetBytes * x .n
+  handsets-long : length (handsetTable coords) ≡ handsetBytes * x .n
   handsets-long = omega (arith, length-table-bytes coordinateBytes (map word32 coords), length-map coords word32, coords-length)
 
-  edges-long : length (edgePart ends) ≡ edgeBytes * x .m
+  edges-long : length (edgeTable ends) ≡ edgeBytes * x .m
   edges-long = omega (arith, length-table-bytes endBytes ends, ends-length)
 
-  pub handsets-read : handsetRecords (imageOf x coords ends) ≡ handsetPart coords
+  pub handsets-read : handsetRecords (imageOf x coords ends) ≡ handsetTable coords
   unfolding handsetRecords
   handsets-read =
       ap (λ (g : Header). take (handsetBytes * g .n) (drop (g .handsets) (imageOf x coords ends))) header-read
       ∙ ap (take (handsetBytes * x .n)) (after-header x coords ends)
-      ∙ take-at (handsetPart coords) (edgePart ends) (handsetBytes * x .n) handsets-long
+      ∙ take-at (handsetTable coords) (edgeTable ends) (handsetBytes * x .n) handsets-long
 
-  pub edges-read : edgeRecords (imageOf x coords ends) ≡ edgePart ends
+  pub edges-read : edgeRecords (imageOf x coords ends) ≡ edgeTable ends
   unfolding edgeRecords
   edges-read =
       ap (λ (g : Header). take (edgeBytes * g .m) (drop (g .edges) (imageOf x coords ends))) header-read
       ∙ ap (take (edgeBytes * x .m))
       (sym (drop-drop (handsetBytes * x .n) headerBytes (imageOf x coords ends)) ∙ ap (drop (handsetBytes * x .n)) (after-header x coords ends)
-      ∙ drop-at (handsetPart coords) (edgePart ends) (handsetBytes * x .n) handsets-long)
-      ∙ take-all (edgeBytes * x .m) (edgePart ends) (omega (arith, edges-long))
+      ∙ drop-at (handsetTable coords) (edgeTable ends) (handsetBytes * x .n) handsets-long)
+      ∙ take-all (edgeBytes * x .m) (edgeTable ends) (omega (arith, edges-long))
 
   pub header-accepted : HeaderAccepted (imageOf x coords ends)
   header-accepted =
@@ -154,9 +155,9 @@ module _ (x : Parameters) (coords : List ℤ) (ends : List ℕ) (ok : Asked x co
         q6 = subst (λ (g : Header). T (tablesFit g)) (sym header-read) (tables-fit x);
       }
 
-  pub open-image : openOf (imageOf x coords ends) ≡ askRecords (handsetPart coords) (edgePart ends) made
+  pub open-image : openOf (imageOf x coords ends) ≡ askRecords (handsetTable coords) (edgeTable ends) made
   unfolding openOf
   open-image =
       go-on-header (imageOf x coords ends) _ header-accepted
       ∙ ap₂ (λ (a b : List ℕ). askRecords a b (headerOf (imageOf x coords ends))) handsets-read edges-read
-      ∙ ap (askRecords (handsetPart coords) (edgePart ends)) header-read
+      ∙ ap (askRecords (handsetTable coords) (edgeTable ends)) header-read

@@ -18,11 +18,11 @@ use Rattle.sets.proofs.Tests.{T-true, and-left, and-right}
 use Rattle.sets.proofs.Writing.{sets-append}
 use Rattle.bytes.specs.Bytes.{leBytes, stored}
 use Rattle.bytes.proofs.Writing.{stored-there, length-table-bytes}
-use Rattle.fields.specs.Fields.{coordinateBytes, coordinateCount, endCount, countsFit}
-use Rattle.image.specs.Image.{headerBytes}
+use Rattle.fields.specs.Fields.{coordinateBytes, coordinateCount, endCount, headerBytes}
+use Rattle.limits.specs.Limits.{countsFit}
 use Rattle.image.proofs.Acceptance.{counts-limits}
-use Rattle.layout.specs.Layout.{headerFor, headerPart, word32, handsetPart, edgePart, imageOf, lengthsFit, writes, Put}
-use Rattle.layout.specs.Held.{countsPart, thresholdsPart}
+use Rattle.layout.specs.Layout.{headerFor, headerBytesOf, word32, handsetTable, edgeTable, imageOf, lengthsFit, writes, Put}
+use Rattle.layout.specs.ForProofs.{countsBytes, thresholdsBytes}
 use Rattle.layout.specs.declared.Parameters.{Parameters}
 
 -- of a list s that is l, of k numbers, and what a write leaves of it
@@ -37,36 +37,36 @@ pub getD-word : (coords : List ℤ) (i : ℕ) → word32 (getD coords i (pos 0))
 unfolding word32
 getD-word coords i = sym (List·getD-map word32 coords i (pos 0))
 
-header-parts : (x : Parameters) → countsPart (x .n) (x .m) (headerFor x .edges) (headerFor x .len) ++ thresholdsPart (x .limit) (x .p) (x .q) (x .mu) ≡ headerPart (headerFor x)
-unfolding countsPart thresholdsPart headerPart leBytes
+header-parts : (x : Parameters) → countsBytes (x .n) (x .m) (headerFor x .edges) (headerFor x .len) ++ thresholdsBytes (x .limit) (x .p) (x .q) (x .mu) ≡ headerBytesOf (headerFor x)
+unfolding countsBytes thresholdsBytes headerBytesOf leBytes
 header-parts x = refl
 
-header-long : (x : Parameters) → length (headerPart (headerFor x)) ≡ headerBytes
-unfolding headerPart leBytes
+header-long : (x : Parameters) → length (headerBytesOf (headerFor x)) ≡ headerBytes
+unfolding headerBytesOf leBytes
 header-long x = refl
 
-counts-long : (x : Parameters) → length (countsPart (x .n) (x .m) (headerFor x .edges) (headerFor x .len)) ≡ 16
-unfolding countsPart leBytes
+counts-long : (x : Parameters) → length (countsBytes (x .n) (x .m) (headerFor x .edges) (headerFor x .len)) ≡ 16
+unfolding countsBytes leBytes
 counts-long x = refl
 
 pub parts : (x : Parameters) (coords : List ℤ) (ends s s₁ s₂ s₃ s₄ : List ℕ)
-    → s₁ ≡ sets s 0 (countsPart (x .n) (x .m) (headerFor x .edges) (headerFor x .len)) → s₂ ≡ sets s₁ 16 (thresholdsPart (x .limit) (x .p) (x .q) (x .mu))
-    → s₃ ≡ sets s₂ headerBytes (handsetPart coords) → s₄ ≡ sets s₃ (headerBytes + coordinateBytes * length coords) (edgePart ends)
+    → s₁ ≡ sets s 0 (countsBytes (x .n) (x .m) (headerFor x .edges) (headerFor x .len)) → s₂ ≡ sets s₁ 16 (thresholdsBytes (x .limit) (x .p) (x .q) (x .mu))
+    → s₃ ≡ sets s₂ headerBytes (handsetTable coords) → s₄ ≡ sets s₃ (headerBytes + coordinateBytes * length coords) (edgeTable ends)
     → s₄ ≡ sets s 0 (imageOf x coords ends)
 unfolding imageOf
 parts x coords ends s s₁ s₂ s₃ s₄ e₁ e₂ e₃ e₄ =
-    let a : List ℕ = countsPart (x .n) (x .m) (headerFor x .edges) (headerFor x .len) in
-    let b : List ℕ = thresholdsPart (x .limit) (x .p) (x .q) (x .mu) in
-    let h : List ℕ = headerPart (headerFor x) in
+    let a : List ℕ = countsBytes (x .n) (x .m) (headerFor x .edges) (headerFor x .len) in
+    let b : List ℕ = thresholdsBytes (x .limit) (x .p) (x .q) (x .mu) in
+    let h : List ℕ = headerBytesOf (headerFor x) in
     let at : 16 ≡ 0 + length a = omega (arith, counts-long x) in
     let front : s₂ ≡ sets s 0 h = e₂ ∙ ap₂ (λ (t : List ℕ) (k : ℕ). sets t k b) e₁ at ∙ sym (sets-append s 0 a b) ∙ ap (sets s 0) (header-parts x) in
     let from : headerBytes ≡ 0 + length h = omega (arith, header-long x) in
-    let handsets : s₃ ≡ sets (sets s 0 h) (0 + length h) (handsetPart coords) = e₃ ∙ ap₂ (λ (t : List ℕ) (k : ℕ). sets t k (handsetPart coords)) front from in
-    let past : headerBytes + coordinateBytes * length coords ≡ 0 + length h + length (handsetPart coords) =
+    let handsets : s₃ ≡ sets (sets s 0 h) (0 + length h) (handsetTable coords) = e₃ ∙ ap₂ (λ (t : List ℕ) (k : ℕ). sets t k (handsetTable coords)) front from in
+    let past : headerBytes + coordinateBytes * length coords ≡ 0 + length h + length (handsetTable coords) =
     omega (arith, header-long x, length-table-bytes coordinateBytes (map word32 coords), length-map coords word32) in
-    e₄ ∙ ap₂ (λ (t : List ℕ) (k : ℕ). sets t k (edgePart ends)) handsets past
-    ∙ sym (sets-append (sets s 0 h) (0 + length h) (handsetPart coords) (edgePart ends))
-    ∙ sym (sets-append s 0 h (handsetPart coords ++ edgePart ends))
+    e₄ ∙ ap₂ (λ (t : List ℕ) (k : ℕ). sets t k (edgeTable ends)) handsets past
+    ∙ sym (sets-append (sets s 0 h) (0 + length h) (handsetTable coords) (edgeTable ends))
+    ∙ sym (sets-append s 0 h (handsetTable coords ++ edgeTable ends))
 
 -- ---- the tests
 

@@ -2,10 +2,10 @@
 -- them.
 --
 --     headerFor x             the header of the parameters x: n, m, G, p, q and mu as given, a blank mu left blank
---     headerPart h            the bytes of a header
+--     headerBytesOf h         the bytes of a header
 --     word32 c                a signed number of 32 bits as the number in its bytes, two's complement
---     handsetPart coords      the handset records of a coordinate table, which has the coordinates of each handset in turn: x, then y, then z
---     edgePart ends           the edge records of a table that has the two ends of each edge in turn (paper 02: the tie table)
+--     handsetTable coords     the handset records of a coordinate table, which has the coordinates of each handset in turn: x, then y, then z
+--     edgeTable ends          the edge records of a table that has the two ends of each edge in turn (paper 02: the tie table)
 --     imageOf x coords ends   the whole image
 --     lengthsFit x a b        question 6 of the writer: tables of a coordinates and b ends have just the numbers that n handsets and m edges need
 --     writes x a b room       `put_image` writes: the counts are within their limits, the tables of a coordinates and b ends are those of the counts, and a
@@ -25,10 +25,10 @@ use lib.ListN.{length, getD}
 use lib.Seq.{sets}
 use Rattle.sets.specs.Below.{any}
 use Rattle.bytes.specs.Bytes.{leBytes, tableBytes, Below}
-use Rattle.fields.specs.Fields.{coordinateBytes, coordinateCount, handsetBytes, endBytes, endCount, edgeBytes, countsFit}
-use Rattle.image.specs.Image.{headerBytes, handsetRecord, coordinateOf, endA, endB}
+use Rattle.fields.specs.Fields.{coordinateBytes, coordinateCount, handsetBytes, endBytes, endCount, edgeBytes, headerBytes, coordinateOf}
+use Rattle.limits.specs.Limits.{countsFit, outOfLimits}
+use Rattle.image.specs.Image.{handsetRecord, endA, endB}
 use Rattle.image.specs.Signed.{raised, withinLimits}
-use Rattle.image.specs.Questions.{outOfLimits}
 use Rattle.image.specs.declared.Header.{Header}
 use Rattle.layout.specs.declared.Parameters.{Parameters}
 
@@ -46,9 +46,9 @@ headerFor x = record {
   width = handsetBytes;
 }
 
-unfoldable pub headerPart : Header → List ℕ
+unfoldable pub headerBytesOf : Header → List ℕ
 unfolding leBytes
-headerPart h =
+headerBytesOf h =
     leBytes 2 (h .n) ++ (leBytes 2 (h .m) ++ (leBytes 4 (h .handsets) ++ (leBytes 4 (h .edges) ++ (leBytes 4 (h .len) ++ (leBytes 8 (h .limit)
     ++ (leBytes 2 (h .p) ++ (leBytes 2 (h .q) ++ (leBytes 2 (h .mu) ++ leBytes 2 (h .width)))))))))
 
@@ -56,15 +56,15 @@ unfoldable pub word32 : ℤ → ℕ
 word32 (pos x) = x
 word32 (negsuc x) = 4294967295 - x
 
-abbrev pub handsetPart : List ℤ → List ℕ
-handsetPart coords = tableBytes coordinateBytes (map word32 coords)
+abbrev pub handsetTable : List ℤ → List ℕ
+handsetTable coords = tableBytes coordinateBytes (map word32 coords)
 
-abbrev pub edgePart : List ℕ → List ℕ
-edgePart ends = tableBytes endBytes ends
+abbrev pub edgeTable : List ℕ → List ℕ
+edgeTable ends = tableBytes endBytes ends
 
 unfoldable pub imageOf : Parameters → List ℤ → List ℕ → List ℕ
-unfolding headerPart tableBytes word32
-imageOf x coords ends = headerPart (headerFor x) ++ (handsetPart coords ++ edgePart ends)
+unfolding headerBytesOf tableBytes word32
+imageOf x coords ends = headerBytesOf (headerFor x) ++ (handsetTable coords ++ edgeTable ends)
 
 abbrev pub lengthsFit : Parameters → ℕ → ℕ → Bool
 lengthsFit x a b = eqb a (coordinateCount * x .n) && eqb b (endCount * x .m)
@@ -83,8 +83,8 @@ Signed32 coords = (i : ℕ) → mag (getD coords i (pos 0)) < 2147483648
 -- coordinate i of handset v, whether one is out of its limits, and the two ends of edge k
 pub record RecordNumbers : Type 0 where
   pub coordinates : (coords : List ℤ) → Signed32 coords → (v i : ℕ) → i < coordinateCount → coordinateCount * v + i < length coords
-      → coordinateOf (handsetRecord (handsetPart coords) v) i ≡ raised (getD coords (coordinateCount * v + i) (pos 0))
+      → coordinateOf (handsetRecord (handsetTable coords) v) i ≡ raised (getD coords (coordinateCount * v + i) (pos 0))
   pub limits : (coords : List ℤ) → Signed32 coords → (v : ℕ) → coordinateCount * v + coordinateCount ≤ length coords
-      → outOfLimits (handsetRecord (handsetPart coords) v) ≡ any coordinateCount (λ i. not (withinLimits (getD coords (coordinateCount * v + i) (pos 0))))
-  pub first-ends : (ends : List ℕ) → Below 65536 ends → (k : ℕ) → endCount * k < length ends → endA (edgePart ends) k ≡ getD ends (endCount * k) 0
-  pub second-ends : (ends : List ℕ) → Below 65536 ends → (k : ℕ) → endCount * k + 1 < length ends → endB (edgePart ends) k ≡ getD ends (endCount * k + 1) 0
+      → outOfLimits (handsetRecord (handsetTable coords) v) ≡ any coordinateCount (λ i. not (withinLimits (getD coords (coordinateCount * v + i) (pos 0))))
+  pub first-ends : (ends : List ℕ) → Below 65536 ends → (k : ℕ) → endCount * k < length ends → endA (edgeTable ends) k ≡ getD ends (endCount * k) 0
+  pub second-ends : (ends : List ℕ) → Below 65536 ends → (k : ℕ) → endCount * k + 1 < length ends → endB (edgeTable ends) k ≡ getD ends (endCount * k + 1) 0

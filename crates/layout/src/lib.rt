@@ -6,15 +6,14 @@ ghost use Prim.Native.Nat.{_+_, _*_, _≤_};
 ghost use mathlib.Core.Path.{_≡_};
 ghost use lib.ListN.{length};
 ghost use lib.Seq.{sets};
-ghost use Rattle.fields.specs.Fields.{coordinateBytes, endBytes};
-ghost use Rattle.image.specs.Image.{headerBytes};
-ghost use Rattle.layout.specs.Layout.{word32, handsetPart, edgePart, lengthsFit, Put};
-ghost use Rattle.layout.specs.Held.{countsPart, thresholdsPart};
+ghost use Rattle.fields.specs.Fields.{coordinateBytes, endBytes, headerBytes};
+ghost use Rattle.layout.specs.Layout.{word32, handsetTable, edgeTable, lengthsFit, Put};
+ghost use Rattle.layout.specs.ForProofs.{countsBytes, thresholdsBytes};
 
 // The length of the longest image.
-pub const IMAGE_MOST: usize = image::HEADER_BYTES
-    + fields::HANDSET_BYTES * fields::HANDSETS_MOST
-    + fields::EDGE_BYTES * fields::EDGES_MOST;
+pub const IMAGE_MOST: usize = fields::HEADER_BYTES
+    + fields::HANDSET_BYTES * limits::HANDSETS_MOST
+    + fields::EDGE_BYTES * limits::EDGES_MOST;
 
 // The numbers of a header that whoever writes an image chooses, as wide as they come: `limit` is G, and a blank `mu` is 0.
 pub struct Parameters {
@@ -46,11 +45,11 @@ fn word(x: i32) -> u64
 // Writes the counts of handsets and edges, where their records begin, and the length of the image: the first half of the header.
 fn put_counts(s: &mut [u8], n: u64, m: u64, edges: u64, len: u64)
     requires { ⌜ headerBytes ≤ length (now s) ⌝ }
-    ensures { λ _. ⌜ now (s .exit) ≡ sets (now (s .entry)) 0 (countsPart n m edges len) ⌝ }
+    ensures { λ _. ⌜ now (s .exit) ≡ sets (now (s .entry)) 0 (countsBytes n m edges len) ⌝ }
 {
     bytes::write(s, 0, 2, n);
     bytes::write(s, 2, 2, m);
-    bytes::write(s, 4, 4, image::HEADER_BYTES as u64);
+    bytes::write(s, 4, 4, fields::HEADER_BYTES as u64);
     bytes::write(s, 8, 4, edges);
     bytes::write(s, 12, 4, len);
 }
@@ -58,7 +57,7 @@ fn put_counts(s: &mut [u8], n: u64, m: u64, edges: u64, len: u64)
 // Writes the thresholds and the width of a handset's record: the second half of the header.
 fn put_thresholds(s: &mut [u8], limit: u64, p: u64, q: u64, mu: u64)
     requires { ⌜ headerBytes ≤ length (now s) ⌝ }
-    ensures { λ _. ⌜ now (s .exit) ≡ sets (now (s .entry)) 16 (thresholdsPart limit p q mu) ⌝ }
+    ensures { λ _. ⌜ now (s .exit) ≡ sets (now (s .entry)) 16 (thresholdsBytes limit p q mu) ⌝ }
 {
     bytes::write(s, 16, 8, limit);
     bytes::write(s, 24, 2, p);
@@ -70,11 +69,11 @@ fn put_thresholds(s: &mut [u8], limit: u64, p: u64, q: u64, mu: u64)
 // Writes the coordinates of the handsets, one after the other, directly after the header.
 fn put_coordinates(s: &mut [u8], coordinates: &[i32])
     requires { ⌜ headerBytes + coordinateBytes * length (now coordinates) ≤ length (now s) ⌝ }
-    ensures { λ _. ⌜ now (s .exit) ≡ sets (now (s .entry)) headerBytes (handsetPart (now (coordinates .entry))) ⌝ }
+    ensures { λ _. ⌜ now (s .exit) ≡ sets (now (s .entry)) headerBytes (handsetTable (now (coordinates .entry))) ⌝ }
 {
     let mut i: usize = 0;
     while i < coordinates.len() {
-        let at = image::HEADER_BYTES + fields::COORDINATE_BYTES * i;
+        let at = fields::HEADER_BYTES + fields::COORDINATE_BYTES * i;
         bytes::write(s, at, fields::COORDINATE_BYTES, word(coordinates[i]));
         i += 1;
     }
@@ -83,7 +82,7 @@ fn put_coordinates(s: &mut [u8], coordinates: &[i32])
 // Writes the ends of the edges, one after the other, from a place on, which has 32 bits so that no sum wraps.
 fn put_ends(s: &mut [u8], from: u32, ends: &[u16])
     requires { ⌜ from + endBytes * length (now ends) ≤ length (now s) ⌝ }
-    ensures { λ _. ⌜ now (s .exit) ≡ sets (now (s .entry)) from (edgePart (now (ends .entry))) ⌝ }
+    ensures { λ _. ⌜ now (s .exit) ≡ sets (now (s .entry)) from (edgeTable (now (ends .entry))) ⌝ }
 {
     let mut i: usize = 0;
     while i < ends.len() {
@@ -98,10 +97,10 @@ fn put_ends(s: &mut [u8], from: u32, ends: &[u16])
 pub fn put_image(s: &mut [u8], x: Parameters, coordinates: &[i32], ends: &[u16]) -> usize
     ensures { λ r. ⌜ Put x (now (coordinates .entry)) (now (ends .entry)) (now (s .entry)) r (now (s .exit)) ⌝ }
 {
-    if !fields::counts_fit(x.n, x.m) {
+    if !limits::counts_fit(x.n, x.m) {
         return 0;
     }
-    let edges = image::HEADER_BYTES + fields::HANDSET_BYTES * (x.n as usize);
+    let edges = fields::HEADER_BYTES + fields::HANDSET_BYTES * (x.n as usize);
     let len = edges + fields::EDGE_BYTES * (x.m as usize);
     if !(lengths_fit(x, coordinates.len(), ends.len()) & (len <= s.len())) {
         return 0;

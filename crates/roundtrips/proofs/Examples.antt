@@ -4,11 +4,10 @@ use Rattle.image.specs.Image.{handsetRecords, edgeRecords}
 use Rattle.image.specs.Questions.{openOf}
 use Rattle.layout.specs.Layout.{imageOf}
 use Rattle.writer.specs.Writer.{encodedOf, bufferAfter}
-use Rattle.roundtrips.specs.TakenOver.{planarCoordinate, planarNear}
 use Rattle.roundtrips.specs.Examples.{Examples}
 
 pub examples : Examples
-unfolding openOf handsetRecords edgeRecords imageOf encodedOf bufferAfter planarCoordinate planarNear
+unfolding openOf handsetRecords edgeRecords imageOf encodedOf bufferAfter
 examples = record {
   site-S = refl;
   site-S-blank = refl;
@@ -43,9 +42,4 @@ examples = record {
   no-such-handset = refl;
   loop = refl;
   twice = refl;
-  planar-first = (refl, refl);
-  planar-second = (refl, refl);
-  planar-near = refl;
-  planar-apart = refl;
-  planar-refused = refl;
 }

@@ -11,14 +11,15 @@ use mathlib.Core.Logic.{_⊎_, inl, inr}
 use mathlib.Core.Bool.{Bool, true, false, not}
 use mathlib.Core.List.{List}
 use Rattle.sets.specs.Below.{any, find}
+use Rattle.limits.specs.Limits.{outOfLimits}
 use Rattle.image.specs.Image.{headerOf, handsetRecords, edgeRecords, handsetRecord}
-use Rattle.image.specs.Questions.{outOfLimits, badEnd, isLoop, repeatsEarlier, ask, askEach, askEdges, askRecords, openOf, HeaderAccepted}
+use Rattle.image.specs.Questions.{badEnd, isLoop, repeatsEarlier, ask, askEach, askEdges, askRecords, openOf, HeaderAccepted}
 use Rattle.image.specs.declared.Refusal.{Refusal}
 use Rattle.image.specs.declared.Opened.{Opened}
 use Rattle.image.specs.declared.Opened.the-variants.{Site, Refused}
 use Rattle.image.proofs.Acceptance.{go-on-header}
 use Rattle.layout.specs.declared.Parameters.{Parameters}
-use Rattle.roundtrips.specs.RoundTrips.{parametersOf}
+use Rattle.writer.specs.Holds.{parametersOf}
 
 pub record SameRecords (s t : List ℕ) : Type 0 where
   pub parameters : parametersOf (headerOf s) ≡ parametersOf (headerOf t)

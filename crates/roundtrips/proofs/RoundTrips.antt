@@ -1,33 +1,26 @@
 -- The theorem of specs/RoundTrips. The writer's questions 7 to 10 are the reader's, of the records that the tables make. So where 3, 5 and 6 get a yes, the
 -- writer's answer is the reader's answer to the image written, but for 20; and that image has the records of every image that holds the tables (proofs/Openings).
 --
---     Granted, encoded-length      what a length as the answer says
---     answer-is, buffer-is         the call's answer, and the buffer after it
---     granted, front, reads-back   what is written is read back
---     asked-by                     tables of a header's counts pass 3, 5 and 6 where the header's counts and thresholds fit
---     asked-of, records-of         so do the tables that an image holds, and their image has its records
+--     reads-back                   what is written is read back
+--     asked-of, records-of         the tables that an image holds pass 3, 5 and 6, and their image has its records
 --     image-opening                so the two are both accepted, or refused with the same number and place; accepted-image: the first where one is
 --     writer-too, image-too        a refusal of such an image is the writer's, and one of the writer's is the image's, but for 20
 --     no-longer                    the image written is no longer than one that holds its tables
---     too-short                    an accepted image's tables are refused with 20 where the buffer is too short
---     written-again                they are written where it is not, and what is written has the image's outcome
+--     written-again                an accepted image's tables are written where there is room, and what is written has the image's outcome
 --     round-trips                  the theorem
-use Prim.Native.Nat.{ℕ, _+_, _*_, _≤_, _<_}
+use Prim.Native.Nat.{ℕ, _+_, _*_, _≤_}
 use native.Mathlib.Omega.{arith}
-use mathlib.Core.Path.{_≡_, refl, sym, ap, _∙_, subst}
+use mathlib.Core.Path.{_≡_, sym, ap, _∙_, subst}
 use mathlib.Core.Logic.{_⊎_, inl, inr, ⊎-elim}
 use mathlib.Core.Bool.{Bool, true, false, cond}
 use mathlib.Core.List.{List}
-use lib.Dec.{T, leb, eqb, leb→le}
+use lib.Dec.{leb, leb→le}
 use lib.IntN.{ℤ}
-use lib.ListN.{length, take, drop}
-use lib.Seq.{take-at, drop-at}
-use borrow.Author.Tests.{le-leb, lt-leb}
-use Rattle.sets.proofs.Tests.{and-make, eqb-of}
+use lib.ListN.{length, take}
 use Rattle.bytes.specs.Bytes.{Below}
-use Rattle.fields.specs.Fields.{coordinateCount, handsetBytes, endCount, edgeBytes, countsFit, thresholdsFit}
+use Rattle.fields.specs.Fields.{handsetBytes, edgeBytes}
 use Rattle.image.specs.Image.{headerOf}
-use Rattle.image.specs.Questions.{openOf, HeaderAccepted, Accepted}
+use Rattle.image.specs.Questions.{openOf, byAnswer, HeaderAccepted, Accepted}
 use Rattle.image.specs.Answers.{refusal}
 use Rattle.image.specs.declared.Header.{Header}
 use Rattle.image.specs.declared.Refusal.{Refusal}
@@ -37,14 +30,15 @@ use Rattle.image.proofs.Acceptance.{accepted, opened, header-fits, header-lengt
 use Rattle.image.proofs.Answers.{open-same}
 use Rattle.layout.specs.Layout.{headerFor, imageOf, Signed32}
 use Rattle.layout.specs.declared.Parameters.{Parameters}
-use Rattle.layout.proofs.Reading.{Asked, asked-length, image-below, header-read, handsets-read, edges-read, header-accepted}
-use Rattle.writer.specs.Writer.{tablesAnswer, encodedFor, encodedOf, bufferFor, bufferAfter, WriteCall}
+use Rattle.layout.proofs.Reading.{Asked, image-below, header-read, handsets-read, edges-read, header-accepted}
+use Rattle.writer.specs.Holds.{parametersOf, Holds}
+use Rattle.writer.specs.Writer.{askBuffer, WriteCall}
 use Rattle.writer.specs.declared.Encoded.{Encoded}
 use Rattle.writer.specs.declared.Encoded.the-variants as E
-use Rattle.writer.proofs.Answers.{encoded-same}
-use Rattle.writer.proofs.Drafting.{by-reader, tables-site}
-use Rattle.roundtrips.specs.RoundTrips.{parametersOf, Holds, ReadsBack, SameOutcome, RoundTrips}
-use Rattle.roundtrips.proofs.Tables.{handsets-are, edges-are, image-holds, tables-of}
+use Rattle.writer.proofs.Drafting.{by-reader}
+use Rattle.writer.proofs.Outcome.{no-length, Granted, granted, front, rest, kept, answer-by, written, too-short}
+use Rattle.writer.proofs.Tables.{asked-by, handsets-are, edges-are, image-holds, tables-of}
+use Rattle.roundtrips.specs.RoundTrips.{ReadsBack, SameOutcome, RoundTrips}
 use Rattle.roundtrips.proofs.Openings.{SameRecords, SameOpening, same-opening}
 use Rattle.roundtrips.proofs.Same.{same-outcome}
 
@@ -52,9 +46,6 @@ use Rattle.roundtrips.proofs.Same.{same-outcome}
 
 no-site : {A : Type 0} {h : Header} {q : Refusal} → O.Site h ≡ O.Refused q → A
 no-site e = let z : _≡_ {A = ℕ} 0 1 = cc in absurd (omega arith)
-
-no-length : {A : Type 0} {k : ℕ} {q : Refusal} → E.Length k ≡ E.Refused q → A
-no-length e = let z : _≡_ {A = ℕ} 0 1 = cc in absurd (omega arith)
 
 same-refusal : {q p : Refusal} → O.Refused q ≡ O.Refused p → q ≡ p
 same-refusal e = cc
@@ -66,67 +57,18 @@ only-20 : (q : Refusal) (b : Bool) (k : ℕ) → E.Refused q ≡ cond b (E.Lengt
 only-20 q true k e = no-length (sym e)
 only-20 q false k e = ap (λ (p : Refusal). p .number) (same-no e)
 
--- ---- the writer's answer
-
--- what a length as the answer says
-pub record Granted (x : Parameters) (coords : List ℤ) (ends : List ℕ) (room k : ℕ) : Type 0 where
-  pub asked : Asked x coords ends
-  pub site : tablesAnswer x coords ends ≡ O.Site (headerFor x)
-  pub size : k ≡ headerFor x .len
-  pub fits : k ≤ room
-
-encoded-length : (x : Parameters) (coords : List ℤ) (ends : List ℕ) (room k : ℕ) → encodedOf x coords ends room ≡ E.Length k → Granted x coords ends room k
-unfolding encodedOf
-encoded-length x coords ends room k e = go (tablesAnswer x coords ends) refl e
-  where
-    fitting : (h : Header) → tablesAnswer x coords ends ≡ O.Site h → (b : Bool) → leb (h .len) room ≡ b → cond b (E.Length (h .len)) (E.Refused (refusal 20)) ≡ E.Length k
-        → Granted x coords ends room k
-    fitting h s true e d =
-        let a = tables-site x coords ends h s in
-        let same : h .len ≡ k = cc in record {
-          asked = a .0;
-          site = s ∙ ap O.Site (a .1);
-          size = sym same ∙ ap (λ (g : Header). g .len) (a .1);
-          fits = subst (λ (j : ℕ). j ≤ room) same (leb→le (h .len) room (subst T (sym e) tt));
-        }
-    fitting h s false e d = let z : _≡_ {A = ℕ} 0 1 = cc in absurd (omega arith)
-
-    go : (o : Opened) → tablesAnswer x coords ends ≡ o → encodedFor o room ≡ E.Length k → Granted x coords ends room k
-    go (O.Site h) s d = fitting h s (leb (h .len) room) refl d
-    go (O.Refused r) s d = let z : _≡_ {A = ℕ} 0 1 = cc in absurd (omega arith)
-
-module _ (x : Parameters) (coords : List ℤ) (ends l : List ℕ) (r : Encoded) (l′ : List ℕ) (call : WriteCall x coords ends l r l′) where
-  answer-is : r ≡ encodedFor (tablesAnswer x coords ends) (length l)
-  unfolding encodedOf
-  answer-is = encoded-same r (encodedOf x coords ends (length l)) (call .answer)
-
-  buffer-is : l′ ≡ bufferFor r (imageOf x coords ends) l
-  unfolding bufferAfter encodedOf
-  buffer-is = call .buffer ∙ ap (λ (a : Encoded). bufferFor a (imageOf x coords ends) l) (sym answer-is)
-
 -- ---- what is written is read back
 
-module _ (x : Parameters) (coords : List ℤ) (ends l : List ℕ) (k : ℕ) (l′ : List ℕ) (call : WriteCall x coords ends l (E.Length k) l′) where
-  abbrev image : List ℕ
-  image = imageOf x coords ends
-
-  granted : Granted x coords ends (length l) k
-  unfolding encodedOf
-  granted = encoded-length x coords ends (length l) k (sym (answer-is x coords ends l (E.Length k) l′ call))
-
-  long : length image ≡ k
-  long = asked-length x coords ends (granted .asked) ∙ sym (granted .size)
-
-  pub front : take k l′ ≡ image
-  front = ap (take k) (buffer-is x coords ends l (E.Length k) l′ call) ∙ take-at image (drop k l) k long
-
-  reads-back : Signed32 coords → Below 65536 ends → ReadsBack x coords ends l k l′
-  reads-back signed low = record {
-    size = granted .size;
-    opens = λ o e. open-same o (openOf (take k l′)) e ∙ ap openOf front ∙ sym (by-reader x coords ends (granted .asked)) ∙ granted .site;
-    holds = subst (λ (t : List ℕ). Holds t x coords ends) (sym front) (image-holds x coords ends signed low (granted .asked));
-    rest = ap (drop k) (buffer-is x coords ends l (E.Length k) l′ call) ∙ drop-at image (drop k l) k long;
-  }
+reads-back : (x : Parameters) (coords : List ℤ) (ends l : List ℕ) (k : ℕ) (l′ : List ℕ) → WriteCall x coords ends l (E.Length k) l′
+    → Signed32 coords → Below 65536 ends → ReadsBack x coords ends l k l′
+reads-back x coords ends l k l′ call signed low =
+    let g : Granted x coords ends (length l) k = granted x coords ends l k l′ call in
+    let same : take k l′ ≡ imageOf x coords ends = front x coords ends l k l′ call in record {
+      size = g .size;
+      opens = λ o e. open-same o (openOf (take k l′)) e ∙ ap openOf same ∙ sym (by-reader x coords ends (g .asked)) ∙ g .site;
+      holds = subst (λ (t : List ℕ). Holds t x coords ends) (sym same) (image-holds x coords ends signed low (g .asked));
+      rest = rest x coords ends l k l′ call;
+    }
 
 -- ---- the tables that an image holds
 
@@ -141,15 +83,6 @@ no-longer s x coords ends ok held =
     (λ t. omega (arith, f .handsets-from, f .edges-to, header-length s ok, leb→le (h .handsets + handsetBytes * h .n) (h .edges) t))
     (λ t. omega (arith, f .edges-from, f .handsets-to, header-length s ok, leb→le (h .edges + edgeBytes * h .m) (h .handsets) t))
     (tables-clear s ok)
-
-pub asked-by : (h : Header) (x : Parameters) (coords : List ℤ) (ends : List ℕ) → parametersOf h ≡ x → T (countsFit (h .n) (h .m))
-    → T (thresholdsFit (h .limit) (h .p) (h .q) (h .mu)) → length coords ≡ coordinateCount * x .n → length ends ≡ endCount * x .m → Asked x coords ends
-asked-by h x coords ends e q3 q5 a b = record {
-  q3 = subst (λ (y : Parameters). T (countsFit (y .n) (y .m))) e q3;
-  q5 = subst (λ (y : Parameters). T (thresholdsFit (y .limit) (y .p) (y .q) (y .mu))) e q5;
-  q6 = and-make (eqb (length coords) (coordinateCount * x .n)) (eqb (length ends) (endCount * x .m))
-      (eqb-of (length coords) (coordinateCount * x .n) a) (eqb-of (length ends) (endCount * x .m) b);
-}
 
 module _ (s : List ℕ) (x : Parameters) (coords : List ℤ) (ends : List ℕ) (ok : HeaderAccepted s) (small : Below 256 s)
     (held : Holds s x coords ends) where
@@ -174,8 +107,8 @@ module _ (s : List ℕ) (x : Parameters) (coords : List ℤ) (ends : List ℕ) (
       go (inr (p, _, _, here, _)) = no-site (sym (opened s good) ∙ here)
 
   module _ (l : List ℕ) (r : Encoded) (l′ : List ℕ) (call : WriteCall x coords ends l r l′) where
-    answer-by : (o : Opened) → openOf (imageOf x coords ends) ≡ o → r ≡ encodedFor o (length l)
-    answer-by o e = answer-is x coords ends l r l′ call ∙ ap (λ (a : Opened). encodedFor a (length l)) (by-reader x coords ends asked-of ∙ e)
+    answered : (o : Opened) → openOf (imageOf x coords ends) ≡ o → r ≡ byAnswer o (askBuffer (length l)) E.Refused
+    answered o e = answer-by x coords ends l r l′ call asked-of o e
 
     writer-too : (q : Refusal) → SameOpening s (imageOf x coords ends) → openOf s ≡ O.Refused q
         → (r ≡ E.Refused q) × (7 ≤ q .number) × (q .number ≤ 10)
@@ -183,35 +116,27 @@ module _ (s : List ℕ) (x : Parameters) (coords : List ℤ) (ends : List ℕ) (
     writer-too q (inr (p, from, to, here, again)) e =
         let same : p ≡ q = same-refusal (sym here ∙ e) in
         let number : p .number ≡ q .number = ap (λ (y : Refusal). y .number) same in
-        (answer-by _ again ∙ ap E.Refused same, omega arith, omega arith)
+        (answered _ again ∙ ap E.Refused same, omega arith, omega arith)
 
     image-too : (q : Refusal) → SameOpening s (imageOf x coords ends) → r ≡ E.Refused q → (openOf s ≡ O.Refused q) ⊎ (q .number ≡ 20)
-    image-too q (inl (_, again)) e = inr (only-20 q (leb _ (length l)) _ (sym e ∙ answer-by _ again))
-    image-too q (inr (p, _, _, here, again)) e = inl (here ∙ ap O.Refused (same-no (sym (answer-by _ again) ∙ e)))
+    image-too q (inl (_, again)) e = inr (only-20 q (leb _ (length l)) _ (sym e ∙ answered _ again))
+    image-too q (inr (p, _, _, here, again)) e = inl (here ∙ ap O.Refused (same-no (sym (answered _ again) ∙ e)))
 
     written-again : Accepted s → headerFor x .len ≤ length l → (r ≡ E.Length (headerFor x .len)) × SameOutcome s (take (headerFor x .len) l′)
     written-again good room =
-        let k : ℕ = headerFor x .len in
         let image : List ℕ = imageOf x coords ends in
         let again : openOf image ≡ O.Site (headerOf image) = accepted-image good in
-        let answer : r ≡ E.Length k =
-        answer-by (O.Site (headerFor x)) (again ∙ ap O.Site (header-read x coords ends asked-of))
-        ∙ ap (λ (b : Bool). cond b (E.Length k) (E.Refused (refusal 20))) (le-leb k (length l) room) in
-        let wrote : WriteCall x coords ends l (E.Length k) l′ = subst (λ (a : Encoded). WriteCall x coords ends l a l′) answer call in
         let outcome : SameOutcome s image = same-outcome s image records-of good (accepted image (headerOf image) again .0) in
-        (answer, subst (SameOutcome s) (sym (front x coords ends l k l′ wrote)) outcome)
-
-    too-short : Accepted s → length l < headerFor x .len → r ≡ E.Refused (refusal 20)
-    too-short good room =
-        answer-by (O.Site (headerFor x)) (accepted-image good ∙ ap O.Site (header-read x coords ends asked-of))
-        ∙ ap (λ (b : Bool). cond b (E.Length (headerFor x .len)) (E.Refused (refusal 20))) (lt-leb (headerFor x .len) (length l) room)
+        let w = written x coords ends asked-of again l r l′ room call in
+        (w .0, subst (SameOutcome s) (sym (w .1)) outcome)
 
 pub round-trips : RoundTrips
 round-trips = record {
   reads-back = λ x coords ends l k l′ signed low call. reads-back x coords ends l k l′ call signed low;
   written-again = λ s x coords ends l r l′ good small held room call. written-again s x coords ends (good .header) small held l r l′ call good room;
-  too-short = λ s x coords ends l r l′ good small held room call. too-short s x coords ends (good .header) small held l r l′ call good room;
-  kept = λ x coords ends l q l′ call. buffer-is x coords ends l (E.Refused q) l′ call;
+  too-short = λ s x coords ends l r l′ good small held room call.
+      too-short x coords ends (asked-of s x coords ends (good .header) small held) (accepted-image s x coords ends (good .header) small held good) l r l′ room call;
+  kept = kept;
   same-refusals = λ s x coords ends l r l′ ok small held call q.
       let o : SameOpening s (imageOf x coords ends) = image-opening s x coords ends ok small held in (
         λ e. let a = writer-too s x coords ends ok small held l r l′ call q o e in (a .0, omega (arith, a .1), omega (arith, a .2)),

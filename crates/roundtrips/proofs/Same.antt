@@ -15,36 +15,39 @@ use Rattle.fields.specs.Fields.{coreSize}
 use Rattle.image.specs.Image.{headerOf, handsetRecord, endA, endB, joins, adjacent, mu}
 use Rattle.image.specs.Signed.{raised}
 use Rattle.image.specs.Answers.{Answer, refusal, Injective}
-use Rattle.image.specs.Questions.{openOf, Accepted}
-use Rattle.image.specs.declared.Opened.{Opened}
-use Rattle.image.specs.declared.Opened.the-variants.{Site}
+use Rattle.image.specs.Questions.{whenOpened, Accepted}
+use Rattle.image.specs.declared.Header.{Header}
+use Rattle.image.specs.declared.Refusal.{Refusal}
 use Rattle.near.specs.Near.{proximityOf, proximity, isNear, neighbour}
 use Rattle.near.specs.declared.Proximity.{Proximity}
 use Rattle.near.specs.declared.Proximity.the-variants.{Near, NotNear}
-use Rattle.image.proofs.Acceptance.{opened}
+use Rattle.image.proofs.Acceptance.{when-accepted}
 use Rattle.community.specs.Network.{Network, neighbourhoodSize, cores, communities, contains, role}
 use Rattle.community.specs.Scores.{countPairs, pairs, everyEdge, joinedBy, joinedPairs, justOne, leaving}
 use Rattle.community.specs.Reach.{farthest, inside, reach}
-use Rattle.community.specs.Site.{network}
+use Rattle.community.specs.Site.{network, communitiesOf}
 use Rattle.community.specs.Tables.{startTable, memberTable}
+use Rattle.rows.specs.Rows.{countsOf}
 use Rattle.tables.specs.Plan.{planned, tableAfter}
 use Rattle.tables.proofs.Answers.{plan-same}
-use Rattle.planner.specs.Plan.{communitiesOf, planFor, planOf, tableFor, startsAfter, membersAfter, standing, knownFor, knownOf}
+use Rattle.planner.specs.Plan.{planOf, startsAfter, membersAfter, standing, knownOf}
 use Rattle.planner.specs.declared.Known.the-variants as K
 use Rattle.planner.proofs.Answers.{known-same}
-use Rattle.scores.specs.Scored.{tallyOf, scoresFor, askEntries, talliedFor, talliedOf, scoredFor, scoredOf}
+use Rattle.scores.specs.Scored.{tallyOf, scoresFor, askEntries, talliedOf, scoredFor, scoredOf}
 use Rattle.scores.specs.declared.Tally.{Tally}
 use Rattle.scores.proofs.Answers.{tally-same, scored-same}
 use Rattle.totals.specs.Totals.{totals}
 use Rattle.points.specs.Points.{pointInLimits, distanceFrom, distanceTo}
-use Rattle.nearest.specs.Nearest.{nearestIn, nearestFor, nearestOf}
+use Rattle.nearest.specs.Nearest.{nearestIn, nearestOf}
 use Rattle.nearest.specs.declared.Nearest.the-variants as N
 use Rattle.nearest.proofs.Answers.{nearest-same}
 use Rattle.text.specs.Text.{bytes}
-use Rattle.reporting.specs.Report.{headLine, listLine, totalsLine, groupLine, groupLines, outliers, reportWith, reportText, writtenOf, writtenIn, reportFor, reportOf, afterFor, textAfter}
+use Rattle.lines.specs.Lines.{headLine, listLine, totalsLine, groupLine}
+use Rattle.reporting.specs.Report.{groupLines, outliers, reportWith, reportText, writtenOf, writtenIn, reportOf, textAfter}
 use Rattle.reporting.proofs.Answers.{report-same}
 use Rattle.layout.specs.declared.Parameters.{Parameters}
-use Rattle.roundtrips.specs.RoundTrips.{parametersOf, SameOutcome}
+use Rattle.writer.specs.Holds.{parametersOf}
+use Rattle.roundtrips.specs.RoundTrips.{SameOutcome}
 use Rattle.roundtrips.proofs.Openings.{SameRecords}
 
 -- ---- what the calls go by
@@ -55,7 +58,7 @@ textBy x g lines =
     headLine (record {
       handsets = x .n;
       ties = x .m;
-      counts = record { groups = length (communities g); memberships = length (memberTable (communities g)) };
+      counts = countsOf (communities g);
     })
     ++ (lines ++ (listLine (bytes "cores:") (cores g) ++ (listLine (bytes "outliers:") (outliers g) ++ totalsLine (totals g))))
 
@@ -112,39 +115,32 @@ one-answer : {A : Type 0} (f : A → Answer) → Injective f → (x y : A) → x
 one-answer f same x y e a b p q = same a b (p ∙ ap f e ∙ sym q)
 
 module _ (s t : List ℕ) (same : SameRecords s t) (ok : Accepted s) (fine : Accepted t) where
-  -- an outcome that goes by the reader's answer
-  by-header : {A : Type 0} (f : List ℕ → Opened → A) → f s (Site (headerOf s)) ≡ f t (Site (headerOf t)) → f s (openOf s) ≡ f t (openOf t)
-  by-header f e = ap (f s) (opened s ok) ∙ e ∙ sym (ap (f t) (opened t fine))
+  -- what a call says of both, where it says the same of their headers
+  by-header : {A : Type 0} (f h : Header → A) (g : Refusal → A) → f (headerOf s) ≡ h (headerOf t) → whenOpened s f g ≡ whenOpened t h g
+  by-header f h g e = when-accepted s f g ok ∙ e ∙ sym (when-accepted t h g fine)
 
   plan-is : (a b : ℕ) → planOf s a b ≡ planOf t a b
   unfolding planOf communitiesOf
-  plan-is a b = by-header (λ y o. planFor y o a b) (ap (λ (g : Network). planned (communities g) a b) (network-is s t same))
-
-  table-is : (a b : ℕ) (new : List (List ℕ) → List ℕ) (l : List ℕ)
-      → tableFor s (openOf s) a b (new (communitiesOf s)) l ≡ tableFor t (openOf t) a b (new (communitiesOf t)) l
-  unfolding communitiesOf
-  table-is a b new l =
-      by-header (λ y o. tableFor y o a b (new (communitiesOf y)) l)
-      (ap (λ (g : Network). tableAfter (communities g) a b (new (communities g)) l) (network-is s t same))
+  plan-is a b = by-header _ _ _ (ap (λ (g : Network). planned (communities g) a b) (network-is s t same))
 
   starts-are : (l : List ℕ) (b : ℕ) → startsAfter s l b ≡ startsAfter t l b
-  unfolding startsAfter
-  starts-are l b = table-is (length l) b startTable l
+  unfolding startsAfter communitiesOf
+  starts-are l b = by-header _ _ _ (ap (λ (g : Network). tableAfter (communities g) (length l) b (startTable (communities g)) l) (network-is s t same))
 
   members-are : (a : ℕ) (l : List ℕ) → membersAfter s a l ≡ membersAfter t a l
-  unfolding membersAfter
-  members-are a l = table-is a (length l) memberTable l
+  unfolding membersAfter communitiesOf
+  members-are a l = by-header _ _ _ (ap (λ (g : Network). tableAfter (communities g) a (length l) (memberTable (communities g)) l) (network-is s t same))
 
   known-is : (v : ℕ) → knownOf s v ≡ knownOf t v
   unfolding knownOf standing
   known-is v =
-      by-header (λ y o. knownFor y o v)
+      by-header _ _ _
       (ap (λ (g : Network). cond (ltb v (g .n)) (K.Handset (record { neighbours = neighbourhoodSize g v; role = role g v })) (K.Refused (refusal 13)))
       (network-is s t same))
 
   tallied-is : (l : List ℕ) → talliedOf s l ≡ talliedOf t l
   unfolding talliedOf
-  tallied-is l = by-header (λ y o. talliedFor y o l) (λ i. askEntries (same .parameters i .n) l (tally-is s t same l i))
+  tallied-is l = by-header _ _ _ (λ i. askEntries (same .parameters i .n) l (tally-is s t same l i))
 
   scored-is : (l : List ℕ) → scoredOf s l ≡ scoredOf t l
   unfolding scoredOf
@@ -152,17 +148,17 @@ module _ (s t : List ℕ) (same : SameRecords s t) (ok : Accepted s) (fine : Acc
 
   report-is : (room : ℕ) → reportOf s room ≡ reportOf t room
   unfolding reportOf
-  report-is room = by-header (λ y o. reportFor y o room) (ap (λ (x : List ℕ). writtenOf x room) (text-is s t same))
+  report-is room = by-header _ _ _ (ap (λ (x : List ℕ). writtenOf x room) (text-is s t same))
 
   after-is : (l : List ℕ) → textAfter s l ≡ textAfter t l
   unfolding textAfter
-  after-is l = by-header (λ y o. afterFor y o l) (ap (λ (x : List ℕ). writtenIn x l) (text-is s t same))
+  after-is l = by-header _ _ _ (ap (λ (x : List ℕ). writtenIn x l) (text-is s t same))
 
   nearest-is : (p : List ℤ) → nearestOf s p ≡ nearestOf t p
   unfolding nearestOf distanceTo communitiesOf
   nearest-is p =
-      let far : List ℕ → ℕ → ℕ = λ part v. distanceFrom (map raised p) (handsetRecord part v) in
-      by-header (λ y o. nearestFor y o p)
+      let far : List ℕ → ℕ → ℕ = λ records v. distanceFrom (map raised p) (handsetRecord records v) in
+      by-header _ _ _
       (λ i. cond (pointInLimits p) (nearestIn (far (same .handsets i)) (communities (network-is s t same i))) (N.Refused (refusal 17)))
 
   pub same-outcome : SameOutcome s t

@@ -5,14 +5,12 @@
 --     coordsS, endsS              the two tables of site S
 --     two x y z                   a coordinate table of two handsets: one at (0, 0, 0), one at (x, y, z)
 --     gapped                      the pair at (-1, -1, 0) and (0, 1, 0) with the edge first and four bytes of no meaning before the handsets
---     planar G                    the same pair as it was written in the plane, with records of 8 bytes, G for the near distance and zero in bytes 30 and 31
 --     Examples                    the list
 use Prim.Native.Nat.{ℕ}
 use mathlib.Core.Path.{_≡_}
-use mathlib.Core.Bool.{true, false}
 use mathlib.Core.List.{List, [], _∷_, _++_}
 use lib.IntN.{ℤ, pos, negsuc}
-use lib.ListN.{take, replicate}
+use lib.ListN.{replicate}
 use Rattle.image.specs.Answers.{refusal}
 use Rattle.image.specs.Image.{headerOf, handsetRecords, edgeRecords}
 use Rattle.image.specs.Questions.{openOf}
@@ -22,7 +20,6 @@ use Rattle.layout.specs.Layout.{imageOf}
 use Rattle.layout.specs.declared.Parameters.{Parameters}
 use Rattle.writer.specs.Writer.{encodedOf, bufferAfter}
 use Rattle.writer.specs.declared.Encoded.the-variants.{Length, Refused}
-use Rattle.roundtrips.specs.TakenOver.{planarCoordinate, planarNear}
 
 abbrev pub given : ℕ → ℕ → ℕ → ℕ → ℕ → ℕ → Parameters
 given n m G p q mu = record { n = n; m = m; limit = G; p = p; q = q; mu = mu }
@@ -39,9 +36,6 @@ two x y z = pos 0 ∷ pos 0 ∷ pos 0 ∷ x ∷ y ∷ z ∷ []
 abbrev pub gapped : List ℕ
 gapped =
     header 2 1 40 32 64 5 1 2 3 ++ (1 ∷ 0 ∷ 0 ∷ 0 ∷ 9 ∷ 9 ∷ 9 ∷ 9 ∷ position (minus 1) (minus 1) (small 0) ++ position (small 0) (small 1) (small 0))
-
-abbrev pub planar : ℕ → List ℕ
-planar G = take 30 (header 2 1 36 32 52 G 1 2 3) ++ (0 ∷ 0 ∷ 1 ∷ 0 ∷ 0 ∷ 0 ∷ minus 1 ++ (minus 1 ++ (small 0 ++ small 1)))
 
 pub record Examples : Type 0 where
   -- the bytes: site S with mu 4 and with a blank mu, a pair with negative coordinates, no handset
@@ -81,9 +75,3 @@ pub record Examples : Type 0 where
   pub no-such-handset : encodedOf (given 2 2 0 1 2 3) (two (pos 0) (pos 0) (pos 0)) (0 ∷ 0 ∷ 0 ∷ 2 ∷ []) 0 ≡ Refused (record { number = 8; place = 1 })
   pub loop : encodedOf (given 2 3 0 1 2 3) (two (pos 0) (pos 0) (pos 0)) (0 ∷ 1 ∷ 1 ∷ 0 ∷ 1 ∷ 1 ∷ []) 0 ≡ Refused (record { number = 9; place = 2 })
   pub twice : encodedOf (given 2 2 0 1 2 3) (two (pos 0) (pos 0) (pos 0)) (0 ∷ 1 ∷ 1 ∷ 0 ∷ []) 0 ≡ Refused (record { number = 10; place = 1 })
-  -- an older image: where its x and y stand, near at 5 and not at 4, and refused today
-  pub planar-first : (planarCoordinate (planar 5) 0 0 ≡ negsuc 0) × (planarCoordinate (planar 5) 0 1 ≡ negsuc 0)
-  pub planar-second : (planarCoordinate (planar 5) 1 0 ≡ pos 0) × (planarCoordinate (planar 5) 1 1 ≡ pos 1)
-  pub planar-near : planarNear (planar 5) 0 1 ≡ true
-  pub planar-apart : planarNear (planar 4) 0 1 ≡ false
-  pub planar-refused : openOf (planar 5) ≡ O.Refused (refusal 4)

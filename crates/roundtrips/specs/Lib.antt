@@ -1,3 +1,2 @@
 pub mod RoundTrips
-pub mod TakenOver
 pub mod Examples

@@ -2,8 +2,6 @@
 -- `WriteCall`, `PlanCall` and `ReportCall` are what `write`, `plan` and `report` ensure, and the other calls ensure that their answer has the number, place and
 -- values of the definition named. Proved in proofs/RoundTrips as `round-trips`.
 --
---     parametersOf h              the parameters that a header has
---     Holds s x coords ends       the image s has the numbers of x in its header, and those of the two tables in its records, in their order
 --     ReadsBack x coords ends ..  what the reader finds in the k bytes that were written: the header, the same numbers; and the rest of the buffer is kept
 --     SameOutcome s t             two images have the same parameters, and whatever a call makes of them is the same: the plan in both tables, roles, tallies,
 --                                 scores, the nearest group and the report's text
@@ -16,20 +14,18 @@
 --       same-refusals             tables are refused with 7 to 10 exactly when an image of these numbers is, with the same number and place
 --       no-longer                 an image written again is no longer than the first, so that a buffer of the first one's length is long enough
 --       an-image, its-tables      tables that pass 3, 5 and 6 are those of an image, and every image has its tables
-use Prim.Native.Nat.{ℕ, _+_, _*_, _≤_, _<_}
+use Prim.Native.Nat.{ℕ, _≤_, _<_}
 use mathlib.Core.Path.{_≡_}
 use mathlib.Core.Logic.{_↔_}
 use mathlib.Core.List.{List}
 use lib.Dec.{T}
-use lib.IntN.{ℤ, pos}
-use lib.ListN.{length, getD, take, drop}
+use lib.IntN.{ℤ}
+use lib.ListN.{length, take, drop}
 use Rattle.bytes.specs.Bytes.{Below}
-use Rattle.fields.specs.Fields.{coordinateCount, endCount, countsFit, thresholdsFit}
-use Rattle.image.specs.Image.{headerOf, edgeRecords, endA, endB}
-use Rattle.image.specs.Signed.{signedCoordinate}
+use Rattle.limits.specs.Limits.{countsFit, thresholdsFit}
+use Rattle.image.specs.Image.{headerOf}
 use Rattle.image.specs.Questions.{openOf, HeaderAccepted, Accepted}
 use Rattle.image.specs.Answers.{openAnswer, refusal}
-use Rattle.image.specs.declared.Header.{Header}
 use Rattle.image.specs.declared.Refusal.{Refusal}
 use Rattle.image.specs.declared.Opened.{Opened}
 use Rattle.image.specs.declared.Opened.the-variants as O
@@ -46,20 +42,10 @@ use Rattle.reporting.specs.Report.{ReportCall}
 use Rattle.reporting.specs.declared.Reported.{Reported}
 use Rattle.layout.specs.Layout.{headerFor, imageOf, lengthsFit, Signed32}
 use Rattle.layout.specs.declared.Parameters.{Parameters}
+use Rattle.writer.specs.Holds.{parametersOf, Holds}
 use Rattle.writer.specs.Writer.{WriteCall}
 use Rattle.writer.specs.declared.Encoded.{Encoded}
 use Rattle.writer.specs.declared.Encoded.the-variants as E
-
-abbrev pub parametersOf : Header → Parameters
-parametersOf h = record { n = h .n; m = h .m; limit = h .limit; p = h .p; q = h .q; mu = h .mu }
-
-pub record Holds (s : List ℕ) (x : Parameters) (coords : List ℤ) (ends : List ℕ) : Type 0 where
-  pub parameters : parametersOf (headerOf s) ≡ x
-  pub coordinate-count : length coords ≡ coordinateCount * x .n
-  pub end-count : length ends ≡ endCount * x .m
-  pub coordinates : (v i : ℕ) → v < x .n → i < coordinateCount → signedCoordinate s v i ≡ getD coords (coordinateCount * v + i) (pos 0)
-  pub first-ends : (k : ℕ) → k < x .m → endA (edgeRecords s) k ≡ getD ends (endCount * k) 0
-  pub second-ends : (k : ℕ) → k < x .m → endB (edgeRecords s) k ≡ getD ends (endCount * k + 1) 0
 
 pub record ReadsBack (x : Parameters) (coords : List ℤ) (ends l : List ℕ) (k : ℕ) (l′ : List ℕ) : Type 0 where
   pub size : k ≡ headerFor x .len

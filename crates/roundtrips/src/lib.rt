@@ -1,2 +1,1 @@
-// What is written is read back, what was read can be written again, and a site of before can be written anew: specs/RoundTrips and specs/TakenOver say it, and
-// proofs/ proves it. There is no code here.
+// What is written is read back, and what was read can be written again: specs/RoundTrips says it, and proofs/RoundTrips proves it. There is no code here.

@@ -3,8 +3,9 @@
 --     no-3, no-5, no-6     the answer where a question gets a no and those before it a yes
 --     by-reader            where all three get a yes, it is the reader's answer to the image
 --     Asked                questions 3, 5 and 6 got a yes (layout/proofs/Reading); writes-asked: then the image is written where there is room
---     put-within           what is written is no longer than the draft; draft-image: and the part of it that is handed to the reader is the image
+--     put-within           what is written is no longer than the draft; draft-image: and the slice of it that is handed to the reader is the image
 --     tables-site          a header as answer: the three questions got a yes, and it is that of the image
+--     encoded-by           the call's answer, by the answer to the tables; encoded-either: what holds of both answers to the tables holds of it
 --     call-no, -short, -yes    so the call's outcome is as the definition has it
 use Prim.Native.Nat.{ℕ, _-_, _≤_, _<_}
 use native.Mathlib.Omega.{arith}
@@ -19,20 +20,20 @@ use lib.Seq.{sets, length-sets, take-at}
 use borrow.Author.Tests.{le-leb, lt-leb}
 use Rattle.sets.proofs.Tests.{T-true, and-right}
 use Rattle.sets.proofs.Writing.{sets-front}
+use Rattle.limits.specs.Limits.{countsFit, thresholdsFit}
 use Rattle.image.specs.Answers.{refusal}
-use Rattle.fields.specs.Fields.{countsFit, thresholdsFit}
-use Rattle.image.specs.Questions.{openOf}
+use Rattle.image.specs.Questions.{openOf, byAnswer}
 use Rattle.image.specs.Rows.{zeros}
 use Rattle.image.specs.declared.Header.{Header}
 use Rattle.image.specs.declared.Refusal.{Refusal}
 use Rattle.image.specs.declared.Opened.{Opened}
 use Rattle.image.specs.declared.Opened.the-variants as O
 use Rattle.image.proofs.Acceptance.{pass, go-on, refuse, records-header, fits}
-use Rattle.layout.specs.Layout.{headerFor, handsetPart, edgePart, imageOf, lengthsFit, writes, Put}
-use Rattle.layout.specs.Held.{imageMost}
+use Rattle.layout.specs.Layout.{headerFor, handsetTable, edgeTable, imageOf, lengthsFit, writes, Put}
+use Rattle.layout.specs.ForProofs.{imageMost}
 use Rattle.layout.specs.declared.Parameters.{Parameters}
 use Rattle.layout.proofs.Reading.{Asked, tables-fit, asked-length, open-image}
-use Rattle.writer.specs.Writer.{tablesAnswer, encodedFor, encodedOf, bufferFor, bufferAfter, encodedAnswer, WriteCall}
+use Rattle.writer.specs.Writer.{tablesAnswer, askBuffer, encodedOf, bufferFor, bufferAfter, encodedAnswer, WriteCall}
 use Rattle.writer.specs.declared.Encoded.{Encoded}
 use Rattle.writer.specs.declared.Encoded.the-variants as E
 
@@ -70,7 +71,7 @@ module _ (x : Parameters) (coords : List ℤ) (ends : List ℕ) where
       let a3 = pass q3 _ _ _ e in
       let a5 = pass q5 _ _ _ (a3 .1) in
       let a6 = pass q6 _ _ _ (a5 .1) in
-      (record { q3 = a3 .0; q5 = a5 .0; q6 = a6 .0 }, sym (records-header (handsetPart coords) (edgePart ends) (headerFor x) (a6 .1)))
+      (record { q3 = a3 .0; q5 = a5 .0; q6 = a6 .0 }, sym (records-header (handsetTable coords) (edgeTable ends) (headerFor x) (a6 .1)))
 
   -- ---- the draft
 
@@ -115,16 +116,28 @@ module _ (x : Parameters) (coords : List ℤ) (ends : List ℕ) where
   unfolding bufferAfter
   outcome l a l′ e d = record { answer = ap encodedAnswer (sym e); buffer = d ∙ sym (ap (λ (b : Encoded). bufferFor b (imageOf x coords ends) l) e) }
 
-  pub call-no : (l : List ℕ) (q : Refusal) → tablesAnswer x coords ends ≡ O.Refused q → WriteCall x coords ends l (E.Refused q) l
+  pub encoded-by : (room : ℕ) (o : Opened) → tablesAnswer x coords ends ≡ o → encodedOf x coords ends room ≡ byAnswer o (askBuffer room) E.Refused
   unfolding encodedOf
-  call-no l q e = outcome l (E.Refused q) l (ap (λ (o : Opened). encodedFor o (length l)) e) refl
+  encoded-by room o e = ap (λ (a : Opened). byAnswer a (askBuffer room) E.Refused) e
+
+  pub encoded-either : (room : ℕ) (P : Encoded → Type 0) → (Asked x coords ends → tablesAnswer x coords ends ≡ O.Site (headerFor x) → P (askBuffer room (headerFor x)))
+      → ((q : Refusal) → tablesAnswer x coords ends ≡ O.Refused q → P (E.Refused q)) → P (encodedOf x coords ends room)
+  encoded-either room P f g = go (tablesAnswer x coords ends) refl
+    where
+      go : (o : Opened) → tablesAnswer x coords ends ≡ o → P (encodedOf x coords ends room)
+      go (O.Site h) e =
+          let a = tables-site h e in
+          let s : tablesAnswer x coords ends ≡ O.Site (headerFor x) = e ∙ ap O.Site (a .1) in
+          subst P (sym (encoded-by room (O.Site (headerFor x)) s)) (f (a .0) s)
+      go (O.Refused q) e = subst P (sym (encoded-by room (O.Refused q) e)) (g q e)
+
+  pub call-no : (l : List ℕ) (q : Refusal) → tablesAnswer x coords ends ≡ O.Refused q → WriteCall x coords ends l (E.Refused q) l
+  call-no l q e = outcome l (E.Refused q) l (encoded-by (length l) (O.Refused q) e) refl
 
   -- of a header, question 20
   asked-room : (h : Header) (room : ℕ) (b : Bool) → tablesAnswer x coords ends ≡ O.Site h → leb (h .len) room ≡ b
       → encodedOf x coords ends room ≡ cond b (E.Length (h .len)) (E.Refused (refusal 20))
-  unfolding encodedOf
-  asked-room h room b e d =
-      ap (λ (o : Opened). encodedFor o room) e ∙ ap (λ (c : Bool). cond c (E.Length (h .len)) (E.Refused (refusal 20))) d
+  asked-room h room b e d = encoded-by room (O.Site h) e ∙ ap (λ (c : Bool). cond c (E.Length (h .len)) (E.Refused (refusal 20))) d
 
   pub call-short : (l : List ℕ) (h : Header) → tablesAnswer x coords ends ≡ O.Site h → length l < h .len → WriteCall x coords ends l (E.Refused (refusal 20)) l
   call-short l h e s = outcome l (E.Refused (refusal 20)) l (asked-room h (length l) false e (lt-leb (h .len) (length l) s)) refl

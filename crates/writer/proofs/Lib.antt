@@ -1,2 +1,4 @@
 pub mod Answers
 pub mod Drafting
+pub mod Outcome
+pub mod Tables

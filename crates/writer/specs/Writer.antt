@@ -3,7 +3,7 @@
 --     tablesAnswer x coords ends    questions 3, 5, 6 and 7 to 10, in this order, each of the whole tables before the next: the header of the image that the
 --                                   numbers make, or the number and place of the first no. Questions 7 to 10 are the reader's own, of the records that the
 --                                   two tables make
---     encodedFor asked room         question 20, asked last: the image's length, or the refusal
+--     askBuffer room h              question 20, asked last: the length of the image with the header h, or the refusal where it is longer than room bytes
 --     encodedOf x coords ends room  the call's answer for a buffer of room bytes
 --     bufferFor answer image l      the buffer l after the call: it begins with the image and past it holds what it held; as before where the call is refused
 --     bufferAfter x coords ends l   every byte of the buffer after the call
@@ -17,12 +17,12 @@ use mathlib.Core.List.{List, [], _∷_, _++_}
 use lib.Dec.{leb}
 use lib.IntN.{ℤ}
 use lib.ListN.{length, drop}
+use Rattle.limits.specs.Limits.{countsFit, thresholdsFit}
 use Rattle.image.specs.Answers.{Answer, refused, refusal, given, Injective}
-use Rattle.fields.specs.Fields.{countsFit, thresholdsFit}
-use Rattle.image.specs.Questions.{ask, askRecords}
+use Rattle.image.specs.Questions.{ask, askRecords, byAnswer}
+use Rattle.image.specs.declared.Header.{Header}
 use Rattle.image.specs.declared.Opened.{Opened}
-use Rattle.image.specs.declared.Opened.the-variants as O
-use Rattle.layout.specs.Layout.{headerFor, handsetPart, edgePart, imageOf, lengthsFit}
+use Rattle.layout.specs.Layout.{headerFor, handsetTable, edgeTable, imageOf, lengthsFit}
 use Rattle.layout.specs.declared.Parameters.{Parameters}
 use Rattle.writer.specs.declared.Encoded.{Encoded}
 use Rattle.writer.specs.declared.Encoded.the-variants as E
@@ -33,15 +33,14 @@ tablesAnswer x coords ends =
     ask (countsFit (x .n) (x .m)) 3 0
     (ask (thresholdsFit (x .limit) (x .p) (x .q) (x .mu)) 5 0
     (ask (lengthsFit x (length coords) (length ends)) 6 0
-    (askRecords (handsetPart coords) (edgePart ends) (headerFor x))))
+    (askRecords (handsetTable coords) (edgeTable ends) (headerFor x))))
 
-abbrev pub encodedFor : Opened → ℕ → Encoded
-encodedFor (O.Site h) room = cond (leb (h .len) room) (E.Length (h .len)) (E.Refused (refusal 20))
-encodedFor (O.Refused r) room = E.Refused r
+abbrev pub askBuffer : ℕ → Header → Encoded
+askBuffer room h = cond (leb (h .len) room) (E.Length (h .len)) (E.Refused (refusal 20))
 
 unfoldable pub encodedOf : Parameters → List ℤ → List ℕ → ℕ → Encoded
 unfolding tablesAnswer
-encodedOf x coords ends room = encodedFor (tablesAnswer x coords ends) room
+encodedOf x coords ends room = byAnswer (tablesAnswer x coords ends) (askBuffer room) E.Refused
 
 abbrev pub bufferFor : Encoded → List ℕ → List ℕ → List ℕ
 bufferFor (E.Length k) image l = image ++ drop k l

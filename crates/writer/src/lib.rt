@@ -18,13 +18,13 @@ pub enum Encoded {
 fn ask_tables(x: Parameters, coordinates: &[i32], ends: &[u16]) -> Opened
     ensures { λ r. ⌜ r ≡ tablesAnswer x (now (coordinates .entry)) (now (ends .entry)) ⌝ }
 {
-    if !fields::counts_fit(x.n, x.m) {
+    if !limits::counts_fit(x.n, x.m) {
         return Opened::Refused(Refusal {
             number: 3,
             place: 0,
         });
     }
-    if !fields::thresholds_fit(x.limit, x.p, x.q, x.mu) {
+    if !limits::thresholds_fit(x.limit, x.p, x.q, x.mu) {
         return Opened::Refused(Refusal {
             number: 5,
             place: 0,
@@ -47,7 +47,7 @@ pub fn write(x: Parameters, coordinates: &[i32], ends: &[u16], buffer: &mut [u8]
 {
     let asked = ask_tables(x, coordinates, ends);
     let Opened::Site(h) = asked else {
-        return Encoded::Refused(image::refusal_of(asked));
+        return Encoded::Refused(refusals::refusal_of(asked));
     };
     let len = h.len as usize;
     if buffer.len() < len {

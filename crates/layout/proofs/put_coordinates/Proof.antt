@@ -10,8 +10,7 @@ use lib.Seq.{sets, length-sets}
 use mir.Facts.{toZ-ofZ}
 use Rattle.bytes.specs.Bytes.{tableBytes}
 use Rattle.bytes.proofs.Writing.{table-none, table-more, table-all}
-use Rattle.fields.specs.Fields.{coordinateBytes}
-use Rattle.image.specs.Image.{headerBytes}
+use Rattle.fields.specs.Fields.{coordinateBytes, headerBytes}
 use Rattle.layout.specs.Layout.{word32}
 use Rattle.layout.proofs.Storing.{getD-word}
 use Rattle.layout.proofs.put_coordinates.Statement.{statement}

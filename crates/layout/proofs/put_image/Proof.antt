@@ -10,10 +10,10 @@ use lib.Seq.{sets}
 use denote.Ref.{now}
 use borrow.Author.Needs.{needs}
 use borrow.Author.Tests.{not-true, not-false}
-use Rattle.fields.specs.Fields.{coordinateBytes, countsFit}
-use Rattle.image.specs.Image.{headerBytes}
+use Rattle.fields.specs.Fields.{coordinateBytes, headerBytes}
+use Rattle.limits.specs.Limits.{countsFit}
 use Rattle.image.proofs.Acceptance.{counts-limits}
-use Rattle.layout.specs.Layout.{headerFor, edgePart, lengthsFit}
+use Rattle.layout.specs.Layout.{headerFor, edgeTable, lengthsFit}
 use Rattle.layout.proofs.Storing.{parts, Fitting, fitting, writes-by, uncounted, writes-yes, writes-no}
 use Rattle.layout.proofs.put_image.Statement.{statement}
 use Rattle.layout.proofs.put_image.Tie as tie
@@ -110,7 +110,7 @@ returns-3 c =
     writes-yes (a .x) (now (a .coordinates)) (now (a .ends)) (now (a .s))
     (writes-by (a .x) (now (a .coordinates)) (now (a .ends)) (now (a .s)) true (counted (test .before .before)) (whole test))
     (parts (a .x) (now (a .coordinates)) (now (a .ends)) (now (a .s)) _ _ _ _ (w1 .put-counts .ensures) (w2 .put-thresholds .ensures) (w3 .put-coordinates .ensures)
-    (w4 .put-ends .ensures ∙ ap (λ (k : ℕ). sets (w3 .put-coordinates .last .0) k (edgePart (now (a .ends)))) at))
+    (w4 .put-ends .ensures ∙ ap (λ (k : ℕ). sets (w3 .put-coordinates .last .0) k (edgeTable (now (a .ends)))) at))
     refl
 
 pub put-image-spec : {M : Type 1} → statement M

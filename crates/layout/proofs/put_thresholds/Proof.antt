@@ -3,7 +3,7 @@ use native.Mathlib.Omega.{arith}
 use mathlib.Core.Path.{refl}
 use borrow.Author.Needs.{needs}
 use Rattle.bytes.specs.Bytes.{leBytes}
-use Rattle.layout.specs.Held.{thresholdsPart}
+use Rattle.layout.specs.ForProofs.{thresholdsBytes}
 use Rattle.layout.proofs.Storing.{next}
 use Rattle.layout.proofs.put_thresholds.Statement.{statement}
 use Rattle.layout.proofs.put_thresholds.Tie as tie
@@ -27,7 +27,7 @@ same-length : tie.Need-same-length
 same-length c = search needs
 
 returns : tie.Need-returns
-unfolding thresholdsPart leBytes
+unfolding thresholdsBytes leBytes
 returns c =
     let w5 = c .before .before in
     let w4 = w5 .before .before .before .before in

@@ -4,7 +4,7 @@ use lib.Dec.{T}
 use borrow.Author.Needs.{needs}
 use borrow.Author.Tests.{not-true, not-false}
 use denote.Ref.{now}
-use Rattle.fields.specs.Fields.{countsFit, thresholdsFit}
+use Rattle.limits.specs.Limits.{countsFit, thresholdsFit}
 use Rattle.image.specs.Questions.{openOf}
 use Rattle.image.proofs.Answers.{open-same}
 use Rattle.layout.proofs.Reading.{Asked}

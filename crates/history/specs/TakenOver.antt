@@ -1,16 +1,16 @@
--- Sites of before, when a position had two numbers and a site was in the plane, are written anew with z = 0 (paper 02, order 7). An image that was accepted until
--- then is refused. Its numbers, with a z of 0 for each handset, are not refused by the writer, and the new image is accepted and has the network that the
--- definitions gave the older one, so the same communities and roles; its edges too, and all its distances. Proved in proofs/TakenOver as `taken-over`.
+-- Images until paper 02, order 7: records of x and y. A site in that format is written again with z = 0. An image that was accepted until then is refused. Its
+-- numbers, with a z of 0 for each handset, are not refused by the writer, and the new image is accepted and has the network that the definitions gave the
+-- older one, so the same communities and roles; its edges too, and all its distances. Proved in proofs/TakenOver as `taken-over`.
 --
 --     planarCount, planarWidth      how many coordinates a handset had, and how many bytes its record
---     planarLimitSquared            the most that G might be
+--     planarLimitMost            the most that G might be
 --     planarCoordinate s v i        coordinate i of handset v of an older image: x is 0, y is 1
 --     PlanarAccepted s              questions 1 to 10 got a yes, as paper 01 has them
 --     planarNear s u v              paper 01's near: u is v, or they are adjacent and dx² + dy² ≤ G
 --     planarNetwork s               the network of an older image
 --     PlanarHolds s x coords ends   the older image s has the numbers of x in its header, and x, y and 0 of each of its handsets stand in the first table, the
 --                                   ends of its edges in the second
---     Kept s t                      what the image t, written anew, keeps of the older image s
+--     Kept s t                      what the image t, written again, keeps of the older image s
 --     TakenOver                     the theorem:
 --       refused                     an older image that was accepted is refused with 4
 --       written                     its numbers are written where the buffer is long enough, and what is written keeps the site
@@ -24,11 +24,11 @@ use lib.IntN.{ℤ, pos}
 use lib.Signed.{leZ}
 use lib.ListN.{length, getD, take}
 use Rattle.bytes.specs.Bytes.{number, Below}
-use Rattle.fields.specs.Fields.{coordinateBytes, coordinateCount, edgeBytes, endCount, countsFit, thresholdsFit}
-use Rattle.image.specs.Image.{headerBytes, headerOf, handsetCount, edgeCount, limitSquared, epsilonNum, epsilonDen, mu, edgeRecords, endA, endB, distanceSquared, adjacent}
+use Rattle.fields.specs.Fields.{coordinateBytes, coordinateCount, edgeBytes, endCount, headerBytes}
+use Rattle.limits.specs.Limits.{countsFit, thresholdsFit}
+use Rattle.image.specs.Image.{headerOf, handsetCount, edgeCount, limitOf, epsilonNum, epsilonDen, mu, edgeRecords, endA, endB, distanceSquared, adjacent}
 use Rattle.image.specs.Questions.{badEnd, isLoop, repeatsEarlier, openOf, Accepted}
 use Rattle.image.specs.Signed.{signed32, withinLimits}
-use Rattle.image.specs.Planar.{planarApart}
 use Rattle.image.specs.Answers.{refusal}
 use Rattle.image.specs.declared.Opened.the-variants as O
 use Rattle.community.specs.Network.{Network}
@@ -36,10 +36,11 @@ use Rattle.community.specs.Site.{network}
 use Rattle.points.specs.Points.{signedDistanceTo}
 use Rattle.layout.specs.Layout.{headerFor, Signed32}
 use Rattle.layout.specs.declared.Parameters.{Parameters}
+use Rattle.writer.specs.Holds.{parametersOf}
 use Rattle.writer.specs.Writer.{WriteCall}
 use Rattle.writer.specs.declared.Encoded.{Encoded}
 use Rattle.writer.specs.declared.Encoded.the-variants as E
-use Rattle.roundtrips.specs.RoundTrips.{parametersOf}
+use Rattle.history.specs.Plane.{planarApart}
 
 abbrev pub planarCount : ℕ
 planarCount = 2
@@ -47,8 +48,8 @@ planarCount = 2
 abbrev pub planarWidth : ℕ
 planarWidth = coordinateBytes * planarCount
 
-abbrev pub planarLimitSquared : ℕ
-planarLimitSquared = 8000000000000
+abbrev pub planarLimitMost : ℕ
+planarLimitMost = 8000000000000
 
 unfoldable pub planarCoordinate : List ℕ → ℕ → ℕ → ℤ
 unfolding signed32 number headerOf
@@ -60,7 +61,7 @@ pub record PlanarAccepted (s : List ℕ) : Type 0 where
   pub q2 : T (eqb (headerOf s .len) (length s))
   pub q3 : T (countsFit (headerOf s .n) (headerOf s .m))
   pub q4 : T (eqb (headerOf s .width) 0)
-  pub q5 : T (leb (headerOf s .limit) planarLimitSquared && thresholdsFit (headerOf s .limit) (headerOf s .p) (headerOf s .q) (headerOf s .mu))
+  pub q5 : T (leb (headerOf s .limit) planarLimitMost && thresholdsFit (headerOf s .limit) (headerOf s .p) (headerOf s .q) (headerOf s .mu))
   pub q6 : T (let a = headerOf s .handsets in let b = headerOf s .edges in let c = a + planarWidth * headerOf s .n in let d = b + edgeBytes * headerOf s .m in
       leb headerBytes a && (leb headerBytes b && (leb c (length s) && (leb d (length s) && (leb c b || leb d a)))))
   pub q7 : (v i : ℕ) → v < handsetCount s → i < planarCount → T (withinLimits (planarCoordinate s v i))
@@ -70,7 +71,7 @@ pub record PlanarAccepted (s : List ℕ) : Type 0 where
 
 unfoldable pub planarNear : List ℕ → ℕ → ℕ → Bool
 unfolding adjacent planarCoordinate
-planarNear s u v = eqb u v || (adjacent s u v && leZ (planarApart (planarCoordinate s u) (planarCoordinate s v)) (pos (limitSquared s)))
+planarNear s u v = eqb u v || (adjacent s u v && leZ (planarApart (planarCoordinate s u) (planarCoordinate s v)) (pos (limitOf s)))
 
 abbrev pub planarNetwork : List ℕ → Network
 planarNetwork s = record { n = handsetCount s; neighbour = planarNear s; p = epsilonNum s; q = epsilonDen s; mu = mu s }

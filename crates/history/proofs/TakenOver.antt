@@ -7,7 +7,7 @@
 --     image-accepted   the image that they make is accepted
 --     network-is       its network is the older image's
 --     kept             it keeps the site: network, edges and distances
---     written          the writer answers its length, and the buffer then begins with it
+--     anew             the writer answers its length, and the buffer then begins with it
 --     its-tables       the tables of an older image
 --     taken-over       the theorem
 use Prim.Native.Nat.{ℕ, zero, suc, _+_, _*_, _/_, _%_, _≤_, _<_}
@@ -24,32 +24,33 @@ use Rattle.sets.specs.Below.{any}
 use Rattle.sets.proofs.Tests.{three, and-left, and-right, any-take, none-any}
 use Rattle.bytes.specs.Bytes.{Below}
 use Rattle.bytes.proofs.Bytes.{number-le}
-use Rattle.fields.specs.Fields.{coordinateCount, edgeBytes, coreSize}
-use Rattle.image.specs.Image.{headerBytes, headerOf, handsetCount, edgeCount, limitSquared, edgeRecords, handsetRecord, distanceSquared, joins, adjacent, mu}
-use Rattle.image.specs.Questions.{outOfLimits, badEnd, isLoop, repeatsEarlier, openOf, Accepted}
+use Rattle.fields.specs.Fields.{coordinateCount, edgeBytes, coreSize, headerBytes}
+use Rattle.limits.specs.Limits.{outOfLimits}
+use Rattle.image.specs.Image.{headerOf, handsetCount, edgeCount, limitOf, edgeRecords, handsetRecord, distanceSquared, joins, adjacent, mu}
+use Rattle.image.specs.Questions.{badEnd, isLoop, repeatsEarlier, openOf, Accepted}
 use Rattle.image.specs.Signed.{withinLimits, signedCoordinate, square}
-use Rattle.image.specs.Planar.{planarApart}
 use Rattle.image.specs.Answers.{refusal}
 use Rattle.image.specs.declared.Opened.the-variants as O
-use Rattle.image.proofs.Acceptance.{ends-below}
+use Rattle.image.proofs.Acceptance.{opened, ends-below}
 use Rattle.image.proofs.Edges.{joins-cases}
-use Rattle.image.proofs.Planar.{planar-images, planar-distance}
-use Rattle.near.specs.Near.{neighbour, olderNeighbour}
-use Rattle.near.proofs.Near.{neighbour-older}
+use Rattle.near.specs.Near.{neighbour}
+use Rattle.near.proofs.Near.{neighbour-is}
 use Rattle.community.specs.Site.{network}
 use Rattle.points.specs.Points.{signedDistanceTo}
 use Rattle.points.proofs.Limits.{within-small}
-use Rattle.layout.specs.Layout.{headerFor, handsetPart, imageOf, Signed32}
+use Rattle.layout.specs.Layout.{headerFor, handsetTable, imageOf, Signed32}
 use Rattle.layout.specs.declared.Parameters.{Parameters}
 use Rattle.layout.proofs.Numbers.{record-numbers}
 use Rattle.layout.proofs.Reading.{Asked, image-below, handsets-read, edges-read, header-accepted}
+use Rattle.writer.specs.Holds.{parametersOf, Holds}
 use Rattle.writer.specs.Writer.{WriteCall}
 use Rattle.writer.specs.declared.Encoded.{Encoded}
 use Rattle.writer.specs.declared.Encoded.the-variants as E
-use Rattle.roundtrips.specs.RoundTrips.{parametersOf, Holds}
-use Rattle.roundtrips.specs.TakenOver.{planarWidth, planarLimitSquared, planarCoordinate, PlanarAccepted, planarNear, planarNetwork, PlanarHolds, Kept, TakenOver}
-use Rattle.roundtrips.proofs.Tables.{every-entry, edges-below, EndTable, ends-low, ends-are, image-holds, endsIn, ends-in, coordinatesBy, coordinates-length, coordinate-at}
-use Rattle.roundtrips.proofs.RoundTrips.{front, asked-by, round-trips}
+use Rattle.writer.proofs.Outcome.{written}
+use Rattle.writer.proofs.Tables.{every-entry, edges-below, EndTable, ends-low, ends-are, asked-by, image-holds, endsIn, ends-in, coordinatesBy, coordinates-length, coordinate-at}
+use Rattle.history.specs.Plane.{planarApart}
+use Rattle.history.specs.TakenOver.{planarWidth, planarLimitMost, planarCoordinate, PlanarAccepted, planarNear, planarNetwork, PlanarHolds, Kept, TakenOver}
+use Rattle.history.proofs.Plane.{planar-images, planar-distance}
 
 -- ---- the older image is refused
 
@@ -86,7 +87,7 @@ module _ (s : List ℕ) (x : Parameters) (coords : List ℤ) (ends : List ℕ) (
 
   asked : Asked x coords ends
   asked =
-      asked-by (headerOf s) x coords ends (held .parameters) (ok .q3) (and-right (leb (headerOf s .limit) planarLimitSquared) _ (ok .q5)) (held .coordinate-count)
+      asked-by (headerOf s) x coords ends (held .parameters) (ok .q3) (and-right (leb (headerOf s .limit) planarLimitMost) _ (ok .q5)) (held .coordinate-count)
       (held .end-count)
 
   within : (v i : ℕ) → v < x .n → i < coordinateCount → T (withinLimits (getD coords (coordinateCount * v + i) (pos 0)))
@@ -110,7 +111,7 @@ module _ (s : List ℕ) (x : Parameters) (coords : List ℤ) (ends : List ℕ) (
       subst (λ (k : ℕ). mag (getD coords k (pos 0)) < 2147483648) place
       (within-small (getD coords (coordinateCount * v + i) (pos 0)) (within v i (omega (arith, held .coordinate-count)) (omega arith))))
 
-  kept-limits : (v : ℕ) → v < x .n → T (not (outOfLimits (handsetRecord (handsetPart coords) v)))
+  kept-limits : (v : ℕ) → v < x .n → T (not (outOfLimits (handsetRecord (handsetTable coords) v)))
   kept-limits v h =
       let far : ℕ → Bool = λ i. not (withinLimits (getD coords (coordinateCount * v + i) (pos 0))) in
       subst (λ (b : Bool). T (not b)) (sym (record-numbers .limits coords signed v (omega (arith, held .coordinate-count))))
@@ -145,7 +146,7 @@ module _ (s : List ℕ) (x : Parameters) (coords : List ℤ) (ends : List ℕ) (
   image-accepted : Accepted image
   image-accepted = record {
     header = header-accepted x coords ends asked;
-    q7 = λ v h. subst (λ (part : List ℕ). T (not (outOfLimits (handsetRecord part v)))) (sym (handsets-read x coords ends asked))
+    q7 = λ v h. subst (λ (records : List ℕ). T (not (outOfLimits (handsetRecord records v)))) (sym (handsets-read x coords ends asked))
         (kept-limits v (subst (λ (y : Parameters). v < y .n) (holds .parameters) h));
     q8 = λ k h. subst T (sym (λ i. not (badEnd (edges-are i) (parameters-are i .n) k))) (ok .q8 k (fewer k h));
     q9 = λ k h. subst T (sym (λ i. not (isLoop (edges-are i) k))) (ok .q9 k (fewer k h));
@@ -174,19 +175,19 @@ module _ (s : List ℕ) (x : Parameters) (coords : List ℤ) (ends : List ℕ) (
   adjacent-is u v = λ i. any (parameters-are i .m) (joins (edges-are i) u v)
 
   close-is : (u v : ℕ) → T (adjacent image u v)
-      → leb (distanceSquared image u v) (limitSquared image) ≡ leZ (planarApart (planarCoordinate s u) (planarCoordinate s v)) (pos (limitSquared s))
+      → leb (distanceSquared image u v) (limitOf image) ≡ leZ (planarApart (planarCoordinate s u) (planarCoordinate s v)) (pos (limitOf s))
   close-is u v t =
       let below = adjacent-below image image-accepted u v t in
       let count : handsetCount image ≡ x .n = ap (λ (y : Parameters). y .n) (holds .parameters) in
       ap₂ leZ (distance-is u v (omega (arith, below .0)) (omega (arith, below .1))) (ap (λ (y : Parameters). pos (y .limit)) parameters-are)
 
   near-is : (u v : ℕ) → neighbour image u v ≡ planarNear s u v
-  unfolding olderNeighbour planarNear
+  unfolding planarNear
   near-is u v =
-      neighbour-older image u v
+      neighbour-is image u v
       ∙ ap (λ (b : Bool). eqb u v || b)
       (and-where (adjacent image u v) _ _ (close-is u v)
-      ∙ ap (λ (a : Bool). a && leZ (planarApart (planarCoordinate s u) (planarCoordinate s v)) (pos (limitSquared s))) (adjacent-is u v))
+      ∙ ap (λ (a : Bool). a && leZ (planarApart (planarCoordinate s u) (planarCoordinate s v)) (pos (limitOf s))) (adjacent-is u v))
 
   network-is : network image ≡ planarNetwork s
   unfolding mu
@@ -218,13 +219,11 @@ module _ (s : List ℕ) (x : Parameters) (coords : List ℤ) (ends : List ℕ) (
       handset : (v : ℕ) → v < handsetCount s → v < x .n
       handset v h = subst (λ (y : Parameters). v < y .n) (held .parameters) h
 
-  written : (l : List ℕ) (r : Encoded) (l′ : List ℕ) → headerFor x .len ≤ length l → WriteCall x coords ends l r l′
+  anew : (l : List ℕ) (r : Encoded) (l′ : List ℕ) → headerFor x .len ≤ length l → WriteCall x coords ends l r l′
       → (r ≡ E.Length (headerFor x .len)) × Kept s (take (headerFor x .len) l′)
-  written l r l′ room call =
-      let k : ℕ = headerFor x .len in
-      let answer : r ≡ E.Length k = round-trips .written-again image x coords ends l r l′ image-accepted (image-below x coords ends) holds room call .0 in
-      let wrote : WriteCall x coords ends l (E.Length k) l′ = subst (λ (a : Encoded). WriteCall x coords ends l a l′) answer call in
-      (answer, subst (Kept s) (sym (front x coords ends l k l′ wrote)) kept)
+  anew l r l′ room call =
+      let w = written x coords ends asked (opened image image-accepted) l r l′ room call in
+      (w .0, subst (Kept s) (sym (w .1)) kept)
 
 -- ---- the tables of an older image
 
@@ -260,6 +259,6 @@ its-tables s ok small =
 pub taken-over : TakenOver
 taken-over = record {
   refused = refused;
-  written = λ s x coords ends l r l′ ok small held room call. written s x coords ends ok small held l r l′ room call;
+  written = λ s x coords ends l r l′ ok small held room call. anew s x coords ends ok small held l r l′ room call;
   its-tables = its-tables;
 }

@@ -1,0 +1,4 @@
+pub mod NearTest
+pub mod Plane
+pub mod TakenOver
+pub mod Examples
