@@ -53,7 +53,7 @@ extern "C" {
 #define DVG_WRONG_LENGTH 2   /* Is the header's length the lent length? */
 #define DVG_COUNTS 3         /* Are there at most 512 handsets and at most 4,096 ties? */
 #define DVG_WIDTH 4          /* Do bytes 30 and 31 hold 12, the width of a handset record? (An older
-                                image, whose handsets have no z, has 0 there: it is to be written anew,
+                                image, whose handsets have no z, has 0 there: it is to be written again,
                                 with z = 0.) */
 #define DVG_THRESHOLDS 5     /* Is G at most 12,000,000,000,000, 1 <= p <= q <= 1,000, and mu at
                                 most 512? (A mu of 0 is blank and means 4.) */

@@ -1,21 +1,17 @@
--- The answers of the calls as the numbers that C gets: 0 or more for success, less than 0 for a refusal. include/divanegret.h says the same to a C reader.
+-- The answers of the calls on an image as the numbers that C gets: 0 or more for success, less than 0 for a refusal (refusals/specs/Refusals). include/divanegret.h says the same to a C reader.
 --
---     refusalCode r     a refusal: number + 256 * place, made negative
 --     openCode o        an opened image: n + 65,536 m
 --     planCode p        a plan: groups + 65,536 memberships
 --     kindCode role     a role: its kind (0 core, 1 border, 2 outlier) + 65,536 times its community's number or its count of communities
 --     roleCode k        a handset: its role + 2 ^ 32 times its near count
 --     tallyCode t       a list: o + 65,536 t + 2 ^ 36 s
---     lookedCode l      a group: the count of its members
---     scheduledCode s   a group at a time: which member table, 0 for the first plan's and 1 for the second's, + 2 times the count of its members
 --     nearestCode n     the nearest group: 1 + 2 times its number + 65,536 times its squared distance, or 0 where there are no groups
 --     reportCode r      a report: the text's length, or the refusal's number made negative
---     encodedCode e     an image that was written: its length
 --
 -- Where a number might be larger than its share of the code, it is cut off at the end of that share. No call's answer is that large: divanegret/specs/Lossless.
 use Prim.Native.Nat.{ℕ, _+_, _*_, min}
 use lib.IntN.{ℤ, pos, negℤ}
-use Rattle.image.specs.declared.Refusal.{Refusal}
+use Rattle.refusals.specs.Refusals.{refusalCode}
 use Rattle.image.specs.declared.Opened.{Opened}
 use Rattle.image.specs.declared.Opened.the-variants as O
 use Rattle.community.specs.declared.Role.{Role}
@@ -28,17 +24,8 @@ use Rattle.scores.specs.declared.Tallied.{Tallied}
 use Rattle.scores.specs.declared.Tallied.the-variants as T
 use Rattle.reporting.specs.declared.Reported.{Reported}
 use Rattle.reporting.specs.declared.Reported.the-variants as R
-use Rattle.lookup.specs.declared.Looked.{Looked}
-use Rattle.lookup.specs.declared.Looked.the-variants as L
-use Rattle.schedule.specs.declared.Scheduled.{Scheduled}
-use Rattle.schedule.specs.declared.Scheduled.the-variants as S
 use Rattle.nearest.specs.declared.Nearest.{Nearest}
 use Rattle.nearest.specs.declared.Nearest.the-variants as N
-use Rattle.writer.specs.declared.Encoded.{Encoded}
-use Rattle.writer.specs.declared.Encoded.the-variants as E
-
-abbrev pub refusalCode : Refusal → ℤ
-refusalCode r = negℤ (pos (min (r .number) 255 + 256 * min (r .place) 4294967295))
 
 abbrev pub openCode : Opened → ℤ
 openCode (O.Site h) = pos (h .n + 65536 * h .m)
@@ -61,15 +48,6 @@ abbrev pub tallyCode : Tallied → ℤ
 tallyCode (T.Of x) = pos (min (x .leaving) 65535 + 65536 * min (x .joined) 1048575 + 68719476736 * min (x .pairs) 1048575)
 tallyCode (T.Refused r) = refusalCode r
 
-abbrev pub lookedCode : Looked → ℤ
-lookedCode (L.Found n) = pos (min n 9223372036854775807)
-lookedCode (L.Refused r) = refusalCode r
-
-abbrev pub scheduledCode : Scheduled → ℤ
-scheduledCode (S.Workday n) = pos (2 * min n 4611686018427387903)
-scheduledCode (S.Restday n) = pos (1 + 2 * min n 4611686018427387903)
-scheduledCode (S.Refused r) = refusalCode r
-
 abbrev pub nearestCode : Nearest → ℤ
 nearestCode (N.Group k d) = pos (1 + 2 * min k 32767 + 65536 * min d 140737488355327)
 nearestCode N.NoGroups = pos 0
@@ -78,7 +56,3 @@ nearestCode (N.Refused r) = refusalCode r
 abbrev pub reportCode : Reported → ℤ
 reportCode (R.Written n) = pos (min n 9223372036854775807)
 reportCode (R.Refused r) = negℤ (pos (r .number))
-
-abbrev pub encodedCode : Encoded → ℤ
-encodedCode (E.Length n) = pos (min n 9223372036854775807)
-encodedCode (E.Refused r) = refusalCode r

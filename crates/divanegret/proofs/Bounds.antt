@@ -4,12 +4,13 @@
 --     highest                        the highest number of a refusal
 --     Small r                        a refusal with a number from 1 to the highest, and a place of at most 4,096
 --     OpenSmall, PlanSmall, ..       an answer whose numbers are small, by its cases
+--     refused-small                  a refusal of an image is small
 --     open-small, plan-small, role-small, tally-small, looked-small, scheduled-small, nearest-small, report-small, encoded-small
 --                                    those of each call are
 use Prim.Native.Nat.{ℕ, zero, suc, _+_, _*_, _-_, _≤_, _<_}
 use native.Mathlib.Omega.{arith}
 use native.Mathlib.Decide.{decLe}
-use mathlib.Core.Path.{_≡_, refl, sym, ap, subst}
+use mathlib.Core.Path.{_≡_, refl, sym, subst}
 use mathlib.Core.Logic.{⊎-elim}
 use mathlib.Core.Bool.{Bool, true, false, _&&_, not, cond}
 use mathlib.Core.List.{List, [], _∷_}
@@ -19,18 +20,19 @@ use lib.ListN.{length, getD, drop, length-take, length-drop}
 use Rattle.sets.specs.Below.{any, find, count}
 use Rattle.sets.proofs.Tests.{or-right, decide, find-law, find-none, not-any}
 use Rattle.sets.proofs.Counting.{bit-le, count-le, sum-le, sum-const}
-use Rattle.fields.specs.Fields.{coordinateCount, handsetBytes, countsFit, thresholdsFit}
-use Rattle.image.specs.Image.{headerBytes, headerOf, handsetCount, edgeCount, handsetRecords, edgeRecords, handsetRecord, endA, endB}
-use Rattle.image.specs.Questions.{tablesFit, outOfLimits, badEnd, isLoop, repeatsEarlier, ask, askEach, askEdges, askRecords, askHeader, openOf, Accepted}
+use Rattle.fields.specs.Fields.{coordinateCount, handsetBytes, headerBytes}
+use Rattle.limits.specs.Limits.{countsFit, thresholdsFit, outOfLimits}
+use Rattle.image.specs.Image.{headerOf, handsetCount, edgeCount, handsetRecords, edgeRecords, handsetRecord, endA, endB}
+use Rattle.image.specs.Questions.{tablesFit, badEnd, isLoop, repeatsEarlier, ask, askEach, askEdges, askRecords, askHeader, openOf, Accepted}
 use Rattle.image.specs.Answers.{refusal}
 use Rattle.image.specs.declared.Header.{Header}
 use Rattle.image.specs.declared.Refusal.{Refusal}
 use Rattle.image.specs.declared.Opened.{Opened}
 use Rattle.image.specs.declared.Opened.the-variants as O
-use Rattle.image.proofs.Acceptance.{accepted, counts-limits, accepted-fits}
+use Rattle.image.proofs.Acceptance.{when-accepted, when-either, counts-limits, accepted-fits}
 use Rattle.community.specs.Network.{Network, contains, communityNumber, membershipCount, borderOf, communities, neighbourhoodSize, isCore, role}
 use Rattle.community.specs.Scores.{countPairs, pairs, everyEdge, joinedBy, joinedPairs, justOne, leaving}
-use Rattle.community.specs.Site.{network}
+use Rattle.community.specs.Site.{network, communitiesOf}
 use Rattle.community.specs.Tables.{memberTable}
 use Rattle.community.specs.declared.Role.{Role}
 use Rattle.community.specs.declared.Role.the-variants.{Core, Border, Outlier}
@@ -39,10 +41,10 @@ use Rattle.community.proofs.Communities.{communities-few, member-below}
 use Rattle.tables.specs.Plan.{made}
 use Rattle.tables.specs.declared.Planned.{Planned}
 use Rattle.tables.specs.declared.Planned.the-variants as P
-use Rattle.planner.specs.Plan.{communitiesOf, planFor, planOf, standing, knownFor, knownOf}
+use Rattle.planner.specs.Plan.{planOf, standing, knownOf}
 use Rattle.planner.specs.declared.Known.{Known}
 use Rattle.planner.specs.declared.Known.the-variants as K
-use Rattle.scores.specs.Scored.{tallyOf, badEntry, askEntries, talliedFor, talliedOf}
+use Rattle.scores.specs.Scored.{tallyOf, badEntry, askEntries, talliedOf}
 use Rattle.scores.specs.declared.Tallied.{Tallied}
 use Rattle.scores.specs.declared.Tallied.the-variants as T
 use Rattle.lookup.specs.Lookup.{startOf, placed, between, membersOf, lookedOf}
@@ -60,16 +62,16 @@ use Rattle.nearest.specs.Nearest.{nearestOf}
 use Rattle.nearest.specs.declared.Nearest.{Nearest}
 use Rattle.nearest.specs.declared.Nearest.the-variants as N
 use Rattle.nearest.proofs.Meaning.{nearest-means}
-use Rattle.reporting.specs.Report.{reportText, writtenOf, reportFor, reportOf}
+use Rattle.reporting.specs.Report.{reportText, writtenOf, reportOf}
 use Rattle.reporting.specs.declared.Reported.{Reported}
 use Rattle.reporting.specs.declared.Reported.the-variants as R
-use Rattle.layout.specs.Layout.{headerFor, handsetPart, edgePart, lengthsFit}
-use Rattle.layout.specs.Held.{imageMost}
+use Rattle.layout.specs.Layout.{headerFor, handsetTable, edgeTable, lengthsFit}
+use Rattle.layout.specs.ForProofs.{imageMost}
 use Rattle.layout.specs.declared.Parameters.{Parameters}
-use Rattle.writer.specs.Writer.{tablesAnswer, encodedFor, encodedOf}
+use Rattle.writer.specs.Writer.{tablesAnswer, encodedOf}
 use Rattle.writer.specs.declared.Encoded.{Encoded}
 use Rattle.writer.specs.declared.Encoded.the-variants as E
-use Rattle.writer.proofs.Drafting.{tables-site}
+use Rattle.writer.proofs.Drafting.{encoded-either}
 use Rattle.divanegret.specs.Lossless.{entryLimit}
 
 -- the highest number of a refusal
@@ -126,6 +128,10 @@ open-small s =
 own-small : (k : ℕ) → 1 ≤ k → k ≤ highest → Small (refusal k)
 own-small k some few = record { some = some; number = few; place = omega arith }
 
+-- a refusal of an image
+refused-small : (s : List ℕ) (r : Refusal) → openOf s ≡ O.Refused r → Small r
+refused-small s r e = subst OpenSmall e (open-small s)
+
 -- ---- the plan
 
 abbrev pub PlanSmall : Planned → Type 0
@@ -147,16 +153,13 @@ module _ (s : List ℕ) (ok : Accepted s) where
 
 pub plan-small : (s : List ℕ) (a b : ℕ) → PlanSmall (planOf s a b)
 unfolding planOf communitiesOf
-plan-small s a b = go (openOf s) refl (open-small s)
+plan-small s a b =
+    when-either s _ _ PlanSmall (room (ltb (length (communitiesOf s)) a) (leb (length (memberTable (communitiesOf s))) b)) (refused-small s)
   where
     room : (x y : Bool) → Accepted s → PlanSmall (cond x (cond y (made (length (communitiesOf s)) (length (memberTable (communitiesOf s)))) (P.Refused (refusal 12))) (P.Refused (refusal 11)))
     room true true ok = (communities-at-most s ok, memberships-at-most s ok)
     room true false ok = own-small 12 (omega arith) (omega arith)
     room false y ok = own-small 11 (omega arith) (omega arith)
-
-    go : (o : Opened) → openOf s ≡ o → OpenSmall o → PlanSmall (planFor s o a b)
-    go (O.Site h) e small = room (ltb (length (communitiesOf s)) a) (leb (length (memberTable (communitiesOf s))) b) (accepted s h e .0)
-    go (O.Refused r) e small = small
 
 -- ---- a handset's role
 
@@ -189,7 +192,7 @@ border-small (suc k) h = h
 
 pub role-small : (s : List ℕ) (v : ℕ) → KnownSmall (knownOf s v)
 unfolding knownOf standing role neighbourhoodSize
-role-small s v = go (openOf s) refl (open-small s)
+role-small s v = when-either s _ _ KnownSmall (of-handset (ltb v (handsetCount s))) (refused-small s)
   where
     g : Network
     g = network s
@@ -201,10 +204,6 @@ role-small s v = go (openOf s) refl (open-small s)
     of-handset : (b : Bool) → Accepted s → KnownSmall (cond b (K.Handset (standing s v)) (K.Refused (refusal 13)))
     of-handset true ok = (of-role (isCore g v) ok, omega (arith, count-le (g .n) (g .neighbour v), handsets-at-most s ok))
     of-handset false ok = own-small 13 (omega arith) (omega arith)
-
-    go : (o : Opened) → openOf s ≡ o → OpenSmall o → KnownSmall (knownFor s o v)
-    go (O.Site h) e small = of-handset (ltb v (h .n)) (accepted s h e .0)
-    go (O.Refused r) e small = small
 
 -- ---- the tally of a list
 
@@ -240,22 +239,21 @@ module _ (n : ℕ) (l : List ℕ) where
 
 pub tally-small : (s l : List ℕ) → TallySmall (talliedOf s l)
 unfolding talliedOf askEntries tallyOf pairs joinedPairs leaving
-tally-small s l = go (openOf s) refl (open-small s)
+tally-small s l = when-either s _ _ TallySmall (entries (any (length l) (badEntry (handsetCount s) l)) refl) (refused-small s)
   where
-    entries : (n : ℕ) (b : Bool) → any (length l) (badEntry n l) ≡ b → Accepted s
+    n : ℕ
+    n = handsetCount s
+
+    entries : (b : Bool) → any (length l) (badEntry n l) ≡ b → Accepted s
         → TallySmall (cond b (T.Refused (record { number = 13; place = find (length l) (badEntry n l) })) (T.Of (tallyOf s l)))
-    entries n true e ok = record { some = omega arith; number = omega arith; place = place-few n l (subst T (sym e) tt) }
-    entries n false e ok =
+    entries true e ok = record { some = omega arith; number = omega arith; place = place-few n l (subst T (sym e) tt) }
+    entries false e ok =
         let few : length l ≤ 512 = list-few n l (subst (λ (b : Bool). T (not b)) (sym e) tt) in
         let edges : List ℕ = edgeRecords s in (
           pairs-le (length l) (λ i j. true) few,
           pairs-le (length l) (λ i j. joinedBy s everyEdge (getD l i 0) (getD l j 0)) few,
           omega (arith, count-le (edgeCount s) (λ k. everyEdge k && justOne (contains (endA edges k) l) (contains (endB edges k) l)), edges-at-most s ok),
         )
-
-    go : (o : Opened) → openOf s ≡ o → OpenSmall o → TallySmall (talliedFor s o l)
-    go (O.Site h) e small = entries (h .n) (any (length l) (badEntry (h .n) l)) refl (accepted s h e .0)
-    go (O.Refused r) e small = small
 
 -- ---- a group's members
 
@@ -311,8 +309,8 @@ NearestSmall N.NoGroups = 0 ≤ 512
 NearestSmall (N.Refused r) = Small r
 
 pub nearest-small : (s : List ℕ) (p : List ℤ) → length p ≡ coordinateCount → NearestSmall (nearestOf s p)
-unfolding communitiesOf
-nearest-small s p long = go (openOf s) refl (open-small s)
+unfolding nearestOf communitiesOf
+nearest-small s p long = when-either s _ _ NearestSmall (λ ok. subst NearestSmall (when-accepted s _ N.Refused ok) (told ok)) (refused-small s)
   where
     inside : Accepted s → T (pointInLimits p) → NearestSmall (nearestOf s p)
     inside ok t = of (nearestOf s p) refl
@@ -328,12 +326,10 @@ nearest-small s p long = go (openOf s) refl (open-small s)
         of N.NoGroups e = omega arith
         of (N.Refused r) e = absurd (nearest-means .not-refused s p (nearestOf s p) ok t refl r e)
 
-    go : (o : Opened) → openOf s ≡ o → OpenSmall o → NearestSmall (nearestOf s p)
-    go (O.Site h) e small =
-        let ok : Accepted s = accepted s h e .0 in
+    told : Accepted s → NearestSmall (nearestOf s p)
+    told ok =
         ⊎-elim (λ t. inside ok t)
         (λ t. subst NearestSmall (sym (nearest-means .out-of-limits s p (nearestOf s p) ok t refl)) (own-small 17 (omega arith) (omega arith))) (decide (pointInLimits p))
-    go (O.Refused r) e small = subst NearestSmall (sym (nearest-means .image-first s p (nearestOf s p) r e refl)) small
 
 -- ---- the report
 
@@ -343,15 +339,11 @@ ReportSmall room (R.Refused r) = Small r
 
 pub report-small : (s : List ℕ) (room : ℕ) → ReportSmall room (reportOf s room)
 unfolding reportOf writtenOf
-report-small s room = go (openOf s) (open-small s)
+report-small s room = when-either s _ _ (ReportSmall room) (λ ok. fitting (leb (length (reportText s)) room) refl) (refused-small s)
   where
     fitting : (b : Bool) → leb (length (reportText s)) room ≡ b → ReportSmall room (cond b (R.Written (length (reportText s))) (R.Refused (refusal 16)))
     fitting true e = leb→le (length (reportText s)) room (subst T (sym e) tt)
     fitting false e = own-small 16 (omega arith) (omega arith)
-
-    go : (o : Opened) → OpenSmall o → ReportSmall room (reportFor s o room)
-    go (O.Site h) small = fitting (leb (length (reportText s)) room) refl
-    go (O.Refused r) small = small
 
 -- ---- an image that is written
 
@@ -367,16 +359,13 @@ tables-small x coords ends =
     let c = counts-limits (x .n) (x .m) q3 in
     ask-small (thresholdsFit (x .limit) (x .p) (x .q) (x .mu)) 5 0 _ (omega arith) (omega arith) (omega arith)
     (λ q5. ask-small (lengthsFit x (length coords) (length ends)) 6 0 _ (omega arith) (omega arith) (omega arith)
-    (λ q6. records-small (handsetPart coords) (edgePart ends) (headerFor x) (c .0) (c .1))))
+    (λ q6. records-small (handsetTable coords) (edgeTable ends) (headerFor x) (c .0) (c .1))))
 
 pub encoded-small : (x : Parameters) (coords : List ℤ) (ends : List ℕ) (room : ℕ) → EncodedSmall (encodedOf x coords ends room)
-unfolding encodedOf
-encoded-small x coords ends room = go (tablesAnswer x coords ends) refl (tables-small x coords ends)
+encoded-small x coords ends room =
+    encoded-either x coords ends room EncodedSmall (λ ok s. fitting (counts-limits (x .n) (x .m) (ok .q3)) (leb (headerFor x .len) room))
+    (λ q s. subst OpenSmall s (tables-small x coords ends))
   where
-    fitting : (h : Header) → h ≡ headerFor x → (h .n ≤ 512) × (h .m ≤ 4096) → (b : Bool) → EncodedSmall (cond b (E.Length (h .len)) (E.Refused (refusal 20)))
-    fitting h e small true = omega (arith, small .0, small .1, ap (λ (g : Header). g .len) e, ap (λ (g : Header). g .n) e, ap (λ (g : Header). g .m) e)
-    fitting h e small false = own-small 20 (omega arith) (omega arith)
-
-    go : (o : Opened) → tablesAnswer x coords ends ≡ o → OpenSmall o → EncodedSmall (encodedFor o room)
-    go (O.Site h) e small = fitting h (tables-site x coords ends h e .1) small (leb (h .len) room)
-    go (O.Refused r) e small = small
+    fitting : (x .n ≤ 512) × (x .m ≤ 4096) → (b : Bool) → EncodedSmall (cond b (E.Length (headerFor x .len)) (E.Refused (refusal 20)))
+    fitting small true = omega (arith, small .0, small .1)
+    fitting small false = own-small 20 (omega arith) (omega arith)

@@ -43,11 +43,13 @@ use Rattle.nearest.specs.declared.Nearest.the-variants as N
 use Rattle.reporting.specs.Report.{reportOf, reportAnswer}
 use Rattle.reporting.specs.declared.Reported.{Reported}
 use Rattle.reporting.specs.declared.Reported.the-variants as R
-use Rattle.layout.specs.Held.{imageMost}
+use Rattle.layout.specs.ForProofs.{imageMost}
 use Rattle.writer.specs.Writer.{encodedOf, encodedAnswer}
 use Rattle.writer.specs.declared.Encoded.{Encoded}
 use Rattle.writer.specs.declared.Encoded.the-variants as E
-use Rattle.codes.specs.Codes.{refusalCode, openCode, planCode, kindCode, roleCode, tallyCode, lookedCode, scheduledCode, nearestCode, reportCode, encodedCode}
+use Rattle.codes.specs.Codes.{openCode, planCode, kindCode, roleCode, tallyCode, nearestCode, reportCode}
+use Rattle.refusals.specs.Refusals.{refusalCode}
+use Rattle.table_codes.specs.Codes.{lookedCode, scheduledCode, encodedCode}
 use Rattle.divanegret.specs.Lossless.{int32, openMacros, planMacros, roleMacros, scoresMacros, scheduledMacros, nearestMacros, itself, Taken, takenBy, siteAnswer, numberOnly, whole, Lossless}
 use Rattle.divanegret.proofs.Bounds.{Small, OpenSmall, PlanSmall, RoleSmall, KnownSmall, TallySmall, LookedSmall, ScheduledSmall, NearestSmall, ReportSmall, EncodedSmall, open-small, plan-small, role-small, tally-small, looked-small, scheduled-small, nearest-small, report-small, encoded-small}
 

@@ -46,7 +46,8 @@ use Rattle.nearest.specs.Nearest.{nearestOf, nearestAnswer}
 use Rattle.reporting.specs.Report.{reportOf, reportAnswer}
 use Rattle.layout.specs.declared.Parameters.{Parameters}
 use Rattle.writer.specs.Writer.{encodedOf, encodedAnswer}
-use Rattle.codes.specs.Codes.{openCode, planCode, roleCode, tallyCode, lookedCode, scheduledCode, nearestCode, reportCode, encodedCode}
+use Rattle.codes.specs.Codes.{openCode, planCode, roleCode, tallyCode, nearestCode, reportCode}
+use Rattle.table_codes.specs.Codes.{lookedCode, scheduledCode, encodedCode}
 
 -- ---- the macros of a success r
 

@@ -12,7 +12,8 @@ ghost use Rattle.lookup.specs.Lookup.{lookedOf};
 ghost use Rattle.schedule.specs.Schedule.{choiceOf, scheduledOf};
 ghost use Rattle.nearest.specs.Nearest.{nearestOf};
 ghost use Rattle.writer.specs.Writer.{encodedOf, bufferAfter};
-ghost use Rattle.codes.specs.Codes.{openCode, planCode, roleCode, tallyCode, lookedCode, scheduledCode, nearestCode, reportCode, encodedCode};
+ghost use Rattle.codes.specs.Codes.{openCode, planCode, roleCode, tallyCode, nearestCode, reportCode};
+ghost use Rattle.table_codes.specs.Codes.{lookedCode, scheduledCode, encodedCode};
 use layout::Parameters;
 use schedule::Time;
 use schedule::Window;
@@ -62,7 +63,7 @@ pub extern "C" fn dvg_scores(image: &[u8], list: &[u16]) -> i64
 pub extern "C" fn dvg_members(starts: &[u32], members: &[u16], k: usize) -> i64
     ensures { λ r. ⌜ r ≡ lookedCode (lookedOf (now (starts .entry)) (now (members .entry)) k) ⌝ }
 {
-    codes::looked_code(lookup::find_group(starts, members, k))
+    table_codes::looked_code(lookup::find_group(starts, members, k))
 }
 
 // The count of members of group k in the plan for a time.
@@ -92,7 +93,7 @@ pub extern "C" fn dvg_members_at(
         opening: opening,
         closing: closing,
     };
-    codes::scheduled_code(schedule::find_group_at(
+    table_codes::scheduled_code(schedule::find_group_at(
         time,
         window,
         k,
@@ -134,5 +135,5 @@ pub extern "C" fn dvg_write(
         q: q,
         mu: mu,
     };
-    codes::encoded_code(writer::write(x, coordinates, ends, buffer))
+    table_codes::encoded_code(writer::write(x, coordinates, ends, buffer))
 }

@@ -13,7 +13,7 @@ use lib.Seq.{slice}
 use borrow.Author.Tests.{lt-ltb, le-ltb, le-leb, lt-leb}
 use Rattle.image.specs.Answers.{refusal}
 use Rattle.lookup.specs.Lookup.{startOf, placed, between, membersOf, lookedOf, Agree}
-use Rattle.lookup.specs.Held.{spanOf}
+use Rattle.lookup.specs.ForProofs.{spanOf}
 use Rattle.lookup.specs.declared.Span.{Span}
 use Rattle.lookup.specs.declared.Looked.the-variants.{Found, Refused}
 

@@ -1,3 +1,3 @@
 pub mod Lookup
 pub mod Answers
-pub mod Held
+pub mod ForProofs

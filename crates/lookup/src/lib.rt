@@ -6,7 +6,7 @@ ghost use mathlib.Core.Path.{_≡_};
 ghost use Prim.Native.Nat.{_≤_};
 ghost use Rattle.lookup.specs.Lookup.{membersOf, lookedOf};
 ghost use Rattle.lookup.specs.Answers.{lookAnswer};
-ghost use Rattle.lookup.specs.Held.{spanOf};
+ghost use Rattle.lookup.specs.ForProofs.{spanOf};
 use image::Refusal;
 
 // What the companion answers: how many members group k has, or the refusal.

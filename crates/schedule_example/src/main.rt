@@ -39,7 +39,7 @@ fn print_members(year: u16, month: u16, day: u16, minute: u16, k: u16) {
     at = text::put_all(&mut line, at, b":");
     at = text::put_numbers(&mut line, at, members);
     at = text::put_all(&mut line, at, b"\n");
-    if at <= 4096 {
+    if at <= line.len() {
         io::write_all(1, &line[0..at]);
     }
 }

@@ -6,7 +6,7 @@ use lib.IntN.{pos}
 use mir.Facts.{toZ-ofZ}
 use borrow.Author.Needs.{needs}
 use Rattle.codes.specs.Codes.{nearestCode}
-use Rattle.codes.proofs.Signed.{is-pos}
+use Rattle.refusals.proofs.Signed.{is-pos}
 use Rattle.codes.proofs.nearest_code.Statement.{statement}
 use Rattle.codes.proofs.nearest_code.Tie as tie
 

@@ -2,7 +2,7 @@
 use mathlib.Core.Path.{sym, ap, _∙_}
 use native.Mathlib.Omega.{arith}
 use mir.Facts.{toZ-ofZ}
-use Rattle.codes.proofs.Signed.{is-pos}
+use Rattle.refusals.proofs.Signed.{is-pos}
 use Prim.Native.Nat.{_+_, _*_}
 use Rattle.codes.specs.Codes.{openCode}
 use borrow.Author.Needs.{needs}

@@ -3,7 +3,7 @@ use mathlib.Core.Path.{sym, ap, _∙_}
 use native.Mathlib.Omega.{arith}
 use lib.IntN.{pos}
 use Rattle.codes.specs.Codes.{reportCode}
-use Rattle.codes.proofs.Signed.{is-pos, minus-fits, is-negative}
+use Rattle.refusals.proofs.Signed.{is-pos, minus-fits, is-negative}
 use borrow.Author.Needs.{needs}
 use Rattle.codes.proofs.report_code.Statement.{statement}
 use Rattle.codes.proofs.report_code.Tie as tie

@@ -3,7 +3,7 @@ use mathlib.Core.Path.{ap, _∙_}
 use mir.Facts.{toZ-ofZ}
 use Rattle.lookup.specs.Lookup.{lookedOf}
 use Rattle.lookup.proofs.Answers.{looked-same}
-use Rattle.codes.specs.Codes.{lookedCode}
+use Rattle.table_codes.specs.Codes.{lookedCode}
 use borrow.Author.Needs.{needs}
 use Rattle.divanegret.proofs.dvg_members.Statement.{statement}
 use Rattle.divanegret.proofs.dvg_members.Tie as tie

@@ -4,7 +4,7 @@ use mir.Facts.{toZ-ofZ}
 use borrow.Author.Needs.{needs}
 use Rattle.schedule.specs.Schedule.{scheduledOf}
 use Rattle.schedule.proofs.Answers.{scheduled-same}
-use Rattle.codes.specs.Codes.{scheduledCode}
+use Rattle.table_codes.specs.Codes.{scheduledCode}
 use Rattle.divanegret.proofs.dvg_members_at.Statement.{statement}
 use Rattle.divanegret.proofs.dvg_members_at.Tie as tie
 

@@ -4,7 +4,7 @@ use mir.Facts.{toZ-ofZ}
 use borrow.Author.Needs.{needs}
 use Rattle.writer.specs.Writer.{encodedOf}
 use Rattle.writer.proofs.Answers.{encoded-same}
-use Rattle.codes.specs.Codes.{encodedCode}
+use Rattle.table_codes.specs.Codes.{encodedCode}
 use Rattle.divanegret.proofs.dvg_write.Statement.{statement}
 use Rattle.divanegret.proofs.dvg_write.Tie as tie
 
