@@ -17,7 +17,7 @@
  * added up, and confirmed by measuring (tests/rust, program stack). It is no part of what is proved,
  * and another compiler or target may need another amount.
  *
- *     dvg_report 95 KiB    dvg_nearest 70 KiB    dvg_write 57 KiB    dvg_plan, dvg_role 36 KiB
+ *     dvg_write 57 KiB    dvg_report 48 KiB    dvg_role 38 KiB    dvg_plan, dvg_nearest 36 KiB
  *     dvg_open, dvg_scores 35 KiB    dvg_members, dvg_members_at 1 KiB
  *
  * The caller owns everything that it lends, before, during and after the call. A pointer must be

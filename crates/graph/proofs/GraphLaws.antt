@@ -51,8 +51,8 @@ use Rattle.search.specs.Communities.{both, similarIn, coreIn}
 use Rattle.search.specs.ForProofs.{Surveyed}
 use Rattle.search.specs.Search.{SearchCall}
 use Rattle.search.proofs.Communities.{search-grouped}
-use Rattle.graph.specs.Graph.{edgeWords, EdgeSet, neighbourIn, endsNear, isNearEdge, nearEdges, NearCounts, Neighbours, NeighboursRead, Groups, SiteFound}
-use Rattle.graph.specs.ForProofs.{HasEnds, passesNear, Dropped, enough, enoughAt, OfSite, Drawn, Holds, FoundIn}
+use Rattle.graph.specs.Graph.{edgeWords, EdgeSet, neighbourIn, endsNear, isNearEdge, nearEdges, NearCounts, Groups, SiteFound}
+use Rattle.graph.specs.ForProofs.{HasEnds, passesNear, Dropped, enough, enoughAt, OfSite, Drawn, Holds, FoundIn, Neighbours, NeighboursRead}
 use Rattle.graph.proofs.Words.{set-passes, passes-set}
 use Rattle.graph.proofs.Edges.{dropped-cong}
 

@@ -15,6 +15,8 @@
 --     FoundIn g ..             the cores and the communities of the network, and the rows past these
 --     Finds s near ws ..       whichever network of the image the edges and the table hold, that is found of it
 --     HeldWithin s within ..   where the edges and the table held the site's network, they now hold that of the handsets within the set
+--     Neighbours s near ws sizes   of an accepted image: the set of its near edges, its neighbour table, and the sizes of the table's rows
+--     NeighboursRead s answer ..   what opening the image answers and leaves: the reader's answer; the neighbours after a yes, 0 everywhere after a no
 use Prim.Native.Nat.{ℕ, _+_, _*_, _-_, _≤_, _<_, min}
 use mathlib.Core.Path.{_≡_}
 use mathlib.Core.Logic.{_⊎_}
@@ -28,8 +30,12 @@ use Rattle.sets.specs.Rows.{SetOf, Table, Counted}
 use Rattle.fields.specs.Fields.{edgeBytes}
 use Rattle.limits.specs.Limits.{edgesMost}
 use Rattle.image.specs.Image.{headerOf, handsetCount, edgeCount, epsilonNum, epsilonDen, mu, endA, endB, joins, adjacent, handsetRecord}
-use Rattle.image.specs.Questions.{Accepted}
+use Rattle.image.specs.Questions.{Accepted, openOf}
+use Rattle.image.specs.Rows.{Room, zeros, Cleared}
 use Rattle.image.specs.declared.Header.{Header}
+use Rattle.image.specs.declared.Refusal.{Refusal}
+use Rattle.image.specs.declared.Opened.{Opened}
+use Rattle.image.specs.declared.Opened.the-variants.{Site, Refused}
 use Rattle.near.specs.Near.{proximityOf, isNear}
 use Rattle.near.specs.declared.Proximity.{Proximity}
 use Rattle.community.specs.Network.{Network, meetsEpsilon}
@@ -109,3 +115,14 @@ pub record Finds (s near before : List ℕ) (groups : ℕ) (after cores : List �
 
 pub record HeldWithin (s within near ws near′ ws′ : List ℕ) : Type 0 where
   pub among-held : (f : ℕ → Bool) → SetOf within f → Holds s (network s) near ws → Holds s (among (network s) f) near′ ws′
+
+pub record Neighbours (s near ws sizes : List ℕ) : Type 0 where
+  pub near-set : EdgeSet near (isNearEdge s (network s))
+  pub table : Table ws (neighbourIn (network s))
+  pub counted : Counted ws sizes
+
+pub record NeighboursRead (s : List ℕ) (answer : Opened) (near ws sizes : List ℕ) : Type 0 where
+  pub answered : answer ≡ openOf s
+  pub room : Room ws sizes
+  pub neighbours : (h : Header) → answer ≡ Site h → Neighbours s near ws sizes
+  pub cleared : (x : Refusal) → answer ≡ Refused x → (near ≡ zeros edgeWords) × Cleared ws sizes

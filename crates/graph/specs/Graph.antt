@@ -7,8 +7,6 @@
 --     isNearEdge s g k             edge k is one of the image's, and its ends are neighbours in the network g (the paper: a near tie)
 --     nearEdges s g                how many of the image's edges are
 --     NearCounts g sizes           512 near counts: for each handset the size of its neighbourhood, and 0 past the last handset
---     Neighbours s near ws sizes   of an accepted image: the set of its near edges, its neighbour table, and the sizes of the table's rows
---     NeighboursRead s answer ..   what `open_neighbours` answers and leaves: the reader's answer; the neighbours after a yes, 0 everywhere after a no
 --     Groups s g ..                what is found of a network g of an accepted image: the cores; the communities as the first rows of the table; the similarity
 --                                  relation in the rows past them; a test for each near edge; and beside it the near edges and near counts of the whole site
 --     SiteFound s g r ..           what a call that finds the communities of g answers and leaves: the reader's answer; Groups after a yes, 0 after a no
@@ -23,7 +21,7 @@ use lib.Dec.{ltb}
 use lib.ListN.{length, getD}
 use Rattle.sets.specs.Below.{bit, count}
 use Rattle.sets.specs.Bits.{bitAt, cell}
-use Rattle.sets.specs.Rows.{SetOf, Table, Counted}
+use Rattle.sets.specs.Rows.{SetOf}
 use Rattle.limits.specs.Limits.{edgesMost}
 use Rattle.image.specs.Image.{edgeCount, edgeRecords, endA, endB}
 use Rattle.image.specs.Questions.{openOf}
@@ -62,17 +60,6 @@ pub record NearCounts (g : Network) (sizes : List ℕ) : Type 0 where
   pub size : length sizes ≡ 512
   pub each : (u : ℕ) → u < g .n → getD sizes u 0 ≡ neighbourhoodSize g u
   pub past : (u : ℕ) → g .n ≤ u → u < 512 → getD sizes u 0 ≡ 0
-
-pub record Neighbours (s near ws sizes : List ℕ) : Type 0 where
-  pub near-set : EdgeSet near (isNearEdge s (network s))
-  pub table : Table ws (neighbourIn (network s))
-  pub counted : Counted ws sizes
-
-pub record NeighboursRead (s : List ℕ) (answer : Opened) (near ws sizes : List ℕ) : Type 0 where
-  pub answered : answer ≡ openOf s
-  pub room : Room ws sizes
-  pub neighbours : (h : Header) → answer ≡ Site h → Neighbours s near ws sizes
-  pub cleared : (x : Refusal) → answer ≡ Refused x → (near ≡ zeros edgeWords) × Cleared ws sizes
 
 -- of the count of communities and of tests, and the four tables
 pub record Groups (s : List ℕ) (g : Network) (groups tests : ℕ) (near ws sizes cores : List ℕ) : Type 0 where

@@ -1,8 +1,8 @@
 // The network of a site: who is whose neighbour, who is similar to whom, who is a core, and so which are its communities. A table has a row of eight words for
 // each handset, one bit a handset, and the size of each row stands beside it. The code loops over the edges, never over pairs of handsets.
 //
-// `open_neighbours` opens an image and leaves its near edges, its neighbour table and the sizes of the neighbourhoods. `find_rows`, `find_site` and `find_part`
-// go on to the communities, as rows of bits, of the whole site or of the handsets within a set.
+// `open_neighbours` opens an image and leaves its near edges, its neighbour table and the sizes of the neighbourhoods. The calls `find_rows`, `find_site` and
+// `find_part` go on to the communities, as rows of bits, of the whole site or of the handsets within a set.
 //
 // The reader leaves every edge in the table. First the edges whose ends are not near are dropped, and then those whose ends are not similar: each time a word
 // of up to 64 edges is made of them, one bit an edge, without a branch on the test, and then the edges of the word are dropped.
@@ -21,8 +21,8 @@ ghost use Rattle.limits.specs.Limits.{edgesMost};
 ghost use Rattle.image.specs.Image.{endA, endB};
 ghost use Rattle.image.specs.Rows.{Room, zeros};
 ghost use Rattle.community.specs.Site.{network};
-ghost use Rattle.graph.specs.Graph.{edgeWords, EdgeSet, NeighboursRead, RowsFound, SiteFound, PartFound};
-ghost use Rattle.graph.specs.ForProofs.{HasEnds, inWord, WordOf, edgeProximity, passesNear, Dropped, enough, enoughAt};
+ghost use Rattle.graph.specs.Graph.{edgeWords, EdgeSet, RowsFound, SiteFound, PartFound};
+ghost use Rattle.graph.specs.ForProofs.{HasEnds, inWord, WordOf, edgeProximity, passesNear, Dropped, enough, enoughAt, NeighboursRead};
 ghost use Rattle.graph.specs.ForProofs.{bothWithin, SelfTaken, Drawn, Finds, HeldWithin};
 use fields::Ends;
 use image::Header;
@@ -279,7 +279,7 @@ fn mark_cores(sizes: &[u32], n: usize, mu: u32, cores: &mut [u64])
 // Opens an image by the reader and gives the reader's answer. After a yes the edges whose ends are not near are dropped from the rows that it leaves, so
 // that the two tables hold the neighbour relation and the sizes of the neighbourhoods, and `near` the other edges. After a no all three are 0 everywhere. Their
 // earlier contents are overwritten.
-pub fn open_neighbours(
+fn open_neighbours(
     image: &[u8],
     near: &mut [u64; EDGE_WORDS],
     table: &mut [u64; sets::TABLE_WORDS],
