@@ -7,7 +7,7 @@
 --     neighbour-size, neighbour-common       the counts of the neighbour table are those of the network; enough-is: and the test by them is the definition's
 --     cores-set                    the cores by the sizes of the similarity table
 --     near-count, near-counts      the near edges counted, and the near counts
---     told-yes, read-no, read-yes  what the reader tells, and so what is told and left of an image
+--     told-yes, read-no, read-yes  what the reader answers, and what is answered and left of an image
 --     handsets-at-most, edges-most      the image's numbers
 --     edges-ready, near-ready, dissimilar-ready     its edges and those of the two sets have their records and ends
 --     network-of-site, neighbours-kept, neighbours-drawn, neighbours-hold         the first step: the tables hold the network of the site

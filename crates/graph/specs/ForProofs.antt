@@ -60,7 +60,7 @@ edgeProximity handsets edges limit k = proximityOf (handsetRecord handsets (endA
 abbrev pub passesNear : List ℕ → List ℕ → ℕ → ℕ → Bool
 passesNear handsets edges limit k = isNear (edgeProximity handsets edges limit k)
 
--- no cell is set anew, those of an edge that passes f are cleared, and those of no such edge are as before
+-- no cell is newly set, those of an edge that passes f are cleared, and those of no such edge are as before
 pub record Dropped (edges : List ℕ) (f : ℕ → Bool) (before after : List ℕ) : Type 0 where
   pub size : length after ≡ length before
   pub most : (u v : ℕ) → u < 512 → v < 512 → cell after u v ≤ cell before u v

@@ -1,10 +1,10 @@
 -- These definitions only serve the proofs; a caller need not believe them.
 -- What the reader looks for in the records, and what it has of the edges that it has passed.
 --
---     badRecord question records n k  question 7, 8 or 9 gets a no for record k: a handset's for 7, an edge's for 8 and 9
+--     badRecord question records n k  question 7, 8 or 9 fails for record k: a handset's for 7, an edge's for 8 and 9
 --     Stand question records count    that many such records are there
 --     linked n edges k                each of n handsets is related to itself, and the ends of each of the first k edges to each other
---     faulty edges n k                one of questions 8 to 10 gets a no for edge k
+--     faulty edges n k                one of questions 8 to 10 fails for edge k
 --     Added ..                        what adding the edges tells and leaves
 use Prim.Native.Nat.{ℕ, _*_, _≤_}
 use mathlib.Core.Path.{_≡_}

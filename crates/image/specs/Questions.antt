@@ -1,9 +1,9 @@
 -- The ten questions put to an image (paper 01, "Questions put to an image"), and the reader's answer.
 --
 --     tablesFit h                question 6: the two tables lie past the header and within the image, and do not overlap
---     badEnd records n k         question 8 gets a no for edge k: an end is no handset
---     isLoop records k           question 9 gets a no: its two ends are the same
---     repeatsEarlier records k   question 10 gets a no: it joins what an earlier edge joins
+--     badEnd records n k         question 8 fails for edge k: an end is no handset
+--     isLoop records k           question 9 fails: its two ends are the same
+--     repeatsEarlier records k   question 10 fails: it joins what an earlier edge joins
 --     ask, askEach               a question, and a question to each record: a yes goes on, a no is the refusal
 --     askImage, askHeader        questions 1 to 6 and 3 to 6, in their order; 3, 4, 5 and 7 of any numbers are in limits/specs/Limits
 --     askRecords, askEdges       questions 7 to 10 and 8 to 10
@@ -12,8 +12,8 @@
 --     byAnswer o f g             what is said by an answer: f of the header, or g of the refusal
 --     whenOpened s f g           what a call says of an image, by the reader's answer: f of its header where it is accepted, else g of its refusal
 --     refusalOf o                the refusal in an answer, for the else of let .. else; number 0 where the image is accepted
---     HeaderAccepted s           questions 1 to 6 get a yes
---     Accepted s                 every question gets a yes (specs/Acceptance: exactly when the reader answers the header)
+--     HeaderAccepted s           questions 1 to 6 pass
+--     Accepted s                 every question passes (specs/Acceptance: exactly when the reader answers the header)
 use Prim.Native.Nat.{ℕ, _+_, _*_, _<_}
 use mathlib.Core.Bool.{Bool, true, false, _&&_, _||_, not}
 use mathlib.Core.List.{List}

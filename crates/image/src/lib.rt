@@ -112,7 +112,7 @@ fn ends_at(records: &[u8], k: usize) -> fields::Ends
     fields::read_ends(&records[at..past])
 }
 
-// Whether question 7, 8 or 9 gets a no for record k.
+// Whether question 7, 8 or 9 fails for record k.
 fn is_bad_record(question: u32, records: &[u8], n: usize, k: usize) -> bool
     requires { ⌜ Stand question (now records) (k + 1) ⌝ }
     ensures { λ r. ⌜ r ≡ badRecord question (now (records .entry)) n k ⌝ }
@@ -129,7 +129,7 @@ fn is_bad_record(question: u32, records: &[u8], n: usize, k: usize) -> bool
     e.a == e.b
 }
 
-// The first of the first `count` records for which the question gets a no, or `count` where there is none.
+// The first of the first `count` records for which the question fails, or `count` where there is none.
 fn first_bad(question: u32, records: &[u8], count: usize, n: usize) -> usize
     requires { ⌜ Stand question (now records) count ⌝ }
     ensures { λ r. ⌜ r ≡ find count (badRecord question (now (records .entry)) n) ⌝ }

@@ -1,7 +1,7 @@
 -- How the calls' answers follow from what was found of a site: a refused image ends the call with its refusal, and of an accepted one the rows that were
 -- found are its communities, so the counts, the tables and the roles are those of the definitions.
 --
---     told-yes, told-no                             what is told of an accepted and of a refused image
+--     told-yes, told-no                             what is known of an accepted and of a refused image
 --     plan-refused, known-refused                   the outcome of the calls for a refused image
 --     handsets-most                                 an accepted image has at most 512 handsets
 --     plan-found                                    the outcome of a plan, from the communities found

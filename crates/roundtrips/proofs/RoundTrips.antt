@@ -1,4 +1,4 @@
--- The theorem of specs/RoundTrips. The writer's questions 7 to 10 are the reader's, of the records that the tables make. So where 3, 5 and 6 get a yes, the
+-- The theorem of specs/RoundTrips. The writer's questions 7 to 10 are the reader's, of the records that the tables make. So where 3, 5 and 6 pass, the
 -- writer's answer is the reader's answer to the image written, but for 20; and that image has the records of every image that holds the tables (proofs/Openings).
 --
 --     reads-back                   what is written is read back

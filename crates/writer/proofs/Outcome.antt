@@ -3,7 +3,7 @@
 --     no-length                what is a length is no refusal
 --     Granted, granted         what a length as the answer says: questions 3, 5 and 6 got a yes, and 7 to 10 and 20 too
 --     front, rest, kept        the buffer after it: it begins with the image, past which it is as it was; after a refusal it is as it was
---     answer-by                where 3, 5 and 6 get a yes the answer goes by the reader's answer to the image
+--     answer-by                where 3, 5 and 6 pass the answer goes by the reader's answer to the image
 --     written, too-short       where the reader accepts the image, it is written if there is room, and refused with 20 if not
 use Prim.Native.Nat.{ℕ, _≤_, _<_}
 use native.Mathlib.Omega.{arith}

@@ -22,7 +22,7 @@ accepted c = c .before .before .before .before .before
 abbrev read : tie.After-drop-far-arg5 → tie.After-struct-known4
 read c = c .before .before .before .before .before
 
--- what is told of an accepted image
+-- what is known of an accepted image
 module _ (c : tie.After-opened) where
   yes : Accepted (start (opened c) .args .image .now) × (c .opened .given .0 .0 ≡ headerOf (start (opened c) .args .image .now))
   yes = told-yes (opened c .open-rows .ensures) (c .opened .given .0 .0) (c .opened .given .1)

@@ -1,4 +1,4 @@
--- `limits::out_of_limits` meets its contract. At i it is told whether one of the first i coordinates is out of its limits. The measure is what is left of
+-- `limits::out_of_limits` meets its contract. At i the flag says whether one of the first i coordinates is out of its limits. The measure is what is left of
 -- the coordinates.
 use Prim.Native.Nat.{ℕ, _-_, _≤_}
 use native.Mathlib.Omega.{arith}

@@ -26,7 +26,7 @@ opened c = c .before .before
 abbrev asked : tie.After-role-in → tie.Else1
 asked c = c .before .before .before
 
--- what is told of an accepted image
+-- what is known of an accepted image
 yes : (c : tie.After-opened) → (let s = now (start (found c) .args .image) in Accepted s × (c .opened .given .0 .0 .n ≡ handsetCount s))
 yes c = told-yes (found c .find-site .ensures) (c .opened .given .0 .0) (c .opened .given .1)
 

@@ -1,4 +1,4 @@
--- `refusals::refusal_of` meets its contract, by cases on the answer. An arm that binds nothing is told which constructor it is at.
+-- `refusals::refusal_of` meets its contract, by cases on the answer. An arm that binds nothing knows which constructor it is at.
 use mathlib.Core.Path.{sym, ap}
 use borrow.Author.Needs.{needs}
 use Rattle.image.specs.Questions.{refusalOf}
