@@ -11,14 +11,13 @@ import os
 import re
 import sys
 
-DEFINED = re.compile(r"^(?:abbrev |unfoldable |pub )*([^\s:(){}\[\],;.]+)(?: \{[^}]*\})* : ")
-TYPE = re.compile(r"^(?:abbrev |unfoldable |pub )*(?:record|data) (\S+)")
-FIELD = re.compile(r"^\s+(?:pub )?([^\s:(){}\[\],;.|]+) : ")
+DECLARED = re.compile(r"^\s*(?:abbrev |unfoldable |pub )*([^\s:(){}\[\],;.|]+)(?: \{[^}]*\})* :(?: |$)")
+TYPE = re.compile(r"^\s*(?:abbrev |unfoldable |pub )*(?:record|data) (\S+)")
 TOKEN = re.compile(r"[^\s:(){}\[\],;.|«»⌜⌝\"`]+")
 USE = re.compile(r"^\s*(?:ghost |pub )*use ([\w.·'-]+)\.(?:\{([^}]*)\}|([^\s{}]+?))(?: as \S+)?;?$")
 CRATES = {"bytes": "little_endian"}
 # Lemmas in snake case already that would fall together with a definition.
-OVERRIDES = {name: name + "_lem" for name in ("row_words", "edges_most", "in_both", "by_answer")}
+LEMMAS = {"row_words": "rowWords", "edges_most": "edgesMost", "in_both": "inBoth", "by_answer": "byAnswer"}
 
 
 def texts(root, endings):
@@ -39,25 +38,16 @@ def declared(root):
     for path in texts(root, (".antt",)):
         if os.path.basename(path) == "Proof.antt":
             continue
-        inside = False
         for line in read(path).splitlines():
-            kind, plain = TYPE.match(line), DEFINED.match(line)
+            kind, plain = TYPE.match(line), DECLARED.match(line)
             if kind:
                 types.add(kind.group(1))
-                inside = True
-            elif plain and not line.startswith(("use ", "mod ", "--")):
+            elif plain and not line.lstrip().startswith("--"):
                 names.add(plain.group(1))
-                inside = False
-            elif line[:1] not in ("", " ", "-"):
-                inside = False
-            elif inside and FIELD.match(line):
-                names.add(FIELD.match(line).group(1))
     return names, types
 
 
 def snake(name):
-    if name in OVERRIDES:
-        return OVERRIDES[name]
     out = []
     for part in name.split("-"):
         if part[:1].isupper() and len(name.split("-")) > 1 and not out and len(part) > 0:
@@ -79,7 +69,7 @@ def table(root):
     turned = {}
     for name in sorted(words):
         new = snake(name)
-        if "-" in name and new in taken:
+        if ("-" in name and new in taken) or LEMMAS.get(name) in words:
             new += "_lem"
         if new != name:
             turned[name] = new
@@ -117,7 +107,8 @@ def move(text):
 
 def move_crates(root):
     for old, new in CRATES.items():
-        os.rename(os.path.join(root, "crates", old), os.path.join(root, "crates", new))
+        if os.path.isdir(os.path.join(root, "crates", old)):
+            os.rename(os.path.join(root, "crates", old), os.path.join(root, "crates", new))
     path = os.path.join(root, "crates.txt")
     text = read(path)
     for old, new in CRATES.items():

@@ -23,8 +23,8 @@ use Rattle.community.specs.Renumbered.{SamePair}
 use Rattle.community.specs.Site.{network}
 use Rattle.community.proofs.Reachability.{reachable_sound, to_below}
 use Rattle.community.specs.ForProofs.{Sound}
-use Rattle.community.proofs.Similarity.{step-core, step-similar, core-self}
-use Rattle.community.proofs.Communities.{leader-one}
+use Rattle.community.proofs.Similarity.{step_core, step_similar, core_self}
+use Rattle.community.proofs.Communities.{leader_one}
 use Rattle.community.proofs.Site.{accepted_sound}
 use Rattle.community.proofs.Edges.{joins_take}
 use Rattle.community.proofs.Renumber.{leaders_reaching}
@@ -65,53 +65,53 @@ others g v w = g.neighbour w v && not (eqb w v)
 
 -- the last step of a chain
 last : {g : Network} {u v : ℕ} → Sound g → Reachable g u v → (w : ℕ) × T (step g w v) × Reachable g u w × (w < g.n)
-last {g} ok (one {u} {v} a b t) = (u, t, core-self ok u a (step-core ok u v t), a)
+last {g} ok (one {u} {v} a b t) = (u, t, core_self ok u a (step_core ok u v t), a)
 last {g} ok (more {u} {v} {w} r b t) = (v, t, r, to_below r)
 
 module _ {g : Network} (ok : Sound g) where
-  similar-neighbours : (w v : ℕ) → T (similar g w v) → T (g.neighbour w v)
+  similar_neighbours : (w v : ℕ) → T (similar g w v) → T (g.neighbour w v)
   unfolding similar
-  similar-neighbours w v t = and_left (g.neighbour w v) (meets_epsilon g.p g.q (common_neighbours g w v) (neighbourhood_size g w) (neighbourhood_size g v)) t
+  similar_neighbours w v t = and_left (g.neighbour w v) (meets_epsilon g.p g.q (common_neighbours g w v) (neighbourhood_size g w) (neighbourhood_size g v)) t
 
-  groupsOf-core : (v : ℕ) → v < g.n → T (is_core g v) → leaders_reaching g v ≤ 1
+  groups_of_core : (v : ℕ) → v < g.n → T (is_core g v) → leaders_reaching g v ≤ 1
   unfolding leaders_reaching
-  groupsOf-core v h c =
+  groups_of_core v h c =
       le_trans
       (count_pairs_lem g.n (λ u. is_leader g u && reachable g u v) 1 (λ w. true) (λ u w. w ≡ 0) (record {
         pair = λ u l t. (0, omega arith, tt, refl);
         apart = λ u w z hu hw tu tw x y.
-            leader-one ok u w v (and_left (is_leader g u) (reachable g u v) tu) (and_left (is_leader g w) (reachable g w v) tw) c
+            leader_one ok u w v (and_left (is_leader g u) (reachable g u v) tu) (and_left (is_leader g w) (reachable g w v) tw) c
             (reachable_sound g u v hu h (and_right (is_leader g u) (reachable g u v) tu))
             (reachable_sound g w v hw h (and_right (is_leader g w) (reachable g w v) tw));
       }))
       (count_le 1 (λ w. true))
 
-  groupsOf-border : (v : ℕ) → v < g.n → T (not (is_core g v)) → leaders_reaching g v ≤ count g.n (others g v)
+  groups_of_border : (v : ℕ) → v < g.n → T (not (is_core g v)) → leaders_reaching g v ≤ count g.n (others g v)
   unfolding leaders_reaching others
-  groupsOf-border v h c =
+  groups_of_border v h c =
       count_pairs_lem g.n (λ u. is_leader g u && reachable g u v) g.n (others g v) (λ u w. Reachable g u w × T (is_core g w)) (record {
         pair = λ u l t.
             let m = last ok (reachable_sound g u v l h (and_right (is_leader g u) (reachable g u v) t)) in
             let w : ℕ = m.0 in (
               w,
               m.3,
-              and_make (g.neighbour w v) (not (eqb w v)) (similar-neighbours w v (step-similar ok w v m.1))
-                  (not_T (eqb w v) (λ e. T_not (is_core g v) c (subst (λ (x : ℕ). T (is_core g x)) (eqb→eq w v e) (step-core ok w v m.1)))),
-              (m.2, step-core ok w v m.1),
+              and_make (g.neighbour w v) (not (eqb w v)) (similar_neighbours w v (step_similar ok w v m.1))
+                  (not_T (eqb w v) (λ e. T_not (is_core g v) c (subst (λ (x : ℕ). T (is_core g x)) (eqb→eq w v e) (step_core ok w v m.1)))),
+              (m.2, step_core ok w v m.1),
             );
         apart = λ u w z hu hw tu tw x y.
-            leader-one ok u w z (and_left (is_leader g u) (reachable g u v) tu) (and_left (is_leader g w) (reachable g w v) tw) x.1 x.0 y.0;
+            leader_one ok u w z (and_left (is_leader g u) (reachable g u v) tu) (and_left (is_leader g w) (reachable g w v) tw) x.1 x.0 y.0;
       })
 
-  pub memberships-le : length (member_table (communities g)) ≤ g.n + sum g.n (λ v. count g.n (others g v))
-  memberships-le =
+  pub memberships_le : length (member_table (communities g)) ≤ g.n + sum g.n (λ v. count g.n (others g v))
+  memberships_le =
       omega (
         arith,
         memberships g,
         sum_const g.n 1,
         sum_add g.n (λ v. 1) (λ v. count g.n (others g v)),
         sum_le g.n (leaders_reaching g) (λ v. 1 + count g.n (others g v))
-            (λ v h. ⊎_elim (λ c. omega (arith, groupsOf-core v h c)) (λ c. omega (arith, groupsOf-border v h c)) (decide (is_core g v))),
+            (λ v h. ⊎_elim (λ c. omega (arith, groups_of_core v h c)) (λ c. omega (arith, groups_of_border v h c)) (decide (is_core g v))),
       )
 
 -- ---- edges, counted by their ends
@@ -161,7 +161,7 @@ pub memberships_bound : (s : List ℕ) → Accepted s → length (member_table (
 memberships_bound s a =
     omega (
       arith,
-      memberships-le (accepted_sound s a),
+      memberships_le (accepted_sound s a),
       ends_sum (edge_records s) (handset_count s) (edge_count s),
       sum_le (handset_count s) (λ v. count (handset_count s) (others (network s) v)) (λ v. count (edge_count s) (touches (edge_records s) v))
           (λ v l. others_edges s v),

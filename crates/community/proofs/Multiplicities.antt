@@ -4,7 +4,7 @@
 --     Apart l                    no two places of a list hold the same
 --     multiplicity_contains      a list contains a handset exactly when it stands there at least once
 --     multiplicity_once          in a list without repeats a handset stands once or not at all
---     community-apart            a community lists no handset twice
+--     community_apart            a community lists no handset twice
 --     multiplicity_table         in the member table of a network's communities a handset stands as often as it has communities
 use Prim.Native.Nat.{ℕ, suc, ◌+◌, ◌<◌}
 use native.Mathlib.Omega.{arith}
@@ -17,7 +17,7 @@ use Rattle.sets.specs.Below.{any, count, bit}
 use Rattle.sets.specs.Entries.{multiplicity}
 use Rattle.sets.proofs.Tests.{any_take, eqb_of, T-ext}
 use Rattle.sets.proofs.Counting.{count_some, count_but, count_once}
-use Rattle.sets.proofs.Selecting.{mem-at, at_mem, select_ascends}
+use Rattle.sets.proofs.Selecting.{mem_at, at_mem, select_ascends}
 use Rattle.sets.proofs.Entries.{multiplicity_append}
 use Rattle.community.specs.Network.{Network, reachable, members, communities, contains, membership_count}
 use Rattle.community.specs.Tables.{member_table}
@@ -41,7 +41,7 @@ multiplicity_contains l v = T-ext (leb 1 (count (length l) f)) (contains v l) to
 
     back : T (contains v l) → T (leb 1 (count (length l) f))
     back t =
-        let r = mem-at l 0 v (contains_mem v l t) in
+        let r = mem_at l 0 v (contains_mem v l t) in
         le→leb 1 (count (length l) f) (omega (arith, count_but (length l) f r.0 r.1 (eqb_of v (get_or l r.0 0) (sym r.2))))
 
 pub multiplicity_once : (l : List ℕ) → Apart l → (v : ℕ) → multiplicity l v ≡ bit (contains v l)
@@ -57,12 +57,12 @@ multiplicity_once l apart v =
     one false = refl
 
 module _ (g : Network) where
-  members-apart : (u : ℕ) → Apart (members g u)
+  members_apart : (u : ℕ) → Apart (members g u)
   unfolding members
-  members-apart u i j h l e = omega (arith, select_ascends g.n (reachable g u) i j h l)
+  members_apart u i j h l e = omega (arith, select_ascends g.n (reachable g u) i j h l)
 
-  pub community-apart : (k : ℕ) → k < length (communities g) → Apart (get_or (communities g) k [])
-  community-apart k h = rw (community_at g k h) (members-apart (leader g k))
+  pub community_apart : (k : ℕ) → k < length (communities g) → Apart (get_or (communities g) k [])
+  community_apart k h = rw (community_at g k h) (members_apart (leader g k))
 
 lists_apart : (v : ℕ) (gs : List (List ℕ)) → ((k : ℕ) → k < length gs → Apart (get_or gs k [])) → multiplicity (member_table gs) v ≡ membership_count v gs
 unfolding member_table membership_count multiplicity count
@@ -72,4 +72,4 @@ lists_apart v (x ∷ gs) apart =
     ∙ ap₂ (λ (a b : ℕ). a + b) (multiplicity_once x (apart 0 (omega arith)) v) (lists_apart v gs (λ k h. apart (suc k) (omega arith)))
 
 pub multiplicity_table : (g : Network) (v : ℕ) → multiplicity (member_table (communities g)) v ≡ membership_count v (communities g)
-multiplicity_table g v = lists_apart v (communities g) (community-apart g)
+multiplicity_table g v = lists_apart v (communities g) (community_apart g)

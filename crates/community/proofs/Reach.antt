@@ -77,9 +77,9 @@ module _ (s l : List ℕ) where
   abbrev share : ℕ → Proximity
   share k = cond (inside s l k) (proximity s (end_a (edge_records s) k) (end_b (edge_records s) k)) NotNear
 
-  spans-share : (d : ℕ) → Spans s l d → (k : ℕ) × (k < edge_count s) × (share k ≡ Near d)
+  spans_share : (d : ℕ) → Spans s l d → (k : ℕ) × (k < edge_count s) × (share k ≡ Near d)
   unfolding adjacent inside
-  spans-share d x =
+  spans_share d x =
       let u : ℕ = x.0 in
       let v : ℕ = x.1 in
       let r = any_take (edge_count s) (joins (edge_records s) u v) x.4 in
@@ -93,9 +93,9 @@ module _ (s l : List ℕ) where
             (joins_cases (edge_records s) u v r.0 r.2),
       )
 
-  share-spans : (d k : ℕ) → k < edge_count s → share k ≡ Near d → Spans s l d
+  share_spans : (d k : ℕ) → k < edge_count s → share k ≡ Near d → Spans s l d
   unfolding adjacent inside
-  share-spans d k h q = go (inside s l k) refl q
+  share_spans d k h q = go (inside s l k) refl q
     where
       a : ℕ
       a = end_a (edge_records s) k
@@ -119,28 +119,28 @@ module _ (s l : List ℕ) where
   unfolding reach
   held = farthest_is (edge_count s) share
 
-  reach-spans : (d : ℕ) → reach s l ≡ Near d → Spans s l d
-  reach-spans d e = let t = held.told d e in share-spans d t.0 t.1 t.2
+  reach_spans : (d : ℕ) → reach s l ≡ Near d → Spans s l d
+  reach_spans d e = let t = held.told d e in share_spans d t.0 t.1 t.2
 
-  spans-reach : (d : ℕ) → Spans s l d → (e : ℕ) × (reach s l ≡ Near e) × (d ≤ e)
-  spans-reach d x = let p = spans-share d x in held.most p.0 d p.1 p.2
+  spans_reach : (d : ℕ) → Spans s l d → (e : ℕ) × (reach s l ≡ Near e) × (d ≤ e)
+  spans_reach d x = let p = spans_share d x in held.most p.0 d p.1 p.2
 
-  largest-is : (d : ℕ) → (reach s l ≡ Near d) ↔ (Spans s l d × ((e : ℕ) → Spans s l e → e ≤ d))
-  largest-is d = (to, from)
+  largest_is : (d : ℕ) → (reach s l ≡ Near d) ↔ (Spans s l d × ((e : ℕ) → Spans s l e → e ≤ d))
+  largest_is d = (to, from)
     where
       to : reach s l ≡ Near d → Spans s l d × ((e : ℕ) → Spans s l e → e ≤ d)
-      to q = (reach-spans d q, λ e x. let m = spans-reach e x in omega (arith, m.2, near_same (sym q ∙ m.1)))
+      to q = (reach_spans d q, λ e x. let m = spans_reach e x in omega (arith, m.2, near_same (sym q ∙ m.1)))
 
       from : Spans s l d × ((e : ℕ) → Spans s l e → e ≤ d) → reach s l ≡ Near d
       from x =
-          let m = spans-reach d x.0 in
-          m.1 ∙ ap Near (let i : m.0 ≡ d = omega (arith, m.2, x.1 m.0 (reach-spans m.0 m.1)) in i)
+          let m = spans_reach d x.0 in
+          m.1 ∙ ap Near (let i : m.0 ≡ d = omega (arith, m.2, x.1 m.0 (reach_spans m.0 m.1)) in i)
 
   none_is : (reach s l ≡ NotNear) ↔ ((d : ℕ) → Spans s l d → ⊥)
-  none_is = (λ q d x. let m = spans-reach d x in near_apart m.0 (sym q ∙ m.1), λ f. go f (reach s l) refl)
+  none_is = (λ q d x. let m = spans_reach d x in near_apart m.0 (sym q ∙ m.1), λ f. go f (reach s l) refl)
     where
       go : ((d : ℕ) → Spans s l d → ⊥) → (r : Proximity) → reach s l ≡ r → r ≡ NotNear
-      go f (Near d) q = absurd (f d (reach-spans d q))
+      go f (Near d) q = absurd (f d (reach_spans d q))
       go f NotNear q = refl
 
 -- an edge between two of a list of one would be a loop
@@ -157,8 +157,8 @@ alone_none s v ok d x =
 
 pub reach_means : ReachMeans
 reach_means = record {
-  largest = largest-is;
+  largest = largest_is;
   none = none_is;
-  in_limit = λ s l d q. let x = reach-spans s l d q in near_limit s x.0 x.1 d x.5;
+  in_limit = λ s l d q. let x = reach_spans s l d q in near_limit s x.0 x.1 d x.5;
   alone = λ s v ok. (none_is s (v ∷ [])).1 (alone_none s v ok);
 }

@@ -1,9 +1,9 @@
 -- The computed test `reachable` says what `Reachable` says. A chain over any relation holds its steps and each two chains that meet, and nothing else: it is
 -- the least such relation.
 --
---     chain-step              a step is a chain
---     chain-meet              two chains that meet below the bound are one
---     chain-least             what holds of steps and is transitive holds of chains
+--     chain_step              a step is a chain
+--     chain_meet              two chains that meet below the bound are one
+--     chain_least             what holds of steps and is transitive holds of chains
 --     reachable_sound         the test passes only where there is a chain of steps; reachable_complete: and wherever there is one
 --     reachable_test          both, as specs/Network states it
 use Prim.Native.Nat.{ℕ, zero, suc, ◌≤◌, ◌<◌}
@@ -57,44 +57,44 @@ module _ (st : ℕ → ℕ → Bool) where
   from_end k v t = ⊎_elim (λ x. x) (λ x. x.1) (ways k k v t)
 
   -- two chains that meet at w below k are one
-  pub chain-meet : (k w : ℕ) → w < k → (u v : ℕ) → T (chain st k u w) → T (chain st k w v) → T (chain st k u v)
+  pub chain_meet : (k w : ℕ) → w < k → (u v : ℕ) → T (chain st k u w) → T (chain st k w v) → T (chain st k u v)
   unfolding Ways
-  chain-meet zero w h u v x y = absurd (omega arith)
-  chain-meet (suc k) w h u v x y =
+  chain_meet zero w h u v x y = absurd (omega arith)
+  chain_meet (suc k) w h u v x y =
       ⊎_elim
       (λ e. via k u v (to_end k u (rw e at x)) (from_end k v (rw e at y)))
       (λ l.
       ⊎_elim
-      (λ a. ⊎_elim (λ b. keep k u v (chain-meet k w l u v a b)) (λ b. via k u v (chain-meet k w l u k a b.0) b.1) (ways k w v y))
-      (λ a. ⊎_elim (λ b. via k u v a.0 (chain-meet k w l k v a.1 b)) (λ b. via k u v a.0 b.1) (ways k w v y))
+      (λ a. ⊎_elim (λ b. keep k u v (chain_meet k w l u v a b)) (λ b. via k u v (chain_meet k w l u k a b.0) b.1) (ways k w v y))
+      (λ a. ⊎_elim (λ b. via k u v a.0 (chain_meet k w l k v a.1 b)) (λ b. via k u v a.0 b.1) (ways k w v y))
       (ways k u w x))
       (below h)
 
   -- a step is a chain
-  pub chain-step : (k u v : ℕ) → T (st u v) → T (chain st k u v)
+  pub chain_step : (k u v : ℕ) → T (st u v) → T (chain st k u v)
   unfolding chain
-  chain-step zero u v t = t
-  chain-step (suc k) u v t = keep k u v (chain-step k u v t)
+  chain_step zero u v t = t
+  chain_step (suc k) u v t = keep k u v (chain_step k u v t)
 
   module _ (n : ℕ) (R : ℕ → ℕ → Type 0) (R-step : (u v : ℕ) → u < n → v < n → T (st u v) → R u v) (R-trans : (u v w : ℕ) → R u v → R v w → R u w) where
-    pub chain-least : (k : ℕ) → k ≤ n → (u v : ℕ) → u < n → v < n → T (chain st k u v) → R u v
+    pub chain_least : (k : ℕ) → k ≤ n → (u v : ℕ) → u < n → v < n → T (chain st k u v) → R u v
     unfolding chain Ways
-    chain-least zero l u v a b t = R-step u v a b t
-    chain-least (suc k) l u v a b t =
+    chain_least zero l u v a b t = R-step u v a b t
+    chain_least (suc k) l u v a b t =
         ⊎_elim
-        (λ x. chain-least k (omega arith) u v a b x)
-        (λ x. R-trans u k v (chain-least k (omega arith) u k a (omega arith) x.0) (chain-least k (omega arith) k v (omega arith) b x.1))
+        (λ x. chain_least k (omega arith) u v a b x)
+        (λ x. R-trans u k v (chain_least k (omega arith) u k a (omega arith) x.0) (chain_least k (omega arith) k v (omega arith) b x.1))
         (ways k u v t)
 
 pub reachable_sound : (g : Network) (u v : ℕ) → u < g.n → v < g.n → T (reachable g u v) → Reachable g u v
 unfolding reachable
 reachable_sound g u v a b t =
-    chain-least (step g) g.n (Reachable g) (λ x y l m s. one l m s) (λ x y z r s. Reachable-trans r s) g.n (omega arith) u v a b t
+    chain_least (step g) g.n (Reachable g) (λ x y l m s. one l m s) (λ x y z r s. Reachable-trans r s) g.n (omega arith) u v a b t
 
 pub reachable_complete : (g : Network) {u v : ℕ} → Reachable g u v → T (reachable g u v)
 unfolding reachable
-reachable_complete g (one {u} {v} a b t) = chain-step (step g) g.n u v t
-reachable_complete g (more {u} {v} {w} r b t) = chain-meet (step g) g.n v (to_below r) u w (reachable_complete g r) (chain-step (step g) g.n v w t)
+reachable_complete g (one {u} {v} a b t) = chain_step (step g) g.n u v t
+reachable_complete g (more {u} {v} {w} r b t) = chain_meet (step g) g.n v (to_below r) u w (reachable_complete g r) (chain_step (step g) g.n v w t)
 
 pub reachable_test : ReachableTest
 reachable_test = record { exactly = λ g u v a b. (reachable_sound g u v a b, reachable_complete g) }

@@ -22,7 +22,7 @@ use Rattle.community.specs.Renumbered.{SameRole}
 use Rattle.community.specs.Renumbered.SameRole.{both_core, both_border, both_outlier}
 use Rattle.community.specs.ForProofs.{Sound}
 use Rattle.community.proofs.Communities.{core_once}
-use Rattle.community.proofs.Renumber.{with_neighbour, Moved, leaders_reaching, core-moved, leadersReaching-moved}
+use Rattle.community.proofs.Renumber.{with_neighbour, Moved, leaders_reaching, core_moved, leaders_reaching_moved}
 
 pub contains_mem : (v : ℕ) (l : List ℕ) → T (contains v l) → Memᴰ v l
 unfolding contains
@@ -121,7 +121,7 @@ pub role_moved : (g : Network) (b : ℕ → ℕ → Bool) (r : Renumbering g.n) 
     → (v : ℕ) → v < g.n → SameRole (role g v) (role (with_neighbour g b) (r.to v))
 unfolding role
 role_moved g b r moved ok ok' v h =
-    rw (core-moved g b r moved v h, times_law (with_neighbour g b) (r.to v) (r.to_below v h), ← leadersReaching-moved g b r moved ok ok' v h, times_law g v h)
+    rw (core_moved g b r moved v h, times_law (with_neighbour g b) (r.to v) (r.to_below v h), ← leaders_reaching_moved g b r moved ok ok' v h, times_law g v h)
     (same_cond (is_core g v) (community_number v (communities g)) (community_number (r.to v) (communities (with_neighbour g b))) (leaders_reaching g v))
 
 -- ---- a role by its values

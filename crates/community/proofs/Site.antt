@@ -9,7 +9,7 @@ use Rattle.image.specs.Image.{header_of, epsilon_num, epsilon_den, mu}
 use Rattle.image.specs.Questions.{Accepted}
 use Rattle.near.specs.Near.{is_near, neighbour}
 use Rattle.near.specs.declared.Proximity.{Proximity}
-use Rattle.image.proofs.Acceptance.{accepted-fits}
+use Rattle.image.proofs.Acceptance.{accepted_fits}
 use Rattle.near.proofs.Near.{proximity_comm, near_itself}
 use Rattle.community.specs.Site.{network}
 use Rattle.community.specs.ForProofs.{Sound}
@@ -32,4 +32,4 @@ network_sound s h =
     record { neighbour_self = λ u v t. neighbour_self s u; neighbour_sym = neighbour_comm s; at_most_one = h; mu_some = core_size_some (header_of s).mu }
 
 pub accepted_sound : (s : List ℕ) → Accepted s → Sound (network s)
-accepted_sound s a = network_sound s (accepted-fits s a).p_q
+accepted_sound s a = network_sound s (accepted_fits s a).p_q

@@ -50,8 +50,8 @@ next_of gs x k h =
 
 -- of two tables that begin with the plan's: the slice of the member table from start k to start k + 1 is the k-th community
 module _ (gs : List (List ℕ)) (x y : List ℕ) (k : ℕ) (h : k < length gs) where
-  pub table-community : slice (get_or (start_table gs ++ x) k 0) (get_or (start_table gs ++ x) (k + 1) 0) (member_table gs ++ y) ≡ get_or gs k []
-  table-community =
+  pub table_community : slice (get_or (start_table gs ++ x) k 0) (get_or (start_table gs ++ x) (k + 1) 0) (member_table gs ++ y) ≡ get_or gs k []
+  table_community =
       let p : List ℕ = member_table (take k gs) in
       let c : List ℕ = get_or gs k [] in
       let q : List ℕ = member_table (drop (suc k) gs) in
@@ -60,11 +60,11 @@ module _ (gs : List (List ℕ)) (x y : List ℕ) (k : ℕ) (h : k < length gs) w
       rw (start_of gs x k (omega arith), next_of gs x k h, e, take_at (p ++ c) (q ++ y) (length p + length c) (length-append p c), drop_at p c (length p) refl)
 
   -- the two starts are in order, and within the member table
-  pub starts-ordered : get_or (start_table gs ++ x) k 0 ≤ get_or (start_table gs ++ x) (k + 1) 0
-  starts-ordered = omega (arith, start_of gs x k (omega arith), next_of gs x k h)
+  pub starts_ordered : get_or (start_table gs ++ x) k 0 ≤ get_or (start_table gs ++ x) (k + 1) 0
+  starts_ordered = omega (arith, start_of gs x k (omega arith), next_of gs x k h)
 
-  pub starts-within : get_or (start_table gs ++ x) (k + 1) 0 ≤ length (member_table gs ++ y)
-  starts-within =
+  pub starts_within : get_or (start_table gs ++ x) (k + 1) 0 ≤ length (member_table gs ++ y)
+  starts_within =
       omega (
         arith,
         next_of gs x k h,

@@ -20,23 +20,23 @@ module _ (y m d : ℕ) (s : Exists y m d) where
   unfolding next_year next_month next_day day_number
   within e = simp e (omega arith)
 
-  at-the-end : ends_month y m d ≡ true → day_number (next_year y m d) (next_month y m d) (next_day y m d) ≡ day_number y m d + 1
+  at_the_end : ends_month y m d ≡ true → day_number (next_year y m d) (next_month y m d) (next_day y m d) ≡ day_number y m d + 1
   unfolding next_year next_month next_day ends_month
-  at-the-end e =
+  at_the_end e =
       let l : d ≡ month_length y m = eqb-true _ _ e in
       simp e (rw l (month_turns y m (omega (arith, s)) s.month_from s.month_to))
 
   by_cases : (b : Bool) → ends_month y m d ≡ b → day_number (next_year y m d) (next_month y m d) (next_day y m d) ≡ day_number y m d + 1
-  by_cases true e = at-the-end e
+  by_cases true e = at_the_end e
   by_cases false e = within e
 
 pub next_number : (y m d : ℕ) → T (date_exists y m d) → day_number (next_year y m d) (next_month y m d) (next_day y m d) ≡ day_number y m d + 1
 next_number y m d t = by_cases y m d (exists_parts y m d t) (ends_month y m d) refl
 
 module _ (y m d : ℕ) (s : Exists y m d) (last : next_year y m d ≤ last_year) where
-  within-exists : ends_month y m d ≡ false → Exists (next_year y m d) (next_month y m d) (next_day y m d)
+  within_exists : ends_month y m d ≡ false → Exists (next_year y m d) (next_month y m d) (next_day y m d)
   unfolding next_year next_month next_day ends_month
-  within-exists e =
+  within_exists e =
       let l : d ≡ month_length y m → ⊥ = eqb-false _ _ e in
       simp e (record {
         month_from = s.month_from;
@@ -47,9 +47,9 @@ module _ (y m d : ℕ) (s : Exists y m d) (last : next_year y m d ≤ last_year)
         year_to = s.year_to;
       })
 
-  end-exists : ends_month y m d ≡ true → (b : Bool) → eqb m 12 ≡ b → Exists (next_year y m d) (next_month y m d) (next_day y m d)
+  end_exists : ends_month y m d ≡ true → (b : Bool) → eqb m 12 ≡ b → Exists (next_year y m d) (next_month y m d) (next_day y m d)
   unfolding next_year next_month next_day ends_month
-  end-exists e true f =
+  end_exists e true f =
       let h = simp (e, f) at last in
       simp (e, f) (record {
         month_from = omega arith;
@@ -59,7 +59,7 @@ module _ (y m d : ℕ) (s : Exists y m d) (last : next_year y m d ≤ last_year)
         year_from = omega (arith, s);
         year_to = h;
       })
-  end-exists e false f =
+  end_exists e false f =
       let l : m ≡ 12 → ⊥ = eqb-false _ _ f in
       simp (e, f) (record {
         month_from = omega arith;
@@ -70,12 +70,12 @@ module _ (y m d : ℕ) (s : Exists y m d) (last : next_year y m d ≤ last_year)
         year_to = s.year_to;
       })
 
-  next-date : (b : Bool) → ends_month y m d ≡ b → Exists (next_year y m d) (next_month y m d) (next_day y m d)
-  next-date true e = end-exists e (eqb m 12) refl
-  next-date false e = within-exists e
+  next_date : (b : Bool) → ends_month y m d ≡ b → Exists (next_year y m d) (next_month y m d) (next_day y m d)
+  next_date true e = end_exists e (eqb m 12) refl
+  next_date false e = within_exists e
 
 pub next_exists : (y m d : ℕ) → T (date_exists y m d) → next_year y m d ≤ last_year → T (date_exists (next_year y m d) (next_month y m d) (next_day y m d))
-next_exists y m d t last = parts_exist _ _ _ (next-date y m d (exists_parts y m d t) last (ends_month y m d) refl)
+next_exists y m d t last = parts_exist _ _ _ (next_date y m d (exists_parts y m d t) last (ends_month y m d) refl)
 
 weekday_is : (y m d : ℕ) → T (date_exists y m d) → weekday_of y m d ≡ weekday_number (day_number y m d)
 unfolding weekday_of

@@ -138,23 +138,23 @@ abbrev month_of : ℕ → ℕ → ℕ
 month_of y m = 12 * y + (m - 1)
 
 module _ {y m d : ℕ} (s : Exists y m d) where
-  month-named : (month_of y m / 12 ≡ y) × (month_of y m % 12 + 1 ≡ m)
-  month-named = omega (arith, s)
+  month_named : (month_of y m / 12 ≡ y) × (month_of y m % 12 + 1 ≡ m)
+  month_named = omega (arith, s)
 
-  in-month : day_number y m d + 1 ≡ start (month_of y m) + d
+  in_month : day_number y m d + 1 ≡ start (month_of y m) + d
   unfolding start
-  in-month = rw (month-named.0, month-named.1) (first_day y m d)
+  in_month = rw (month_named.0, month_named.1) (first_day y m d)
 
   to_the_end : d ≤ days (month_of y m)
   unfolding days
-  to_the_end = rw (month-named.0, month-named.1) s.day_to
+  to_the_end = rw (month_named.0, month_named.1) s.day_to
 
 earlier_month : {y m d y' m' d' : ℕ} → Exists y m d → Exists y' m' d' → month_of y m < month_of y' m' → day_number y m d < day_number y' m' d'
 earlier_month {y} {m} {d} {y'} {m'} {d'} s s' h =
     let k = month_of y' m' - month_of y m - 1 in
     let e : month_of y m + suc k ≡ month_of y' m' = omega arith in
     let l : start (month_of y m) + days (month_of y m) ≤ start (month_of y' m') = rw e at (start_later (month_of y m) k (omega (arith, s.year_from))) in
-    omega (arith, in-month s, to_the_end s, in-month s', s'.day_from, l)
+    omega (arith, in_month s, to_the_end s, in_month s', s'.day_from, l)
 
 earlier_day : (y m d d' : ℕ) → d < d' → day_number y m d < day_number y m d'
 earlier_day y m d d' h = omega (arith, first_day y m d, first_day y m d')
@@ -175,10 +175,10 @@ by_month {y} {m} {d} {y'} {m'} {d'} s s' e true b p q = absurd (omega (arith, ea
 by_month {y} {m} {d} {y'} {m'} {d'} s s' e false true p q = absurd (omega (arith, earlier_month s' s (ltb-true _ _ q)))
 by_month {y} {m} {d} {y'} {m'} {d'} s s' e false false p q =
     let same : month_of y m ≡ month_of y' m' = omega (arith, ltb-false (month_of y m) (month_of y' m') p, ltb-false (month_of y' m') (month_of y m) q) in
-    let i : day_number y m d + 1 ≡ start (month_of y' m') + d = rw same at (in-month s) in (
+    let i : day_number y m d + 1 ≡ start (month_of y' m') + d = rw same at (in_month s) in (
       omega (arith, s.month_from, s.month_to, s'.month_from, s'.month_to),
       omega (arith, s.month_from, s.month_to, s'.month_from, s'.month_to),
-      omega (arith, i, in-month s'),
+      omega (arith, i, in_month s'),
     )
 
 pub one_date : (y m d y' m' d' : ℕ) → Exists y m d → Exists y' m' d' → day_number y m d ≡ day_number y' m' d' → (y ≡ y') × (m ≡ m') × (d ≡ d')

@@ -29,7 +29,7 @@ use Rattle.image.specs.declared.Header.{Header}
 use Rattle.image.specs.declared.Refusal.{Refusal}
 use Rattle.image.specs.declared.Opened.{Opened}
 use Rattle.image.specs.declared.Opened.TheVariants as O
-use Rattle.image.proofs.Acceptance.{when-accepted, when-either, counts_limits, accepted-fits}
+use Rattle.image.proofs.Acceptance.{when_accepted, when_either, counts_limits, accepted_fits}
 use Rattle.community.specs.Network.{Network, contains, community_number, membership_count, border_of, communities, neighbourhood_size, is_core, role}
 use Rattle.community.specs.Scores.{count_pairs, pairs, every_edge, joined_by, joined_pairs, just_one, leaving}
 use Rattle.community.specs.Site.{network, communities_of}
@@ -71,7 +71,7 @@ use Rattle.layout.specs.declared.Parameters.{Parameters}
 use Rattle.writer.specs.Writer.{tables_answer, encoded_of}
 use Rattle.writer.specs.declared.Encoded.{Encoded}
 use Rattle.writer.specs.declared.Encoded.TheVariants as E
-use Rattle.writer.proofs.Drafting.{encoded-either}
+use Rattle.writer.proofs.Drafting.{encoded_either}
 use Rattle.divanegret.specs.Lossless.{entry_limit}
 
 -- the highest number of a refusal
@@ -139,25 +139,25 @@ PlanSmall (P.Made c) = (c.groups ≤ 512) × (c.memberships ≤ 8704)
 PlanSmall (P.Refused r) = Small r
 
 module _ (s : List ℕ) (ok : Accepted s) where
-  handsets-at-most : handset_count s ≤ 512
-  handsets-at-most = (accepted-fits s ok).n_limit
+  handsets_at_most : handset_count s ≤ 512
+  handsets_at_most = (accepted_fits s ok).n_limit
 
-  edges-at-most : edge_count s ≤ 4096
-  edges-at-most = (accepted-fits s ok).m_limit
+  edges_at_most : edge_count s ≤ 4096
+  edges_at_most = (accepted_fits s ok).m_limit
 
-  communities-at-most : length (communities (network s)) ≤ 512
-  communities-at-most = omega (arith, communities_few (network s), handsets-at-most)
+  communities_at_most : length (communities (network s)) ≤ 512
+  communities_at_most = omega (arith, communities_few (network s), handsets_at_most)
 
-  memberships-at-most : length (member_table (communities (network s))) ≤ 8704
-  memberships-at-most = omega (arith, memberships_bound s ok, handsets-at-most, edges-at-most)
+  memberships_at_most : length (member_table (communities (network s))) ≤ 8704
+  memberships_at_most = omega (arith, memberships_bound s ok, handsets_at_most, edges_at_most)
 
 pub plan_small : (s : List ℕ) (a b : ℕ) → PlanSmall (plan_of s a b)
 unfolding plan_of communities_of
 plan_small s a b =
-    when-either s _ _ PlanSmall (room (ltb (length (communities_of s)) a) (leb (length (member_table (communities_of s))) b)) (refused_small s)
+    when_either s _ _ PlanSmall (room (ltb (length (communities_of s)) a) (leb (length (member_table (communities_of s))) b)) (refused_small s)
   where
     room : (x y : Bool) → Accepted s → PlanSmall (cond x (cond y (made (length (communities_of s)) (length (member_table (communities_of s)))) (P.Refused (refusal 12))) (P.Refused (refusal 11)))
-    room true true ok = (communities-at-most s ok, memberships-at-most s ok)
+    room true true ok = (communities_at_most s ok, memberships_at_most s ok)
     room true false ok = own_small 12 (omega arith) (omega arith)
     room false y ok = own_small 11 (omega arith) (omega arith)
 
@@ -192,18 +192,18 @@ border_small (suc k) h = h
 
 pub role_small : (s : List ℕ) (v : ℕ) → KnownSmall (known_of s v)
 unfolding known_of standing role neighbourhood_size
-role_small s v = when-either s _ _ KnownSmall (of-handset (ltb v (handset_count s))) (refused_small s)
+role_small s v = when_either s _ _ KnownSmall (of_handset (ltb v (handset_count s))) (refused_small s)
   where
     g : Network
     g = network s
 
-    of-role : (b : Bool) → Accepted s → RoleSmall (cond b (Core (community_number v (communities g))) (border_of (membership_count v (communities g))))
-    of-role true ok = omega (arith, community_number_le v (communities g), communities-at-most s ok)
-    of-role false ok = border_small (membership_count v (communities g)) (omega (arith, membership_count_le v (communities g), communities-at-most s ok))
+    of_role : (b : Bool) → Accepted s → RoleSmall (cond b (Core (community_number v (communities g))) (border_of (membership_count v (communities g))))
+    of_role true ok = omega (arith, community_number_le v (communities g), communities_at_most s ok)
+    of_role false ok = border_small (membership_count v (communities g)) (omega (arith, membership_count_le v (communities g), communities_at_most s ok))
 
-    of-handset : (b : Bool) → Accepted s → KnownSmall (cond b (K.Handset (standing s v)) (K.Refused (refusal 13)))
-    of-handset true ok = (of-role (is_core g v) ok, omega (arith, count_le g.n (g.neighbour v), handsets-at-most s ok))
-    of-handset false ok = own_small 13 (omega arith) (omega arith)
+    of_handset : (b : Bool) → Accepted s → KnownSmall (cond b (K.Handset (standing s v)) (K.Refused (refusal 13)))
+    of_handset true ok = (of_role (is_core g v) ok, omega (arith, count_le g.n (g.neighbour v), handsets_at_most s ok))
+    of_handset false ok = own_small 13 (omega arith) (omega arith)
 
 -- ---- the tally of a list
 
@@ -223,15 +223,15 @@ module _ (n : ℕ) (l : List ℕ) where
   unfolding bad_entry
   late = or_right (leb n (get_or l 512 0)) (leb 512 512) (le→leb 512 512 (omega arith))
 
-  place-few : T (any (length l) (bad_entry n l)) → find (length l) (bad_entry n l) ≤ 4096
-  place-few t = pick (dec_le (find (length l) (bad_entry n l)) 512)
+  place_few : T (any (length l) (bad_entry n l)) → find (length l) (bad_entry n l) ≤ 4096
+  place_few t = pick (dec_le (find (length l) (bad_entry n l)) 512)
     where
       pick : Dec (find (length l) (bad_entry n l) ≤ 512) → find (length l) (bad_entry n l) ≤ 4096
       pick (yes h) = omega arith
       pick (no h) = absurd (not_any (find (length l) (bad_entry n l)) (bad_entry n l) 512 (find_law (length l) (bad_entry n l) t).2 (omega arith) late)
 
-  list-few : T (not (any (length l) (bad_entry n l))) → length l ≤ 512
-  list-few t = pick (dec_le (length l) 512)
+  list_few : T (not (any (length l) (bad_entry n l))) → length l ≤ 512
+  list_few t = pick (dec_le (length l) 512)
     where
       pick : Dec (length l ≤ 512) → length l ≤ 512
       pick (yes h) = h
@@ -239,20 +239,20 @@ module _ (n : ℕ) (l : List ℕ) where
 
 pub tally_small : (s l : List ℕ) → TallySmall (tallied_of s l)
 unfolding tallied_of ask_entries tally_of pairs joined_pairs leaving
-tally_small s l = when-either s _ _ TallySmall (entries (any (length l) (bad_entry (handset_count s) l)) refl) (refused_small s)
+tally_small s l = when_either s _ _ TallySmall (entries (any (length l) (bad_entry (handset_count s) l)) refl) (refused_small s)
   where
     n : ℕ
     n = handset_count s
 
     entries : (b : Bool) → any (length l) (bad_entry n l) ≡ b → Accepted s
         → TallySmall (cond b (T.Refused (record { number = 13; place = find (length l) (bad_entry n l) })) (T.Of (tally_of s l)))
-    entries true e ok = record { some = omega arith; number = omega arith; place = place-few n l (subst T (sym e) tt) }
+    entries true e ok = record { some = omega arith; number = omega arith; place = place_few n l (subst T (sym e) tt) }
     entries false e ok =
-        let few : length l ≤ 512 = list-few n l (subst (λ (b : Bool). T (not b)) (sym e) tt) in
+        let few : length l ≤ 512 = list_few n l (subst (λ (b : Bool). T (not b)) (sym e) tt) in
         let edges : List ℕ = edge_records s in (
           pairs_le (length l) (λ i j. true) few,
           pairs_le (length l) (λ i j. joined_by s every_edge (get_or l i 0) (get_or l j 0)) few,
-          omega (arith, count_le (edge_count s) (λ k. every_edge k && just_one (contains (end_a edges k) l) (contains (end_b edges k) l)), edges-at-most s ok),
+          omega (arith, count_le (edge_count s) (λ k. every_edge k && just_one (contains (end_a edges k) l) (contains (end_b edges k) l)), edges_at_most s ok),
         )
 
 -- ---- a group's members
@@ -310,7 +310,7 @@ NearestSmall (N.Refused r) = Small r
 
 pub nearest_small : (s : List ℕ) (p : List ℤ) → length p ≡ coordinate_count → NearestSmall (nearest_of s p)
 unfolding nearest_of communities_of
-nearest_small s p long = when-either s _ _ NearestSmall (λ ok. subst NearestSmall (when-accepted s _ N.Refused ok) (told ok)) (refused_small s)
+nearest_small s p long = when_either s _ _ NearestSmall (λ ok. subst NearestSmall (when_accepted s _ N.Refused ok) (told ok)) (refused_small s)
   where
     inside : Accepted s → T (point_in_limits p) → NearestSmall (nearest_of s p)
     inside ok t = of (nearest_of s p) refl
@@ -320,7 +320,7 @@ nearest_small s p long = when-either s _ _ NearestSmall (λ ok. subst NearestSma
             let n = (nearest_means.group s p (nearest_of s p) ok t refl k d).0 e in
             let v = n.stands.0 in
             let m = n.stands.1 in (
-              omega (arith, m.0, communities-at-most s ok),
+              omega (arith, m.0, communities_at_most s ok),
               omega (arith, n.stands.2, distance_most s ok p long t v (member_below (network s) k v m.0 m.1)),
             )
         of N.NoGroups e = omega arith
@@ -339,7 +339,7 @@ ReportSmall room (R.Refused r) = Small r
 
 pub report_small : (s : List ℕ) (room : ℕ) → ReportSmall room (report_of s room)
 unfolding report_of written_of
-report_small s room = when-either s _ _ (ReportSmall room) (λ ok. fitting (leb (length (report_text s)) room) refl) (refused_small s)
+report_small s room = when_either s _ _ (ReportSmall room) (λ ok. fitting (leb (length (report_text s)) room) refl) (refused_small s)
   where
     fitting : (b : Bool) → leb (length (report_text s)) room ≡ b → ReportSmall room (cond b (R.Written (length (report_text s))) (R.Refused (refusal 16)))
     fitting true e = leb→le (length (report_text s)) room (subst T (sym e) tt)
@@ -363,7 +363,7 @@ tables_small x coords ends =
 
 pub encoded_small : (x : Parameters) (coords : List ℤ) (ends : List ℕ) (room : ℕ) → EncodedSmall (encoded_of x coords ends room)
 encoded_small x coords ends room =
-    encoded-either x coords ends room EncodedSmall (λ ok s. fitting (counts_limits x.n x.m ok.q3) (leb (header_for x).len room))
+    encoded_either x coords ends room EncodedSmall (λ ok s. fitting (counts_limits x.n x.m ok.q3) (leb (header_for x).len room))
     (λ q s. subst OpenSmall s (tables_small x coords ends))
   where
     fitting : (x.n ≤ 512) × (x.m ≤ 4096) → (b : Bool) → EncodedSmall (cond b (E.Length (header_for x).len) (E.Refused (refusal 20)))

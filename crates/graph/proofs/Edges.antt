@@ -3,9 +3,9 @@
 --
 --     in_word_lem, word_in, word_in_at     the edges of a word, by their bits
 --     dropped_none, dropped_one        a table without no edge, and without one; dropped_then: without some edges and then others; dropped_cong: by equal tests
---     Dropping, dropping-start, dropping-bit, dropping-on, dropping-end     the edges of a word, dropped one after the other
---     word-passes, passes-word         the edges of a word of a set
---     dropped_start, dropped-word, dropped_end                              the edges of a set, dropped a word at a time
+--     Dropping, dropping_start, dropping_bit, dropping_on, dropping_end     the edges of a word, dropped one after the other
+--     word_passes, passes_word         the edges of a word of a set
+--     dropped_start, dropped_word, dropped_end                              the edges of a set, dropped a word at a time
 use Prim.Native.Nat.{ℕ, ◌+◌, ◌*◌, ◌-◌, ◌≤◌, ◌<◌, ◌^◌}
 use native.Mathlib.Omega.{arith}
 use native.Mathlib.Nat.{le_refl}
@@ -20,9 +20,9 @@ use Rattle.sets.specs.Below.{bit}
 use Rattle.sets.specs.Bits.{bit_of, bit_at, cell, without_bit}
 use Rattle.sets.specs.Rows.{table_words}
 use Rattle.sets.proofs.Tests.{and_make, and_left, and_right, decide, eqb_of}
-use Rattle.sets.proofs.Bits.{bit_of_lt, bit_of_none, bitAt-clear-same, bit_at_clear_other, length_without_bit}
+use Rattle.sets.proofs.Bits.{bit_of_lt, bit_of_none, bit_at_clear_same, bit_at_clear_other, length_without_bit}
 use Rattle.sets.proofs.Counting.{bit_true}
-use Rattle.sets.proofs.Lowest.{Lowest, cleared, cleared_lt, cleared-same, cleared-other, cleared_le}
+use Rattle.sets.proofs.Lowest.{Lowest, cleared, cleared_lt, cleared_same, cleared_other, cleared_le}
 use Rattle.image.specs.Image.{end_a, end_b, joins}
 use Rattle.image.proofs.Edges.{joins_cases, joins_one, joins_other}
 use Rattle.graph.specs.ForProofs.{WordOf, in_word, Dropped}
@@ -53,17 +53,17 @@ module _ (records : List ℕ) (k u v : ℕ) (ha : end_a records k < 512) (hb : e
   second = end_b records k * 512 + end_a records k
 
   at_second : cell (without_bit (without_bit ws first) second) (end_b records k) (end_a records k) ≡ 0
-  at_second = bitAt-clear-same (without_bit ws first) second (omega (arith, length_without_bit ws first, long, ha, hb))
+  at_second = bit_at_clear_same (without_bit ws first) second (omega (arith, length_without_bit ws first, long, ha, hb))
 
   at_first : cell (without_bit (without_bit ws first) second) (end_a records k) (end_b records k) ≡ 0
   at_first = go (ℕ_discrete first second)
     where
       go : Dec (first ≡ second) → bit_at (without_bit (without_bit ws first) second) first ≡ 0
       go (yes e) = ap (bit_at (without_bit (without_bit ws first) second)) e ∙ at_second
-      go (no d) = bit_at_clear_other (without_bit ws first) second first d ∙ bitAt-clear-same ws first (omega (arith, long, ha, hb))
+      go (no d) = bit_at_clear_other (without_bit ws first) second first d ∙ bit_at_clear_same ws first (omega (arith, long, ha, hb))
 
-  cell-joined : T (joins records u v k) → cell (without_bit (without_bit ws first) second) u v ≡ 0
-  cell-joined t =
+  cell_joined : T (joins records u v k) → cell (without_bit (without_bit ws first) second) u v ≡ 0
+  cell_joined t =
       ⊎_elim
       (λ w. ap₂ (cell (without_bit (without_bit ws first) second)) (sym w.0) (sym w.1) ∙ at_first)
       (λ w. ap₂ (cell (without_bit (without_bit ws first) second)) (sym w.1) (sym w.0) ∙ at_second)
@@ -74,10 +74,10 @@ module _ (records : List ℕ) (k u v : ℕ) (ha : end_a records k < 512) (hb : e
       bit_at_clear_other (without_bit ws first) second (u * 512 + v) (λ e. n (joins_other records u v k (omega (arith, e, ha, hb, hu, hv)) (omega (arith, e, ha, hb, hu, hv))))
       ∙ bit_at_clear_other ws first (u * 512 + v) (λ e. n (joins_one records u v k (omega (arith, e, ha, hb, hu, hv)) (omega (arith, e, ha, hb, hu, hv))))
 
-  cell-most : cell (without_bit (without_bit ws first) second) u v ≤ cell ws u v
-  cell-most =
+  cell_most : cell (without_bit (without_bit ws first) second) u v ≤ cell ws u v
+  cell_most =
       ⊎_elim
-      (λ t. omega (arith, cell-joined t))
+      (λ t. omega (arith, cell_joined t))
       (λ n. omega (arith, cell_other (λ t. T_not (joins records u v k) n t)))
       (decide (joins records u v k))
 
@@ -89,8 +89,8 @@ pub dropped_one : (edges ws : List ℕ) (k : ℕ) → end_a edges k < 512 → en
     → Dropped edges (eqb k) ws (without_bit (without_bit ws (end_a edges k * 512 + end_b edges k)) (end_b edges k * 512 + end_a edges k))
 dropped_one edges ws k ha hb long = record {
   size = length_without_bit (without_bit ws (end_a edges k * 512 + end_b edges k)) (end_b edges k * 512 + end_a edges k) ∙ length_without_bit ws (end_a edges k * 512 + end_b edges k);
-  most = λ u v hu hv. cell-most edges k u v ha hb hu hv ws long;
-  out = λ u v i hu hv t j. cell-joined edges k u v ha hb hu hv ws long (subst (λ (x : ℕ). T (joins edges u v x)) (sym (eqb→eq k i t)) j);
+  most = λ u v hu hv. cell_most edges k u v ha hb hu hv ws long;
+  out = λ u v i hu hv t j. cell_joined edges k u v ha hb hu hv ws long (subst (λ (x : ℕ). T (joins edges u v x)) (sym (eqb→eq k i t)) j);
   kept = λ u v hu hv n. cell_other edges k u v ha hb hu hv ws long (n k (eqb_of k k refl));
 }
 
@@ -119,8 +119,8 @@ pub record Dropping (edges : List ℕ) (word base : ℕ) (before : List ℕ) (w 
   pub dropped : Dropped edges (λ k. in_word word base k && not (in_word w base k)) before after
 
 module _ (edges : List ℕ) (word base : ℕ) (before : List ℕ) where
-  pub dropping-start : word < 2 ^ 64 → Dropping edges word base before word before
-  dropping-start h = record {
+  pub dropping_start : word < 2 ^ 64 → Dropping edges word base before word before
+  dropping_start h = record {
     fits = h;
     sub = λ i. le_refl _;
     dropped =
@@ -128,14 +128,14 @@ module _ (edges : List ℕ) (word base : ℕ) (before : List ℕ) where
         T_not (in_word word base k) (and_right (in_word word base k) (not (in_word word base k)) t) (and_left (in_word word base k) (not (in_word word base k)) t));
   }
 
-  pub dropping-bit : {w : ℕ} {after : List ℕ} → Dropping edges word base before w after → (t : ℕ) → bit_of w t ≡ 1 → T (in_word word base (base + t))
-  dropping-bit d t e = word_in_at word base t (omega (arith, d.sub t, e, bit_of_lt word t))
+  pub dropping_bit : {w : ℕ} {after : List ℕ} → Dropping edges word base before w after → (t : ℕ) → bit_of w t ≡ 1 → T (in_word word base (base + t))
+  dropping_bit d t e = word_in_at word base t (omega (arith, d.sub t, e, bit_of_lt word t))
 
-  pub dropping-on : {w : ℕ} {after : List ℕ} (t : ℕ) → Lowest w t → end_a edges (base + t) < 512 → end_b edges (base + t) < 512 → length after ≡ table_words
+  pub dropping_on : {w : ℕ} {after : List ℕ} (t : ℕ) → Lowest w t → end_a edges (base + t) < 512 → end_b edges (base + t) < 512 → length after ≡ table_words
       → Dropping edges word base before w after
       → Dropping edges word base before (cleared w)
       (without_bit (without_bit after (end_a edges (base + t) * 512 + end_b edges (base + t))) (end_b edges (base + t) * 512 + end_a edges (base + t)))
-  dropping-on {w} {after} t low ha hb long d = record {
+  dropping_on {w} {after} t low ha hb long d = record {
     fits = cleared_lt w d.fits;
     sub = λ i. omega (arith, cleared_le w i, d.sub i);
     dropped =
@@ -153,7 +153,7 @@ module _ (edges : List ℕ) (word base : ℕ) (before : List ℕ) where
         (λ k x.
         let p : base + t ≡ k = eqb→eq (base + t) k x in
         subst (λ (i : ℕ). T (in_word word base i && not (in_word (cleared w) base i))) p
-        (and_make (in_word word base (base + t)) (not (in_word (cleared w) base (base + t))) (dropping-bit d t low.here)
+        (and_make (in_word word base (base + t)) (not (in_word (cleared w) base (base + t))) (dropping_bit d t low.here)
         (not_T (in_word (cleared w) base (base + t)) (λ z. none (in_word_lem (cleared w) base (base + t) z).1))));
   }
     where
@@ -165,7 +165,7 @@ module _ (edges : List ℕ) (word base : ℕ) (before : List ℕ) where
       none : bit_of (cleared w) (base + t - base) ≡ 1 → ⊥
       none z =
           let p : base + t - base ≡ t = omega arith in
-          omega (arith, z, ap (bit_of (cleared w)) p, cleared-same w t low)
+          omega (arith, z, ap (bit_of (cleared w)) p, cleared_same w t low)
 
       split : (k : ℕ) → T (in_word word base k) → T (not (in_word (cleared w) base k)) → Dec (k ≡ base + t)
           → T (in_word word base k && not (in_word w base k)) ⊎ T (eqb (base + t) k)
@@ -174,10 +174,10 @@ module _ (edges : List ℕ) (word base : ℕ) (before : List ℕ) where
           inl (and_make (in_word word base k) (not (in_word w base k)) y (not_T (in_word w base k) (λ z.
           let p = in_word_lem w base k z in
           T_not (in_word (cleared w) base k) n
-          (word_in (cleared w) base k p.0 (cleared-other w t low (k - base) (λ q. d (omega (arith, q, p.0))) ∙ p.1)))))
+          (word_in (cleared w) base k p.0 (cleared_other w t low (k - base) (λ q. d (omega (arith, q, p.0))) ∙ p.1)))))
 
-  pub dropping-end : {w : ℕ} {after : List ℕ} → w ≡ 0 → Dropping edges word base before w after → Dropped edges (in_word word base) before after
-  dropping-end {w} z d =
+  pub dropping_end : {w : ℕ} {after : List ℕ} → w ≡ 0 → Dropping edges word base before w after → Dropped edges (in_word word base) before after
+  dropping_end {w} z d =
       dropped_cong (λ k. in_word word base k && not (in_word w base k)) (in_word word base)
       (λ k t. and_left (in_word word base k) (not (in_word w base k)) t)
       (λ k t. and_make (in_word word base k) (not (in_word w base k)) t (not_T (in_word w base k) (λ y.
@@ -186,8 +186,8 @@ module _ (edges : List ℕ) (word base : ℕ) (before : List ℕ) where
 
 -- ---- the edges of the words of a set
 module _ (w j : ℕ) (f : ℕ → Bool) (h : w < 2 ^ 64) (t : WordOf w (λ i. f (64 * j + i))) where
-  pub word-passes : (k : ℕ) → T (in_word w (64 * j) k) → (64 * j ≤ k) × (k < 64 * (j + 1)) × T (f k)
-  word-passes k x = (p.0, omega (arith, low, p.0), one_true (f k) (sym p.1 ∙ t.bits (k - 64 * j) low ∙ ap (λ (i : ℕ). bit (f i)) at))
+  pub word_passes : (k : ℕ) → T (in_word w (64 * j) k) → (64 * j ≤ k) × (k < 64 * (j + 1)) × T (f k)
+  word_passes k x = (p.0, omega (arith, low, p.0), one_true (f k) (sym p.1 ∙ t.bits (k - 64 * j) low ∙ ap (λ (i : ℕ). bit (f i)) at))
     where
       p : (64 * j ≤ k) × (bit_of w (k - 64 * j) ≡ 1)
       p = in_word_lem w (64 * j) k x
@@ -198,24 +198,24 @@ module _ (w j : ℕ) (f : ℕ → Bool) (h : w < 2 ^ 64) (t : WordOf w (λ i. f 
       at : 64 * j + (k - 64 * j) ≡ k
       at = omega (arith, p.0)
 
-  pub passes-word : (k : ℕ) → 64 * j ≤ k → k < 64 * (j + 1) → T (f k) → T (in_word w (64 * j) k)
-  passes-word k l q y =
+  pub passes_word : (k : ℕ) → 64 * j ≤ k → k < 64 * (j + 1) → T (f k) → T (in_word w (64 * j) k)
+  passes_word k l q y =
       let at : 64 * j + (k - 64 * j) ≡ k = omega arith in
       word_in w (64 * j) k l (t.bits (k - 64 * j) (omega arith) ∙ ap (λ (i : ℕ). bit (f i)) at ∙ bit_true (f k) y)
 
   -- a table without the edges of the first j words, and without those of one more
-  pub dropped-word : {edges a b c : List ℕ} → Dropped edges (λ k. ltb k (64 * j) && f k) a b → Dropped edges (in_word w (64 * j)) b c
+  pub dropped_word : {edges a b c : List ℕ} → Dropped edges (λ k. ltb k (64 * j) && f k) a b → Dropped edges (in_word w (64 * j)) b c
       → Dropped edges (λ k. ltb k (64 * (j + 1)) && f k) a c
-  dropped-word d e =
+  dropped_word d e =
       dropped_then (λ k. ltb k (64 * j) && f k) (in_word w (64 * j)) (λ k. ltb k (64 * (j + 1)) && f k) d e
       (λ k x.
       let q = ltb→lt k (64 * (j + 1)) (and_left (ltb k (64 * (j + 1))) (f k) x) in
       let y = and_right (ltb k (64 * (j + 1))) (f k) x in
-      ⊎_elim (λ l. inl (and_make (ltb k (64 * j)) (f k) (lt→ltb k (64 * j) l) y)) (λ l. inr (passes-word k l q y)) (lt_or_le k (64 * j)))
+      ⊎_elim (λ l. inl (and_make (ltb k (64 * j)) (f k) (lt→ltb k (64 * j) l) y)) (λ l. inr (passes_word k l q y)) (lt_or_le k (64 * j)))
       (λ k x.
       and_make (ltb k (64 * (j + 1))) (f k)
       (lt→ltb k (64 * (j + 1)) (omega (arith, ltb→lt k (64 * j) (and_left (ltb k (64 * j)) (f k) x)))) (and_right (ltb k (64 * j)) (f k) x))
-      (λ k x. let p = word-passes k x in and_make (ltb k (64 * (j + 1))) (f k) (lt→ltb k (64 * (j + 1)) p.1) p.2)
+      (λ k x. let p = word_passes k x in and_make (ltb k (64 * (j + 1))) (f k) (lt→ltb k (64 * (j + 1)) p.1) p.2)
 
 pub dropped_start : (edges ws : List ℕ) (f : ℕ → Bool) → Dropped edges (λ k. ltb k (64 * 0) && f k) ws ws
 dropped_start edges ws f = dropped_none edges ws (λ k. ltb k (64 * 0) && f k) (λ k t. absurd (omega (arith, ltb→lt k (64 * 0) (and_left (ltb k (64 * 0)) (f k) t))))

@@ -1,16 +1,16 @@
 -- What is left of a site's edges is its network. The table of all edges is a symmetric relation along edges; dropping the edges whose ends are not in a
 -- smaller such relation leaves just that, so first the neighbour relation is left and then the similarity relation.
 --
---     Along, dropped-is            a symmetric relation that holds only along edges, and of a handset with itself; what dropping leaves of one
---     neighbour-table, similar_table    so the two tables are those of the neighbour relation and of the similarity relation
+--     Along, dropped_is            a symmetric relation that holds only along edges, and of a handset with itself; what dropping leaves of one
+--     neighbour_table, similar_table    so the two tables are those of the neighbour relation and of the similarity relation
 --     Read, header_is              the numbers of the header are those of the image
---     neighbour-size, neighbour-common       the counts of the neighbour table are those of the network; enough-is: and the test by them is the definition's
---     cores-set                    the cores by the sizes of the similarity table
+--     neighbour_size, neighbour_common       the counts of the neighbour table are those of the network; enough_is: and the test by them is the definition's
+--     cores_set                    the cores by the sizes of the similarity table
 --     near_count, near_counts      the near edges counted, and the near counts
---     told_yes, read_no, read-yes  what the reader answers, and what is answered and left of an image
---     handsets-at-most, edges_most      the image's numbers
---     edges-ready, near-ready, dissimilar-ready     its edges and those of the two sets have their records and ends
---     network-of-site, neighbours-kept, neighbours-drawn, neighbours-hold         the first step: the tables hold the network of the site
+--     told_yes, read_no, read_yes  what the reader answers, and what is answered and left of an image
+--     handsets_at_most, edges_most      the image's numbers
+--     edges_ready, near_ready, dissimilar_ready     its edges and those of the two sets have their records and ends
+--     network_of_site, neighbours_kept, neighbours_drawn, neighbours_hold         the first step: the tables hold the network of the site
 --     surveyed, found_in           the second step and the search, for any network that the tables hold
 --     site_no, site_yes, groups_are     the outcome of a call
 use Prim.Native.Nat.{ℕ, ◌+◌, ◌*◌, ◌-◌, ◌/◌, ◌%◌, ◌≤◌, ◌<◌, min}
@@ -37,20 +37,20 @@ use Rattle.image.specs.declared.Refusal.{Refusal}
 use Rattle.image.specs.declared.Opened.{Opened}
 use Rattle.image.specs.declared.Opened.TheVariants as O
 use Rattle.near.specs.Near.{is_near, neighbour}
-use Rattle.image.proofs.Acceptance.{Fits, accepted-fits, accepted, length-is, handsets-length, edges-length, ends-below}
+use Rattle.image.proofs.Acceptance.{Fits, accepted_fits, accepted, length_is, handsets_length, edges_length, ends_below}
 use Rattle.image.proofs.Answers.{given_refused, open_same}
 use Rattle.image.proofs.Edges.{joins_cases}
-use Rattle.image.proofs.Records.{edge_slice, handset_slice, edgeSlice-is, handsetSlice-is}
+use Rattle.image.proofs.Records.{edge_slice, handset_slice, edge_slice_is, handset_slice_is}
 use Rattle.image.proofs.Rows.{table_cong}
 use Rattle.near.proofs.Near.{adjacent_comm, neighbour_cases, edge_proximity_lem}
 use Rattle.community.specs.Network.{Network, neighbourhood_size, common_neighbours, meets_epsilon, similar, is_core}
 use Rattle.community.specs.Site.{network}
-use Rattle.community.proofs.Similarity.{similar-sym, similar-self}
+use Rattle.community.proofs.Similarity.{similar_sym, similar_self}
 use Rattle.community.proofs.Site.{neighbour_comm, neighbour_self, accepted_sound}
 use Rattle.search.specs.Communities.{both, similar_in, core_in}
 use Rattle.search.specs.ForProofs.{Surveyed}
 use Rattle.search.specs.Search.{SearchCall}
-use Rattle.search.proofs.Communities.{search-grouped}
+use Rattle.search.proofs.Communities.{search_grouped}
 use Rattle.graph.specs.Graph.{edge_words, EdgeSet, neighbour_in, ends_near, is_near_edge, near_edges, NearCounts, Groups, SiteFound}
 use Rattle.graph.specs.ForProofs.{HasEnds, passes_near, Dropped, enough, enough_at, OfSite, Drawn, Holds, FoundIn, Neighbours, NeighboursRead}
 use Rattle.graph.proofs.Words.{set_passes, passes_set}
@@ -67,8 +67,8 @@ pub record Along (s : List ℕ) (R : ℕ → ℕ → Bool) : Type 0 where
 
 module _ (s : List ℕ) (R : ℕ → ℕ → Bool) (along : Along s R) where
   -- R of the ends is R of what the edge joins
-  at-ends : (u v t : ℕ) → T (joins (edge_records s) u v t) → R (end_a (edge_records s) t) (end_b (edge_records s) t) ≡ R u v
-  at-ends u v t j =
+  at_ends : (u v t : ℕ) → T (joins (edge_records s) u v t) → R (end_a (edge_records s) t) (end_b (edge_records s) t) ≡ R u v
+  at_ends u v t j =
       ⊎_elim (λ w. ap₂ R w.0 w.1) (λ w. ap₂ R w.0 w.1 ∙ along.symmetric v u) (joins_cases (edge_records s) u v t j)
 
 -- what is left of P without the edges that pass `gone`, if these are just the edges of P whose ends are not in R
@@ -78,7 +78,7 @@ module _ (s : List ℕ) (P R : ℕ → ℕ → Bool) (p : Along s P) (r : Along 
     {ws after : List ℕ} (d : Dropped (edge_records s) gone ws after) where
   left_in : (u v : ℕ) (b : Bool) → u < 512 → v < 512 → cell ws u v ≡ bit (b && P u v) → T (R u v) → cell after u v ≡ bit (b && R u v)
   left_in u v b hu hv e y =
-      d.kept u v hu hv (λ k g j. T_not (R (end_a (edge_records s) k) (end_b (edge_records s) k)) (only k g).1 (subst (λ (x : Bool). T x) (sym (at-ends s R r u v k j)) y))
+      d.kept u v hu hv (λ k g j. T_not (R (end_a (edge_records s) k) (end_b (edge_records s) k)) (only k g).1 (subst (λ (x : Bool). T x) (sym (at_ends s R r u v k j)) y))
       ∙ e ∙ ap (λ (x : Bool). bit (b && x)) (T_true (P u v) (within-P u v y) ∙ sym (T_true (R u v) y))
 
   left_out : (u v : ℕ) → u < 512 → v < 512 → T (P u v) → T (not (R u v)) → cell after u v ≡ 0
@@ -89,45 +89,45 @@ module _ (s : List ℕ) (P R : ℕ → ℕ → Bool) (p : Along s P) (r : Along 
       (λ w.
       let i = any_take (edge_count s) (joins (edge_records s) u v) w in
       d.out u v i.0 hu hv
-      (each i.0 i.1 (subst (λ (x : Bool). T x) (sym (at-ends s P p u v i.0 i.2)) y) (subst (λ (x : Bool). T (not x)) (sym (at-ends s R r u v i.0 i.2)) n)) i.2)
+      (each i.0 i.1 (subst (λ (x : Bool). T x) (sym (at_ends s P p u v i.0 i.2)) y) (subst (λ (x : Bool). T (not x)) (sym (at_ends s R r u v i.0 i.2)) n)) i.2)
       (p.only u v y)
 
-  left-none : (u v : ℕ) (b : Bool) → u < 512 → v < 512 → cell ws u v ≡ bit (b && P u v) → T (not (P u v)) → cell after u v ≡ 0
-  left-none u v b hu hv e n =
+  left_none : (u v : ℕ) (b : Bool) → u < 512 → v < 512 → cell ws u v ≡ bit (b && P u v) → T (not (P u v)) → cell after u v ≡ 0
+  left_none u v b hu hv e n =
       omega (arith, d.most u v hu hv, e, bit_false (b && P u v) (not_T (b && P u v) (λ t. T_not (P u v) n (and_right b (P u v) t))))
 
   -- the table left
-  pub dropped-is : (b : ℕ → ℕ → Bool) → Table ws (λ u v. b u v && P u v) → Table after (λ u v. b u v && R u v)
-  dropped-is b t = record {
+  pub dropped_is : (b : ℕ → ℕ → Bool) → Table ws (λ u v. b u v && P u v) → Table after (λ u v. b u v && R u v)
+  dropped_is b t = record {
     bits = λ u v hu hv.
         let e = t.bits u v hu hv in
         ⊎_elim
         (λ y. left_in u v (b u v) hu hv e y)
         (λ n.
-        ⊎_elim (λ y. left_out u v hu hv y n) (λ m. left-none u v (b u v) hu hv e m) (decide (P u v))
+        ⊎_elim (λ y. left_out u v hu hv y n) (λ m. left_none u v (b u v) hu hv e m) (decide (P u v))
         ∙ sym (bit_false (b u v && R u v) (not_T (b u v && R u v) (λ x. T_not (R u v) n (and_right (b u v) (R u v) x)))))
         (decide (R u v));
   }
 
 module _ (s : List ℕ) (ok : Accepted s) where
-  neighbour-along : Along s (neighbour s)
-  neighbour-along = record { symmetric = neighbour_comm s; only = neighbour_cases s }
+  neighbour_along : Along s (neighbour s)
+  neighbour_along = record { symmetric = neighbour_comm s; only = neighbour_cases s }
 
   -- u is v, or they are the ends of an edge
-  abbrev selfOrAdjacent : ℕ → ℕ → Bool
-  selfOrAdjacent u v = eqb u v || adjacent s u v
+  abbrev self_or_adjacent : ℕ → ℕ → Bool
+  self_or_adjacent u v = eqb u v || adjacent s u v
 
-  self-or-adjacent-along : Along s selfOrAdjacent
-  self-or-adjacent-along = record {
+  self_or_adjacent_along : Along s self_or_adjacent
+  self_or_adjacent_along = record {
     symmetric = λ u v. ap₂ ◌||◌ (eqb_comm u v) (adjacent_comm s u v);
     only = λ u v t. ⊎_elim (λ x. inl (eqb→eq u v x)) (λ x. inr x) (or_cases (eqb u v) (adjacent s u v) t);
   }
 
   -- the table of all edges
-  related-is : (u v : ℕ) → related s u v ≡ (both (network s) u v && selfOrAdjacent u v)
+  related_is : (u v : ℕ) → related s u v ≡ (both (network s) u v && self_or_adjacent u v)
   unfolding related adjacent
-  related-is u v =
-      T-ext (related s u v) (both (network s) u v && selfOrAdjacent u v)
+  related_is u v =
+      T-ext (related s u v) (both (network s) u v && self_or_adjacent u v)
       (λ t.
       ⊎_elim
       (λ x.
@@ -136,7 +136,7 @@ module _ (s : List ℕ) (ok : Accepted s) where
       make u v h (omega (arith, h, e)) (or_left (eqb u v) (adjacent s u v) (and_right (ltb u (handset_count s)) (eqb u v) x)))
       (λ x.
       let i = any_take (edge_count s) (joins (edge_records s) u v) x in
-      let b = ends-below s ok i.0 i.1 in
+      let b = ends_below s ok i.0 i.1 in
       let h : (u < handset_count s) × (v < handset_count s) =
       ⊎_elim
       (λ w. (omega (arith, b.0, w.0), omega (arith, b.1, w.1)))
@@ -145,46 +145,46 @@ module _ (s : List ℕ) (ok : Accepted s) where
       make u v h.0 h.1 (or_right (eqb u v) (adjacent s u v) x))
       (or_cases (ltb u (handset_count s) && eqb u v) (any (edge_count s) (joins (edge_records s) u v)) t))
       (λ t.
-      let b = and_left (both (network s) u v) (selfOrAdjacent u v) t in
+      let b = and_left (both (network s) u v) (self_or_adjacent u v) t in
       ⊎_elim
       (λ x.
       or_left (ltb u (handset_count s) && eqb u v) (any (edge_count s) (joins (edge_records s) u v))
       (and_make (ltb u (handset_count s)) (eqb u v) (and_left (ltb u (handset_count s)) (ltb v (handset_count s)) b) x))
       (λ x. or_right (ltb u (handset_count s) && eqb u v) (any (edge_count s) (joins (edge_records s) u v)) x)
-      (or_cases (eqb u v) (adjacent s u v) (and_right (both (network s) u v) (selfOrAdjacent u v) t)))
+      (or_cases (eqb u v) (adjacent s u v) (and_right (both (network s) u v) (self_or_adjacent u v) t)))
     where
-      make : (u v : ℕ) → u < handset_count s → v < handset_count s → T (selfOrAdjacent u v) → T (both (network s) u v && selfOrAdjacent u v)
+      make : (u v : ℕ) → u < handset_count s → v < handset_count s → T (self_or_adjacent u v) → T (both (network s) u v && self_or_adjacent u v)
       make u v hu hv r =
-          and_make (both (network s) u v) (selfOrAdjacent u v)
+          and_make (both (network s) u v) (self_or_adjacent u v)
           (and_make (ltb u (handset_count s)) (ltb v (handset_count s)) (lt→ltb u (handset_count s) hu) (lt→ltb v (handset_count s) hv)) r
 
   -- the edge is far where it is one of the image's and its ends are not neighbours
-  abbrev pub farEdge : ℕ → Bool
-  farEdge k = ltb k (edge_count s) && not (ends_near s (network s) k)
+  abbrev pub far_edge : ℕ → Bool
+  far_edge k = ltb k (edge_count s) && not (ends_near s (network s) k)
 
   -- dropping these leaves the neighbour relation
-  pub neighbour-table : {ws after : List ℕ} → Table ws (related s) → Dropped (edge_records s) farEdge ws after → Table after (neighbour_in (network s))
+  pub neighbour_table : {ws after : List ℕ} → Table ws (related s) → Dropped (edge_records s) far_edge ws after → Table after (neighbour_in (network s))
   unfolding neighbour_in
-  neighbour-table t d =
-      dropped-is s selfOrAdjacent (neighbour s) self-or-adjacent-along neighbour-along
+  neighbour_table t d =
+      dropped_is s self_or_adjacent (neighbour s) self_or_adjacent_along neighbour_along
       (λ u v x. ⊎_elim (λ e. or_left (eqb u v) (adjacent s u v) (eqb_of u v e)) (λ w. or_right (eqb u v) (adjacent s u v) w) (neighbour_cases s u v x))
       (λ u x. neighbour_self s u)
-      farEdge
+      far_edge
       (λ k x. (ltb→lt k (edge_count s) (and_left (ltb k (edge_count s)) (not (ends_near s (network s) k)) x), and_right (ltb k (edge_count s)) (not (ends_near s (network s) k)) x))
       (λ k h x n. and_make (ltb k (edge_count s)) (not (ends_near s (network s) k)) (lt→ltb k (edge_count s) h) n)
-      d (both (network s)) (table_cong (related s) (λ u v. both (network s) u v && selfOrAdjacent u v) (λ u v hu hv. related-is u v) t)
+      d (both (network s)) (table_cong (related s) (λ u v. both (network s) u v && self_or_adjacent u v) (λ u v hu hv. related_is u v) t)
 
   -- the network of the whole site
-  pub network-of-site : OfSite s (network s)
-  network-of-site = record { same_n = refl; same_p = refl; same_q = refl; same_mu = refl; sound = accepted_sound s ok; along = neighbour_cases s }
+  pub network_of_site : OfSite s (network s)
+  network_of_site = record { same_n = refl; same_p = refl; same_q = refl; same_mu = refl; sound = accepted_sound s ok; along = neighbour_cases s }
 
 module _ (s : List ℕ) (g : Network) (o : OfSite s g) where
-  along-neighbour : Along s g.neighbour
-  along-neighbour = record { symmetric = o.sound.neighbour_sym; only = o.along }
+  along_neighbour : Along s g.neighbour
+  along_neighbour = record { symmetric = o.sound.neighbour_sym; only = o.along }
 
-  along-similar : Along s (similar g)
+  along_similar : Along s (similar g)
   unfolding similar
-  along-similar = record { symmetric = similar-sym o.sound; only = λ u v t. o.along u v (and_left (g.neighbour u v) (meets g u v) t) }
+  along_similar = record { symmetric = similar_sym o.sound; only = λ u v t. o.along u v (and_left (g.neighbour u v) (meets g u v) t) }
 
   -- dropping those of the neighbour table whose ends are not similar leaves the similarity relation
   pub similar_table : {ws after : List ℕ} (gone : ℕ → Bool)
@@ -193,9 +193,9 @@ module _ (s : List ℕ) (g : Network) (o : OfSite s g) where
       → Table ws (neighbour_in g) → Dropped (edge_records s) gone ws after → Table after (similar_in g)
   unfolding neighbour_in similar_in similar
   similar_table gone only each t d =
-      dropped-is s g.neighbour (similar g) along-neighbour along-similar
+      dropped_is s g.neighbour (similar g) along_neighbour along_similar
       (λ u v x. and_left (g.neighbour u v) (meets g u v) x)
-      (λ u x. similar-self o.sound u x)
+      (λ u x. similar_self o.sound u x)
       gone
       (λ k x.
       let a : ℕ = end_a (edge_records s) k in
@@ -227,8 +227,8 @@ header_is s h ok e = record {
   p_is = ap (λ (x : Header). x.p) e;
   q_is = ap (λ (x : Header). x.q) e;
   mu_is = ap (λ (x : Header). x.mu) e;
-  length_of = ap (λ (x : Header). x.len) e ∙ length-is s ok;
-  fits = subst Fits (sym e) (accepted-fits s ok);
+  length_of = ap (λ (x : Header). x.len) e ∙ length_is s ok;
+  fits = subst Fits (sym e) (accepted_fits s ok);
 }
 
 pub core_size_is : (s : List ℕ) (r m : ℕ) → r ≡ core_size m → m ≡ (header_of s).mu → r ≡ mu s
@@ -254,60 +254,60 @@ module _ (g : Network) (small : g.n ≤ 512) where
   both_yes u v b hu hv =
       ap (λ (x : Bool). x && b) (T_true (both g u v) (and_make (ltb u g.n) (ltb v g.n) (lt→ltb u g.n hu) (lt→ltb v g.n hv)))
 
-  both-no : (u v : ℕ) (b : Bool) → g.n ≤ v → T (not (both g u v && b))
-  both-no u v b h =
+  both_no : (u v : ℕ) (b : Bool) → g.n ≤ v → T (not (both g u v && b))
+  both_no u v b h =
       not_T (both g u v && b) (λ t. absurd (omega (arith, ltb→lt v g.n (and_right (ltb u g.n) (ltb v g.n) (and_left (both g u v) b t)))))
 
   row_in_lem : {ws : List ℕ} (R : ℕ → ℕ → Bool) (u : ℕ) → Table ws (λ x y. both g x y && R x y) → u < g.n → sum 512 (λ w. cell ws u w) ≡ count g.n (R u)
   row_in_lem R u t h =
       row_count (λ x y. both g x y && R x y) u t (omega arith)
-      ∙ count_in 512 g.n (λ v. both g u v && R u v) small (λ v l. both-no u v (R u v) l)
+      ∙ count_in 512 g.n (λ v. both g u v && R u v) small (λ v l. both_no u v (R u v) l)
       ∙ count_cong g.n (λ v. both g u v && R u v) (R u) (λ v l. both_yes u v (R u v) h l)
 
-  pub neighbour-size : {ws : List ℕ} (u : ℕ) → Table ws (neighbour_in g) → u < g.n → sum 512 (λ w. cell ws u w) ≡ neighbourhood_size g u
+  pub neighbour_size : {ws : List ℕ} (u : ℕ) → Table ws (neighbour_in g) → u < g.n → sum 512 (λ w. cell ws u w) ≡ neighbourhood_size g u
   unfolding neighbour_in neighbourhood_size
-  neighbour-size u t h = row_in_lem g.neighbour u t h
+  neighbour_size u t h = row_in_lem g.neighbour u t h
 
-  pub similar-size : {ws : List ℕ} (u : ℕ) → Table ws (similar_in g) → u < g.n → sum 512 (λ w. cell ws u w) ≡ count g.n (similar g u)
+  pub similar_size : {ws : List ℕ} (u : ℕ) → Table ws (similar_in g) → u < g.n → sum 512 (λ w. cell ws u w) ≡ count g.n (similar g u)
   unfolding similar_in
-  similar-size u t h = row_in_lem (similar g) u t h
+  similar_size u t h = row_in_lem (similar g) u t h
 
   neighbour_is : (u v : ℕ) → u < g.n → v < g.n → neighbour_in g u v ≡ g.neighbour u v
   unfolding neighbour_in
   neighbour_is u v hu hv = both_yes u v (g.neighbour u v) hu hv
 
-  neighbour-past : (u v : ℕ) → g.n ≤ v → T (not (neighbour_in g u v))
+  neighbour_past : (u v : ℕ) → g.n ≤ v → T (not (neighbour_in g u v))
   unfolding neighbour_in
-  neighbour-past u v h = both-no u v (g.neighbour u v) h
+  neighbour_past u v h = both_no u v (g.neighbour u v) h
 
-  pub neighbour-common : {ws : List ℕ} (u v : ℕ) → Table ws (neighbour_in g) → u < g.n → v < g.n
+  pub neighbour_common : {ws : List ℕ} (u v : ℕ) → Table ws (neighbour_in g) → u < g.n → v < g.n
       → sum 512 (λ w. min (cell ws u w) (cell ws v w)) ≡ common_neighbours g u v
   unfolding common_neighbours
-  neighbour-common {ws} u v t hu hv =
+  neighbour_common {ws} u v t hu hv =
       sum_cong 512 (λ w. min (cell ws u w) (cell ws v w)) (λ w. bit (neighbour_in g u w && neighbour_in g v w))
       (λ w l. ap₂ min (t.bits u w (omega arith) l) (t.bits v w (omega arith) l) ∙ min_bit (neighbour_in g u w) (neighbour_in g v w))
       ∙ sym (count_sum 512 (λ w. neighbour_in g u w && neighbour_in g v w))
       ∙ count_in 512 g.n (λ w. neighbour_in g u w && neighbour_in g v w) small
-      (λ w l. not_T (neighbour_in g u w && neighbour_in g v w) (λ x. T_not (neighbour_in g u w) (neighbour-past u w l) (and_left (neighbour_in g u w) (neighbour_in g v w) x)))
+      (λ w l. not_T (neighbour_in g u w && neighbour_in g v w) (λ x. T_not (neighbour_in g u w) (neighbour_past u w l) (and_left (neighbour_in g u w) (neighbour_in g v w) x)))
       ∙ count_cong g.n (λ w. neighbour_in g u w && neighbour_in g v w) (λ w. g.neighbour u w && g.neighbour v w)
       (λ w l. ap₂ ◌&&◌ (neighbour_is u w hu l) (neighbour_is v w hv l))
 
   -- the test of two handsets by the table and its sizes
-  pub enough-is : {ws sizes : List ℕ} (u v p q : ℕ) → Table ws (neighbour_in g) → Counted ws sizes → u < g.n → v < g.n → p ≡ g.p → q ≡ g.q
+  pub enough_is : {ws sizes : List ℕ} (u v p q : ℕ) → Table ws (neighbour_in g) → Counted ws sizes → u < g.n → v < g.n → p ≡ g.p → q ≡ g.q
       → enough ws sizes p q u v ≡ meets g u v
   unfolding meets_epsilon
-  enough-is {ws} {sizes} u v p q t c hu hv ep eq =
-      rw (c.rows u (omega arith) ∙ neighbour-size u t hu, c.rows v (omega arith) ∙ neighbour-size v t hv, ep, eq, neighbour-common u v t hu hv) refl
+  enough_is {ws} {sizes} u v p q t c hu hv ep eq =
+      rw (c.rows u (omega arith) ∙ neighbour_size u t hu, c.rows v (omega arith) ∙ neighbour_size v t hv, ep, eq, neighbour_common u v t hu hv) refl
 
   -- the cores, by the sizes of the similarity table
-  pub cores-set : {ws similar-rows sizes : List ℕ} (n m : ℕ) → n ≡ g.n → m ≡ g.mu → Table similar-rows (similar_in g) → Counted similar-rows sizes
+  pub cores_set : {ws similar-rows sizes : List ℕ} (n m : ℕ) → n ≡ g.n → m ≡ g.mu → Table similar-rows (similar_in g) → Counted similar-rows sizes
       → SetOf ws (λ u. ltb u n && leb m (get_or sizes u 0)) → SetOf ws (core_in g)
   unfolding core_in is_core
-  cores-set {ws} {similar-rows} {sizes} n m en em t counted c = record {
+  cores_set {ws} {similar-rows} {sizes} n m en em t counted c = record {
     size = c.size;
     bits = λ u h. c.bits u h ∙ ap₂ (λ (x y : ℕ). bit (ltb u x && leb y (get_or sizes u 0))) en em ∙ ap bit (
         ⊎_elim
-        (λ y. ap (λ (x : ℕ). ltb u g.n && leb g.mu x) (counted.rows u h ∙ similar-size u t (ltb→lt u g.n y)))
+        (λ y. ap (λ (x : ℕ). ltb u g.n && leb g.mu x) (counted.rows u h ∙ similar_size u t (ltb→lt u g.n y)))
         (λ n. ap (λ (b : Bool). b && leb g.mu (get_or sizes u 0)) (T_false (ltb u g.n) n)
         ∙ sym (ap (λ (b : Bool). b && leb g.mu (count g.n (similar g u))) (T_false (ltb u g.n) n)))
         (decide (ltb u g.n)));
@@ -332,7 +332,7 @@ pub near_counts : {g : Network} {ws sizes : List ℕ} → g.n ≤ 512 → length
 unfolding neighbour_in
 near_counts {g} {ws} small long t c = record {
   size = long;
-  each = λ u h. c.rows u (omega (arith, h, small)) ∙ neighbour-size g small u t h;
+  each = λ u h. c.rows u (omega (arith, h, small)) ∙ neighbour_size g small u t h;
   past = λ u h l.
       c.rows u l ∙ row_count (neighbour_in g) u t l
       ∙ count_nothing 512 (neighbour_in g u) (λ v. not_T (both g u v && g.neighbour u v) (λ x.
@@ -341,24 +341,24 @@ near_counts {g} {ws} small long t c = record {
 
 -- ---- what is told and left of an image
 module _ {s : List ℕ} {a : Opened} {rows sizes : List ℕ} (r : Reading s a rows sizes) where
-  opened-is : a ≡ open_of s
-  opened-is = open_same a (open_of s) r.answered
+  opened_is : a ≡ open_of s
+  opened_is = open_same a (open_of s) r.answered
 
   pub told_yes : (h : Header) → a ≡ O.Site h → Accepted s × (h ≡ header_of s)
-  told_yes h e = accepted s h (sym opened-is ∙ e)
+  told_yes h e = accepted s h (sym opened_is ∙ e)
 
   pub read_no : {near : List ℕ} → near ≡ zeros edge_words → (x : Refusal) → a ≡ O.Refused x → NeighboursRead s a near rows sizes
   read_no z x e = record {
-    answered = opened-is;
+    answered = opened_is;
     room = r.room;
     neighbours = λ h d. given_refused _ _ x (ap open_answer (sym d ∙ e));
     cleared = λ y d. (z, r.cleared y d);
   }
 
-  pub read-yes : {near ws sizes' : List ℕ} (h : Header) → a ≡ O.Site h → Room ws sizes' → Neighbours s near ws sizes'
+  pub read_yes : {near ws sizes' : List ℕ} (h : Header) → a ≡ O.Site h → Room ws sizes' → Neighbours s near ws sizes'
       → NeighboursRead s (O.Site h) near ws sizes'
-  read-yes h e room k = record {
-    answered = sym e ∙ opened-is;
+  read_yes h e room k = record {
+    answered = sym e ∙ opened_is;
     room = room;
     neighbours = λ g d. k;
     cleared = λ y d. given_refused _ _ y (ap open_answer d);
@@ -369,33 +369,33 @@ module _ (s : List ℕ) (h : Header) (ok : Accepted s) (e : h ≡ header_of s) w
   read : Read s h
   read = header_is s h ok e
 
-  pub handsets-at-most : handset_count s ≤ 512
-  handsets-at-most = omega (arith, read.n_is, read.fits.n_limit)
+  pub handsets_at_most : handset_count s ≤ 512
+  handsets_at_most = omega (arith, read.n_is, read.fits.n_limit)
 
   pub edges_most : edge_count s ≤ edges_most
   edges_most = omega (arith, read.m_is, read.fits.m_limit)
 
   -- an edge of the image
-  pub edges-ready : (n k : ℕ) → handset_count s ≤ n → k < h.m → HasEnds (edge_slice s h) n k
-  edges-ready n k l q =
-      let b = ends-below s ok k (omega (arith, q, read.m_is)) in
-      let a : end_a (edge_slice s h) k ≡ end_a (edge_records s) k = ap (λ (records : List ℕ). end_a records k) (edgeSlice-is s h e) in
-      let a' : end_b (edge_slice s h) k ≡ end_b (edge_records s) k = ap (λ (records : List ℕ). end_b records k) (edgeSlice-is s h e) in (
+  pub edges_ready : (n k : ℕ) → handset_count s ≤ n → k < h.m → HasEnds (edge_slice s h) n k
+  edges_ready n k l q =
+      let b = ends_below s ok k (omega (arith, q, read.m_is)) in
+      let a : end_a (edge_slice s h) k ≡ end_a (edge_records s) k = ap (λ (records : List ℕ). end_a records k) (edge_slice_is s h e) in
+      let a' : end_b (edge_slice s h) k ≡ end_b (edge_records s) k = ap (λ (records : List ℕ). end_b records k) (edge_slice_is s h e) in (
         omega (arith, q, read.fits.m_limit),
-        omega (arith, q, ap length (edgeSlice-is s h e), edges-length s ok.header, read.m_is),
+        omega (arith, q, ap length (edge_slice_is s h e), edges_length s ok.header, read.m_is),
         omega (arith, b.0, a, l),
         omega (arith, b.1, a', l),
       )
 
   -- all handsets have their records in the slice
-  pub handsetSlice-length : length (handset_slice s h) ≡ handset_bytes * handset_count s
-  handsetSlice-length = ap length (handsetSlice-is s h e) ∙ handsets-length s ok.header
+  pub handset_slice_length : length (handset_slice s h) ≡ handset_bytes * handset_count s
+  handset_slice_length = ap length (handset_slice_is s h e) ∙ handsets_length s ok.header
 
   -- the near test of an edge by the records
-  edge-is-near : (k : ℕ) → k < edge_count s → passes_near (handset_slice s h) (edge_slice s h) h.limit k ≡ ends_near s (network s) k
+  edge_is_near : (k : ℕ) → k < edge_count s → passes_near (handset_slice s h) (edge_slice s h) h.limit k ≡ ends_near s (network s) k
   unfolding neighbour
-  edge-is-near k l =
-      ap₂ (λ (hs es : List ℕ). passes_near hs es h.limit k) (handsetSlice-is s h e) (edgeSlice-is s h e)
+  edge_is_near k l =
+      ap₂ (λ (hs es : List ℕ). passes_near hs es h.limit k) (handset_slice_is s h e) (edge_slice_is s h e)
       ∙ ap (λ (x : ℕ). passes_near (handset_records s) (edge_records s) x k) read.limit_is ∙ ap is_near (sym (edge_proximity_lem s ok k l))
 
   passed_is : (f : Bool → Bool) (k : ℕ)
@@ -403,28 +403,28 @@ module _ (s : List ℕ) (h : Header) (ok : Accepted s) (e : h ≡ header_of s) w
   passed_is f k =
       ap (λ (m : ℕ). ltb k m && f (passes_near (handset_slice s h) (edge_slice s h) h.limit k)) read.m_is
       ∙ ⊎_elim
-      (λ y. ap (λ (b : Bool). ltb k (edge_count s) && f b) (edge-is-near k (ltb→lt k (edge_count s) y)))
+      (λ y. ap (λ (b : Bool). ltb k (edge_count s) && f b) (edge_is_near k (ltb→lt k (edge_count s) y)))
       (λ n. rw (T_false (ltb k (edge_count s)) n))
       (decide (ltb k (edge_count s)))
 
-  pub neighbours-kept : {near ws after sizes : List ℕ} → Table ws (related s)
+  pub neighbours_kept : {near ws after sizes : List ℕ} → Table ws (related s)
       → EdgeSet near (λ k. ltb k h.m && passes_near (handset_slice s h) (edge_slice s h) h.limit k)
       → Dropped (edge_slice s h) (λ k. ltb k h.m && not (passes_near (handset_slice s h) (edge_slice s h) h.limit k)) ws after
       → Counted after sizes → Neighbours s near after sizes
-  neighbours-kept {near} {ws} {after} t set d c = record {
+  neighbours_kept {near} {ws} {after} t set d c = record {
     near_set = record { size = set.size; bits = λ k l. set.bits k l ∙ ap bit (passed_is (λ b. b) k) };
     table =
-        neighbour-table s ok t
-        (dropped_cong (λ k. ltb k h.m && not (passes_near (handset_slice s h) (edge_slice s h) h.limit k)) (farEdge s ok)
+        neighbour_table s ok t
+        (dropped_cong (λ k. ltb k h.m && not (passes_near (handset_slice s h) (edge_slice s h) h.limit k)) (far_edge s ok)
         (λ k x. subst (λ (b : Bool). T b) (passed_is not k) x)
         (λ k x. subst (λ (b : Bool). T b) (sym (passed_is not k)) x)
-        (subst (λ (records : List ℕ). Dropped records (λ k. ltb k h.m && not (passes_near (handset_slice s h) (edge_slice s h) h.limit k)) ws after) (edgeSlice-is s h e) d));
+        (subst (λ (records : List ℕ). Dropped records (λ k. ltb k h.m && not (passes_near (handset_slice s h) (edge_slice s h) h.limit k)) ws after) (edge_slice_is s h e) d));
     counted = c;
   }
 
   -- the site's edges and table
-  pub neighbours-drawn : {near ws sizes : List ℕ} → Neighbours s near ws sizes → Drawn s h near ws sizes
-  neighbours-drawn k = record {
+  pub neighbours_drawn : {near ws sizes : List ℕ} → Neighbours s near ws sizes → Drawn s h near ws sizes
+  neighbours_drawn k = record {
     accepted = ok;
     header = e;
     near_size = k.near_set.size;
@@ -432,38 +432,38 @@ module _ (s : List ℕ) (h : Header) (ok : Accepted s) (e : h ≡ header_of s) w
     counted = k.counted;
   }
 
-  pub neighbours-hold : {near ws sizes : List ℕ} → Neighbours s near ws sizes → Holds s (network s) near ws
-  neighbours-hold k = record { of_site = network-of-site s ok; near_set = k.near_set; table = k.table }
+  pub neighbours_hold : {near ws sizes : List ℕ} → Neighbours s near ws sizes → Holds s (network s) near ws
+  neighbours_hold k = record { of_site = network_of_site s ok; near_set = k.near_set; table = k.table }
 
   module _ {near ws sizes : List ℕ} (kept : Drawn s h near ws sizes) where
-    pub near-ready : (k : ℕ) → bit_at near k ≡ 1 → (k < h.m) × HasEnds (edge_slice s h) 512 k
-    near-ready k x =
+    pub near_ready : (k : ℕ) → bit_at near k ≡ 1 → (k < h.m) × HasEnds (edge_slice s h) 512 k
+    near_ready k x =
         let l : k < h.m = omega (arith, kept.near_below k x, read.m_is) in
-        (l, edges-ready 512 k handsets-at-most l)
+        (l, edges_ready 512 k handsets_at_most l)
 
     module _ {dissimilar : List ℕ} (made : EdgeSet dissimilar (λ k. eqb (bit_at near k) 1 && not (enough_at ws sizes h.p h.q (edge_slice s h) k))) where
       -- an edge of the new set is one of the old, and its ends do not have enough in common
-      dissimilar-in : (k : ℕ) → bit_at dissimilar k ≡ 1 → (bit_at near k ≡ 1) × T (not (enough_at ws sizes h.p h.q (edge_slice s h) k))
-      dissimilar-in k x =
+      dissimilar_in : (k : ℕ) → bit_at dissimilar k ≡ 1 → (bit_at near k ≡ 1) × T (not (enough_at ws sizes h.p h.q (edge_slice s h) k))
+      dissimilar_in k x =
           let y = (set_passes made k x).1 in
           let t : Bool = not (enough_at ws sizes h.p h.q (edge_slice s h) k) in
           (eqb→eq (bit_at near k) 1 (and_left (eqb (bit_at near k) 1) t y), and_right (eqb (bit_at near k) 1) t y)
 
-      pub dissimilar-ready : (k : ℕ) → bit_at dissimilar k ≡ 1 → (k < h.m) × HasEnds (edge_slice s h) 512 k
-      dissimilar-ready k x = near-ready k (dissimilar-in k x).0
+      pub dissimilar_ready : (k : ℕ) → bit_at dissimilar k ≡ 1 → (k < h.m) × HasEnds (edge_slice s h) 512 k
+      dissimilar_ready k x = near_ready k (dissimilar_in k x).0
 
       module _ (g : Network) (holds : Holds s g near ws) where
         of_site : OfSite s g
         of_site = holds.of_site
 
-        handsets-most : g.n ≤ 512
-        handsets-most = omega (arith, of_site.same_n, handsets-at-most)
+        handsets_most_lem : g.n ≤ 512
+        handsets_most_lem = omega (arith, of_site.same_n, handsets_at_most)
 
-        test-is : (k : ℕ) → k < edge_count s → enough_at ws sizes h.p h.q (edge_slice s h) k ≡ meets g (end_a (edge_records s) k) (end_b (edge_records s) k)
-        test-is k l =
-            let b = ends-below s ok k l in
-            ap (λ (records : List ℕ). enough ws sizes h.p h.q (end_a records k) (end_b records k)) (edgeSlice-is s h e)
-            ∙ enough-is g handsets-most (end_a (edge_records s) k) (end_b (edge_records s) k) h.p h.q holds.table kept.counted
+        test_is : (k : ℕ) → k < edge_count s → enough_at ws sizes h.p h.q (edge_slice s h) k ≡ meets g (end_a (edge_records s) k) (end_b (edge_records s) k)
+        test_is k l =
+            let b = ends_below s ok k l in
+            ap (λ (records : List ℕ). enough ws sizes h.p h.q (end_a records k) (end_b records k)) (edge_slice_is s h e)
+            ∙ enough_is g handsets_most_lem (end_a (edge_records s) k) (end_b (edge_records s) k) h.p h.q holds.table kept.counted
             (omega (arith, b.0, of_site.same_n)) (omega (arith, b.1, of_site.same_n)) (read.p_is ∙ sym of_site.same_p) (read.q_is ∙ sym of_site.same_q)
 
         pub surveyed : {after sizes' cores : List ℕ} {least : ℕ} → Dropped (edge_slice s h) (λ k. eqb (bit_at dissimilar k) 1) ws after → Counted after sizes'
@@ -473,23 +473,23 @@ module _ (s : List ℕ) (h : Header) (ok : Accepted s) (e : h ≡ header_of s) w
             let t : Table after (similar_in g) =
             similar_table s g of_site (λ k. eqb (bit_at dissimilar k) 1)
             (λ k x.
-            let y = dissimilar-in k (eqb→eq (bit_at dissimilar k) 1 x) in
+            let y = dissimilar_in k (eqb→eq (bit_at dissimilar k) 1 x) in
             let l = kept.near_below k y.0 in
-            (l, subst (λ (b : Bool). T (not b)) (test-is k l) y.1))
+            (l, subst (λ (b : Bool). T (not b)) (test_is k l) y.1))
             (λ k l w n.
             let small-edge : k < edges_most = omega (arith, l, edges_most) in
             passes_set made k small-edge
             (and_make (eqb (bit_at near k) 1) (not (enough_at ws sizes h.p h.q (edge_slice s h) k))
             (passes_set holds.near_set k small-edge (and_make (ltb k (edge_count s)) (ends_near s g k) (lt→ltb k (edge_count s) l) w))
-            (subst (λ (b : Bool). T (not b)) (sym (test-is k l)) n)))
+            (subst (λ (b : Bool). T (not b)) (sym (test_is k l)) n)))
             holds.table
-            (subst (λ (records : List ℕ). Dropped records (λ k. eqb (bit_at dissimilar k) 1) ws after) (edgeSlice-is s h e) d) in
+            (subst (λ (records : List ℕ). Dropped records (λ k. eqb (bit_at dissimilar k) 1) ws after) (edge_slice_is s h e) d) in
             record {
               sound = of_site.sound;
-              most = handsets-most;
+              most = handsets_most_lem;
               similar_table = t;
               core_set =
-                  cores-set g handsets-most h.n least (read.n_is ∙ sym of_site.same_n)
+                  cores_set g handsets_most_lem h.n least (read.n_is ∙ sym of_site.same_n)
                   (core_size_is s least h.mu mu-read read.mu_is ∙ sym of_site.same_mu) t counted set;
             }
 
@@ -499,7 +499,7 @@ pub found_in : {g : Network} {after cores rows : List ℕ} {r : ℕ} → Surveye
 unfolding bit_at
 found_in {g} {after} {cores} {rows} {r} y long call = record {
   core_set = y.core_set;
-  grouped = search-grouped y long call;
+  grouped = search_grouped y long call;
   rest = λ j v h l q.
       ap (λ (w : ℕ). bit_of w ((j * 512 + v) % 64)) ((call.searched (long, y.core_set.size)).kept ((j * 512 + v) / 64) (omega arith))
       ∙ y.similar_table.bits j v l q;
@@ -525,7 +525,7 @@ pub groups_are : {s : List ℕ} {g : Network} {groups tests : ℕ} {near ws tabl
     → FoundIn g groups table cores → tests ≡ near_edges s g → Groups s g groups tests near table sizes cores
 groups_are {s} ok long k f t = record {
   near_set = k.near_set;
-  counts = near_counts (handsets-at-most s (header_of s) ok refl) long k.table k.counted;
+  counts = near_counts (handsets_at_most s (header_of s) ok refl) long k.table k.counted;
   core_set = f.core_set;
   grouped = f.grouped;
   rest = f.rest;

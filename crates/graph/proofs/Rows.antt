@@ -1,6 +1,6 @@
 -- Tables of rows of bits, and the sizes of the rows. A bit less in a row is one less in its size, and changes no other row.
 --
---     row_bit, counted-out          a row's size is at least any of its bits, and the sizes without it
+--     row_bit, counted_out          a row's size is at least any of its bits, and the sizes without it
 use Prim.Native.Nat.{ℕ, ◌+◌, ◌*◌, ◌-◌, ◌≤◌, ◌<◌}
 use native.Mathlib.Omega.{arith}
 use native.Mathlib.Decide.{ℕ_discrete}
@@ -12,7 +12,7 @@ use Rattle.sets.specs.Below.{sum}
 use Rattle.sets.specs.Bits.{cell, without_bit}
 use Rattle.sets.specs.Rows.{Counted}
 use Rattle.sets.proofs.Counting.{sum_cong}
-use Rattle.sets.proofs.Bits.{bit_at_lt, bitAt-clear-same, bit_at_clear_other, sum_drop}
+use Rattle.sets.proofs.Bits.{bit_at_lt, bit_at_clear_same, bit_at_clear_other, sum_drop}
 use Rattle.image.specs.Rows.{Room}
 
 -- one row changes, and its size with it
@@ -33,20 +33,20 @@ module _ (ws sizes : List ℕ) (u v : ℕ) (hu : u < 512) (hv : v < 512) (room :
   apart_in w d e = d (omega arith)
 
   -- the bit in another row
-  apart-row : (a b : ℕ) → (a ≡ u → ⊥) → b < 512 → a * 512 + b ≡ u * 512 + v → ⊥
-  apart-row a b d l e = d (omega arith)
+  apart_row : (a b : ℕ) → (a ≡ u → ⊥) → b < 512 → a * 512 + b ≡ u * 512 + v → ⊥
+  apart_row a b d l e = d (omega arith)
 
-  row-taken : cell ws u v ≡ 1 → sum 512 (λ w. cell (without_bit ws (u * 512 + v)) u w) + 1 ≡ sum 512 (λ w. cell ws u w)
-  row-taken o =
+  row_taken : cell ws u v ≡ 1 → sum 512 (λ w. cell (without_bit ws (u * 512 + v)) u w) + 1 ≡ sum 512 (λ w. cell ws u w)
+  row_taken o =
       sum_drop (λ w. cell ws u w) (λ w. cell (without_bit ws (u * 512 + v)) u w) v 512 hv
-      o (bitAt-clear-same ws (u * 512 + v) (omega (arith, hu, hv, room.0))) (λ w d. bit_at_clear_other ws (u * 512 + v) (u * 512 + w) (apart_in w d))
+      o (bit_at_clear_same ws (u * 512 + v) (omega (arith, hu, hv, room.0))) (λ w d. bit_at_clear_other ws (u * 512 + v) (u * 512 + w) (apart_in w d))
 
-  row-left : (w : ℕ) → cell ws u v ≡ 0 → cell (without_bit ws (u * 512 + v)) u w ≡ cell ws u w
-  row-left w z = go (ℕ_discrete w v)
+  row_left : (w : ℕ) → cell ws u v ≡ 0 → cell (without_bit ws (u * 512 + v)) u w ≡ cell ws u w
+  row_left w z = go (ℕ_discrete w v)
     where
       go : Dec (w ≡ v) → cell (without_bit ws (u * 512 + v)) u w ≡ cell ws u w
       go (yes e) =
-          ap (λ (k : ℕ). cell (without_bit ws (u * 512 + v)) u k) e ∙ bitAt-clear-same ws (u * 512 + v) (omega (arith, hu, hv, room.0))
+          ap (λ (k : ℕ). cell (without_bit ws (u * 512 + v)) u k) e ∙ bit_at_clear_same ws (u * 512 + v) (omega (arith, hu, hv, room.0))
           ∙ sym (ap (λ (k : ℕ). cell ws u k) e ∙ z)
       go (no d) = bit_at_clear_other ws (u * 512 + v) (u * 512 + w) (apart_in w d)
 
@@ -54,16 +54,16 @@ module _ (ws sizes : List ℕ) (u v : ℕ) (hu : u < 512) (hv : v < 512) (room :
   row_out = c.rows u hu ∙ go (ℕ_discrete (cell ws u v) 1)
     where
       go : Dec (cell ws u v ≡ 1) → sum 512 (λ w. cell ws u w) ≡ sum 512 (λ w. cell (without_bit ws (u * 512 + v)) u w) + cell ws u v
-      go (yes o) = omega (arith, row-taken o)
+      go (yes o) = omega (arith, row_taken o)
       go (no d) =
           let z : cell ws u v ≡ 0 = omega (arith, bit_at_lt ws (u * 512 + v)) in
-          omega (arith, z, sum_cong 512 (λ w. cell (without_bit ws (u * 512 + v)) u w) (λ w. cell ws u w) (λ w q. row-left w z))
+          omega (arith, z, sum_cong 512 (λ w. cell (without_bit ws (u * 512 + v)) u w) (λ w. cell ws u w) (λ w q. row_left w z))
 
   pub row_bit : cell ws u v ≤ get_or sizes u 0
   row_bit = omega (arith, row_out)
 
-  pub counted-out : Counted (without_bit ws (u * 512 + v)) (set sizes u (get_or sizes u 0 - cell ws u v))
-  counted-out =
+  pub counted_out : Counted (without_bit ws (u * 512 + v)) (set sizes u (get_or sizes u 0 - cell ws u v))
+  counted_out =
       change ws (without_bit ws (u * 512 + v)) sizes u (get_or sizes u 0 - cell ws u v) (omega (arith, hu, room.1)) c
-      (λ a b d l. bit_at_clear_other ws (u * 512 + v) (a * 512 + b) (apart-row a b d l))
+      (λ a b d l. bit_at_clear_other ws (u * 512 + v) (a * 512 + b) (apart_row a b d l))
       (omega (arith, row_out))

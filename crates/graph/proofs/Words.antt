@@ -2,14 +2,14 @@
 -- pass a test becomes that of one more, and a set of words that with one more word.
 --
 --     all_below                    the numbers below k that pass a test, once all of them are below b
---     word_none, word-put          an empty word, and a word with one bit more, as the code makes it; word_cong: equal tests have equal words
---     below, below-lt, -first, -rest       a word with one bit more below its own, as the code makes it
+--     word_none, word_put          an empty word, and a word with one bit more, as the code makes it; word_cong: equal tests have equal words
+--     below, below_lt, -first, -rest       a word with one bit more below its own, as the code makes it
 --     bit_of_past, first_word       a word has no bit from 64 on; the word whose first c bits are set, as the code makes it
 --     others_word                  of the numbers that a word holds, those that another does not
 --     word_at, put_word            a word of a list, and the list with one word put
 --     lt_or_le, one_true, bit_of_lem   of two numbers; a bit and the test for it
---     Filtering, filtering-start, filtering-on, filtering-end     the bits of a word that pass a test, gone through one after the other
---     partly, partly-start, partly-on, partly-end                 a set whose words are filtered one after the other
+--     Filtering, filtering_start, filtering_on, filtering_end     the bits of a word that pass a test, gone through one after the other
+--     partly, partly_start, partly_on, partly_end                 a set whose words are filtered one after the other
 --     filled_none, filled_more, filled_end                        a set whose words are filled one after the other
 --     set_passes, passes_set       the edges of a set
 use Prim.Native.Nat.{ℕ, zero, suc, ◌+◌, ◌*◌, ◌-◌, ◌/◌, ◌%◌, ◌^◌, ◌≤◌, ◌<◌}
@@ -31,7 +31,7 @@ use Rattle.sets.specs.Bits.{bit_of, bit_at}
 use Rattle.sets.proofs.Tests.{passed_none, and_make, and_left, and_right, or_right, or_cases, decide, T-ext, T_true, T_false, eqb_of}
 use Rattle.sets.proofs.Counting.{bit_true, bit_false}
 use Rattle.sets.proofs.Bits.{bit_of_lt, bit_of_none, bit_of_or, bit_of_first, bit_of_half, bit_of_set_same, bit_of_set_other, bit_of_xor, bit_at_lt, bit_at_past, bit_at_zeros, shl_one, word_bit, zeros}
-use Rattle.sets.proofs.Lowest.{Lowest, cleared, cleared_lt, cleared_le, cleared-same, cleared-other}
+use Rattle.sets.proofs.Lowest.{Lowest, cleared, cleared_lt, cleared_le, cleared_same, cleared_other}
 use Rattle.limits.specs.Limits.{edges_most}
 use Rattle.graph.specs.Graph.{edge_words, EdgeSet}
 use Rattle.graph.specs.ForProofs.{WordOf}
@@ -76,8 +76,8 @@ module _ (w k : ℕ) (f g : ℕ → Bool) (hk : k < 64) (new : T (not (f k))) (o
       go (yes e) = ap (λ (j : ℕ). bit (f j)) e ∙ bit_false (f k) new ∙ sym (ap (λ (j : ℕ). bit (g j)) e ∙ bit_false (g k) n)
       go (no d) = ap bit (sym (others i d))
 
-  pub word-put : (x : ℕ) → x ≡ bit (g k) → WordOf (bit_or w (x * 2 ^ k % 2 ^ 64)) g
-  word-put x e = record {
+  pub word_put : (x : ℕ) → x ≡ bit (g k) → WordOf (bit_or w (x * 2 ^ k % 2 ^ 64)) g
+  word_put x e = record {
     bits = λ i h.
         ⊎_elim
         (λ y. ap (λ (j : ℕ). bit_of (bit_or w (j * 2 ^ k % 2 ^ 64)) i) (e ∙ bit_true (g k) y) ∙ on y i h)
@@ -93,11 +93,11 @@ module _ (n w b : ℕ) (h : w < 2 ^ n) (l : n < 64) (small : b < 2) where
   doubled : w * 2 ^ 1 % 2 ^ 64 ≡ w * 2
   doubled = shl_exact {a = w} n 1 64 h (omega (arith, l))
 
-  pub below-lt : below < 2 ^ suc n
-  below-lt = rw doubled (or_lt (suc n) (w * 2) b (omega (arith, pow-suc 2 n, h)) (omega (arith, pow-suc 2 n, h, small)))
+  pub below_lt : below < 2 ^ suc n
+  below_lt = rw doubled (or_lt (suc n) (w * 2) b (omega (arith, pow-suc 2 n, h)) (omega (arith, pow-suc 2 n, h, small)))
 
-  pub below-first : bit_of below 0 ≡ b
-  below-first = rw doubled (omega (arith, bit_of_or (w * 2) b 0, bit_of_first (w * 2), bit_of_first b, small))
+  pub below_first : bit_of below 0 ≡ b
+  below_first = rw doubled (omega (arith, bit_of_or (w * 2) b 0, bit_of_first (w * 2), bit_of_first b, small))
 
   pub below_rest : (i : ℕ) → bit_of below (suc i) ≡ bit_of w i
   below_rest i =
@@ -177,14 +177,14 @@ module _ (word : ℕ) (f : ℕ → Bool) where
   abbrev gone : ℕ → ℕ → Bool
   gone w i = eqb (bit_of word i) 1 && not (eqb (bit_of w i) 1)
 
-  not-gone : (w i : ℕ) → bit_of w i ≡ 1 → gone w i ≡ false
-  not-gone w i e = T_false (gone w i) (not_T (gone w i) (λ t. T_not (eqb (bit_of w i) 1) (and_right (eqb (bit_of word i) 1) (not (eqb (bit_of w i) 1)) t) (eqb_of (bit_of w i) 1 e)))
+  not_gone : (w i : ℕ) → bit_of w i ≡ 1 → gone w i ≡ false
+  not_gone w i e = T_false (gone w i) (not_T (gone w i) (λ t. T_not (eqb (bit_of w i) 1) (and_right (eqb (bit_of word i) 1) (not (eqb (bit_of w i) 1)) t) (eqb_of (bit_of w i) 1 e)))
 
-  is-gone : (w i : ℕ) → bit_of word i ≡ 1 → bit_of w i ≡ 0 → gone w i ≡ true
-  is-gone w i e z = ap₂ (λ (x y : ℕ). eqb x 1 && not (eqb y 1)) e z
+  is_gone : (w i : ℕ) → bit_of word i ≡ 1 → bit_of w i ≡ 0 → gone w i ≡ true
+  is_gone w i e z = ap₂ (λ (x y : ℕ). eqb x 1 && not (eqb y 1)) e z
 
-  pub filtering-start : word < 2 ^ 64 → Filtering word f word 0
-  filtering-start h = record {
+  pub filtering_start : word < 2 ^ 64 → Filtering word f word 0
+  filtering_start h = record {
     fits = h;
     sub = λ i. le_refl _;
     passed = word_none (λ i. gone word i && f i) (λ i. ap (λ (b : Bool). b && f i) (none (eqb (bit_of word i) 1)));
@@ -194,22 +194,22 @@ module _ (word : ℕ) (f : ℕ → Bool) where
       none true = refl
       none false = refl
 
-  pub filtering-on : {w made : ℕ} (t x : ℕ) → t < 64 → Lowest w t → x ≡ bit (f t) * 2 ^ t % 2 ^ 64 → Filtering word f w made
+  pub filtering_on : {w made : ℕ} (t x : ℕ) → t < 64 → Lowest w t → x ≡ bit (f t) * 2 ^ t % 2 ^ 64 → Filtering word f w made
       → Filtering word f (cleared w) (bit_or made x)
-  filtering-on {w} {made} t x h low told r = record {
+  filtering_on {w} {made} t x h low told r = record {
     fits = cleared_lt w r.fits;
     sub = λ i. omega (arith, cleared_le w i, r.sub i);
     passed =
         rw told
-        (word-put made t (λ i. gone w i && f i) (λ i. gone (cleared w) i && f i) h
-        (subst (λ (b : Bool). T (not (b && f t))) (sym (not-gone w t low.here)) tt)
-        (λ i d. ap (λ (y : ℕ). (eqb (bit_of word i) 1 && not (eqb y 1)) && f i) (cleared-other w t low i d))
+        (word_put made t (λ i. gone w i && f i) (λ i. gone (cleared w) i && f i) h
+        (subst (λ (b : Bool). T (not (b && f t))) (sym (not_gone w t low.here)) tt)
+        (λ i d. ap (λ (y : ℕ). (eqb (bit_of word i) 1 && not (eqb y 1)) && f i) (cleared_other w t low i d))
         r.passed (bit (f t))
-        (sym (ap (λ (b : Bool). bit (b && f t)) (is-gone (cleared w) t (omega (arith, r.sub t, low.here, bit_of_lt word t)) (cleared-same w t low)))));
+        (sym (ap (λ (b : Bool). bit (b && f t)) (is_gone (cleared w) t (omega (arith, r.sub t, low.here, bit_of_lt word t)) (cleared_same w t low)))));
   }
 
-  pub filtering-end : {w made : ℕ} → w ≡ 0 → Filtering word f w made → WordOf made (λ i. eqb (bit_of word i) 1 && f i)
-  filtering-end {w} z r = record {
+  pub filtering_end : {w made : ℕ} → w ≡ 0 → Filtering word f w made → WordOf made (λ i. eqb (bit_of word i) 1 && f i)
+  filtering_end {w} z r = record {
     bits = λ i h.
         r.passed.bits i h
         ∙ ap (λ (y : ℕ). bit ((eqb (bit_of word i) 1 && not (eqb y 1)) && f i)) (ap (λ (x : ℕ). bit_of x i) z ∙ bit_of_none i)
@@ -221,8 +221,8 @@ module _ (before : List ℕ) (f : ℕ → Bool) where
   abbrev pub partly : ℕ → ℕ → Bool
   partly j k = eqb (bit_at before k) 1 && (leb (64 * j) k || f k)
 
-  pub partly-start : length before ≡ edge_words → EdgeSet before (partly 0)
-  partly-start h = record {
+  pub partly_start : length before ≡ edge_words → EdgeSet before (partly 0)
+  partly_start h = record {
     size = h;
     bits = λ k l.
         bit_of_lem (bit_at before k) (bit_at_lt before k)
@@ -230,15 +230,15 @@ module _ (before : List ℕ) (f : ℕ → Bool) where
   }
 
   -- from word j on the set is as before
-  pub partly-at : {ws : List ℕ} (j k : ℕ) → EdgeSet ws (partly j) → k < edges_most → 64 * j ≤ k → bit_at ws k ≡ bit_at before k
-  partly-at j k t h l =
+  pub partly_at : {ws : List ℕ} (j k : ℕ) → EdgeSet ws (partly j) → k < edges_most → 64 * j ≤ k → bit_at ws k ≡ bit_at before k
+  partly_at j k t h l =
       t.bits k h
       ∙ ap bit (ap (λ (b : Bool). eqb (bit_at before k) 1 && (b || f k)) (T_true (leb (64 * j) k) (le→leb (64 * j) k l)) ∙ and-true (eqb (bit_at before k) 1))
       ∙ sym (bit_of_lem (bit_at before k) (bit_at_lt before k))
 
-  pub partly-on : {ws : List ℕ} (j w : ℕ) → j < 64 → EdgeSet ws (partly j) → WordOf w (λ i. eqb (bit_of (get_or ws j 0) i) 1 && f (64 * j + i))
+  pub partly_on : {ws : List ℕ} (j w : ℕ) → j < 64 → EdgeSet ws (partly j) → WordOf w (λ i. eqb (bit_of (get_or ws j 0) i) 1 && f (64 * j + i))
       → EdgeSet (set ws j w) (partly (j + 1))
-  partly-on {ws} j w h t made = record {
+  partly_on {ws} j w h t made = record {
     size = length-set ws j w ∙ t.size;
     bits = λ k l. put_word ws j w (partly j) (partly (j + 1)) (omega (arith, t.size)) word others k (t.bits k l);
   }
@@ -249,7 +249,7 @@ module _ (before : List ℕ) (f : ℕ → Bool) where
             let p : j * 64 + i ≡ 64 * j + i = omega arith in
             made.bits i l
             ∙ ap₂ (λ (x : ℕ) (b : Bool). bit (eqb x 1 && (b || f (64 * j + i))))
-            (sym (word_bit ws j i l) ∙ ap (bit_at ws) p ∙ partly-at j (64 * j + i) t (omega arith) (omega arith))
+            (sym (word_bit ws j i l) ∙ ap (bit_at ws) p ∙ partly_at j (64 * j + i) t (omega arith) (omega arith))
             (sym (T_false (leb (64 * (j + 1)) (64 * j + i)) (not_T (leb (64 * (j + 1)) (64 * j + i)) (λ y. omega (arith, leb→le (64 * (j + 1)) (64 * j + i) y)))));
       }
 
@@ -260,9 +260,9 @@ module _ (before : List ℕ) (f : ℕ → Bool) where
           (λ y. le→leb (64 * j) k (omega (arith, leb→le (64 * (j + 1)) k y)))
           (λ y. le→leb (64 * (j + 1)) k (omega (arith, leb→le (64 * j) k y, d))))
 
-  pub partly-end : {ws : List ℕ} (m j : ℕ) → m ≤ 64 * j → ((k : ℕ) → bit_at before k ≡ 1 → k < m) → EdgeSet ws (partly j)
+  pub partly_end : {ws : List ℕ} (m j : ℕ) → m ≤ 64 * j → ((k : ℕ) → bit_at before k ≡ 1 → k < m) → EdgeSet ws (partly j)
       → EdgeSet ws (λ k. eqb (bit_at before k) 1 && f k)
-  partly-end m j h below t = record {
+  partly_end m j h below t = record {
     size = t.size;
     bits = λ k l.
         t.bits k l

@@ -4,8 +4,8 @@
 --     refused          bytes 30 and 31 of an older image are zero, so that it is refused with 4
 --     adjacent_below   adjacent handsets of an accepted image are handsets of it
 --     asked, signed    the tables of an older image pass the writer's 3, 5 and 6, and their coordinates are numbers of 32 bits
---     image-accepted   the image that they make is accepted
---     network-is       its network is the older image's
+--     image_accepted   the image that they make is accepted
+--     network_is       its network is the older image's
 --     kept             it keeps the site: network, edges and distances
 --     anew             the writer answers its length, and the buffer then begins with it
 --     its_tables       the tables of an older image
@@ -31,7 +31,7 @@ use Rattle.image.specs.Questions.{bad_end, is_loop, repeats_earlier, open_of, Ac
 use Rattle.image.specs.Signed.{within_limits, signed_coordinate, square}
 use Rattle.image.specs.Answers.{refusal}
 use Rattle.image.specs.declared.Opened.TheVariants as O
-use Rattle.image.proofs.Acceptance.{opened, ends-below}
+use Rattle.image.proofs.Acceptance.{opened, ends_below}
 use Rattle.image.proofs.Edges.{joins_cases}
 use Rattle.near.specs.Near.{neighbour}
 use Rattle.near.proofs.Near.{neighbour_is}
@@ -41,13 +41,13 @@ use Rattle.points.proofs.Limits.{within_small}
 use Rattle.layout.specs.Layout.{header_for, handset_table, image_of, Signed32}
 use Rattle.layout.specs.declared.Parameters.{Parameters}
 use Rattle.layout.proofs.Numbers.{record_numbers}
-use Rattle.layout.proofs.Reading.{Asked, image-below, handsets-read, edges-read, header-accepted}
+use Rattle.layout.proofs.Reading.{Asked, image_below, handsets_read, edges_read, header_accepted}
 use Rattle.writer.specs.Holds.{parameters_of, Holds}
 use Rattle.writer.specs.Writer.{WriteCall}
 use Rattle.writer.specs.declared.Encoded.{Encoded}
 use Rattle.writer.specs.declared.Encoded.TheVariants as E
 use Rattle.writer.proofs.Outcome.{written}
-use Rattle.writer.proofs.Tables.{every_entry, edges_below, EndTable, ends_low, ends-are, asked_by, image_holds, ends_in, ends_in_lem, coordinates_by, coordinates-length, coordinate-at}
+use Rattle.writer.proofs.Tables.{every_entry, edges_below, EndTable, ends_low, ends_are, asked_by, image_holds, ends_in, ends_in_lem, coordinates_by, coordinates_length, coordinate_at}
 use Rattle.history.specs.Plane.{planar_apart}
 use Rattle.history.specs.TakenOver.{planar_width, planar_limit_most, planar_coordinate, PlanarAccepted, planar_near, planar_network, PlanarHolds, Kept, TakenOver}
 use Rattle.history.proofs.Plane.{planar_images, planar_distance}
@@ -67,7 +67,7 @@ adjacent_below : (s : List ℕ) → Accepted s → (u v : ℕ) → T (adjacent s
 unfolding adjacent
 adjacent_below s ok u v t =
     let (k, h, joined) = any_take (edge_count s) (joins (edge_records s) u v) t in
-    let below = ends-below s ok k h in
+    let below = ends_below s ok k h in
     ⊎_elim
     (λ e. (omega (arith, below.0, e.0), omega (arith, below.1, e.1)))
     (λ e. (omega (arith, below.1, e.1), omega (arith, below.0, e.0)))
@@ -111,8 +111,8 @@ module _ (s : List ℕ) (x : Parameters) (coords : List ℤ) (ends : List ℕ) (
       subst (λ (k : ℕ). mag (get_or coords k (pos 0)) < 2147483648) place
       (within_small (get_or coords (coordinate_count * v + i) (pos 0)) (within v i (omega (arith, held.coordinate_count_lem)) (omega arith))))
 
-  kept-limits : (v : ℕ) → v < x.n → T (not (out_of_limits (handset_record (handset_table coords) v)))
-  kept-limits v h =
+  kept_limits : (v : ℕ) → v < x.n → T (not (out_of_limits (handset_record (handset_table coords) v)))
+  kept_limits v h =
       let far : ℕ → Bool = λ i. not (within_limits (get_or coords (coordinate_count * v + i) (pos 0))) in
       subst (λ (b : Bool). T (not b)) (sym (record_numbers.limits coords signed v (omega (arith, held.coordinate_count_lem))))
       (none_any coordinate_count far (λ i l. not_T (far i) (λ t. T_not (within_limits (get_or coords (coordinate_count * v + i) (pos 0))) t (within v i h l))))
@@ -123,13 +123,13 @@ module _ (s : List ℕ) (x : Parameters) (coords : List ℤ) (ends : List ℕ) (
   holds : Holds image x coords ends
   holds = image_holds x coords ends signed (ends_low (edge_records s) x.m ends (edges_below s small) table) asked
 
-  parameters-are : parameters_of (header_of image) ≡ parameters_of (header_of s)
-  parameters-are = holds.parameters ∙ sym held.parameters
+  parameters_are : parameters_of (header_of image) ≡ parameters_of (header_of s)
+  parameters_are = holds.parameters ∙ sym held.parameters
 
   -- all edge records stand in the older image
-  edges-long : length (edge_records s) ≡ edge_bytes * x.m
+  edges_long : length (edge_records s) ≡ edge_bytes * x.m
   unfolding edge_records
-  edges-long =
+  edges_long =
       let a : ℕ = (header_of s).handsets in
       let b : ℕ = (header_of s).edges in
       let c : ℕ = a + planar_width * (header_of s).n in
@@ -141,62 +141,62 @@ module _ (s : List ℕ) (x : Parameters) (coords : List ℤ) (ends : List ℕ) (
       simp (length-take, length-drop) (omega arith)
 
   edges_are : edge_records image ≡ edge_records s
-  edges_are = edges-read x coords ends asked ∙ sym (ends-are (edge_records s) x.m ends (edges_below s small) table edges-long)
+  edges_are = edges_read x coords ends asked ∙ sym (ends_are (edge_records s) x.m ends (edges_below s small) table edges_long)
 
-  image-accepted : Accepted image
-  image-accepted = record {
-    header = header-accepted x coords ends asked;
-    q7 = λ v h. subst (λ (records : List ℕ). T (not (out_of_limits (handset_record records v)))) (sym (handsets-read x coords ends asked))
-        (kept-limits v (subst (λ (y : Parameters). v < y.n) holds.parameters h));
-    q8 = λ k h. subst T (sym (λ i. not (bad_end (edges_are i) (parameters-are i).n k))) (ok.q8 k (fewer k h));
+  image_accepted : Accepted image
+  image_accepted = record {
+    header = header_accepted x coords ends asked;
+    q7 = λ v h. subst (λ (records : List ℕ). T (not (out_of_limits (handset_record records v)))) (sym (handsets_read x coords ends asked))
+        (kept_limits v (subst (λ (y : Parameters). v < y.n) holds.parameters h));
+    q8 = λ k h. subst T (sym (λ i. not (bad_end (edges_are i) (parameters_are i).n k))) (ok.q8 k (fewer k h));
     q9 = λ k h. subst T (sym (λ i. not (is_loop (edges_are i) k))) (ok.q9 k (fewer k h));
     q10 = λ k h. subst T (sym (λ i. not (repeats_earlier (edges_are i) k))) (ok.q10 k (fewer k h));
   }
     where
       fewer : (k : ℕ) → k < edge_count image → k < edge_count s
-      fewer k h = subst (λ (y : Parameters). k < y.m) parameters-are h
+      fewer k h = subst (λ (y : Parameters). k < y.m) parameters_are h
 
   -- ---- its network
 
-  coordinate-is : (v i : ℕ) → v < x.n → i < 2 → signed_coordinate image v i ≡ planar_coordinate s v i
-  coordinate-is v i h l = holds.coordinates v i h (omega arith) ∙ held.coordinates v i h l
+  coordinate_is : (v i : ℕ) → v < x.n → i < 2 → signed_coordinate image v i ≡ planar_coordinate s v i
+  coordinate_is v i h l = holds.coordinates v i h (omega arith) ∙ held.coordinates v i h l
 
   distance_is : (u v : ℕ) → u < x.n → v < x.n → pos (distance_squared image u v) ≡ planar_apart (planar_coordinate s u) (planar_coordinate s v)
   distance_is u v hu hv =
       let count : x.n ≡ handset_count image = sym (ap (λ (y : Parameters). y.n) holds.parameters) in
-      planar_distance.zero_z image (image-below x coords ends)
+      planar_distance.zero_z image (image_below x coords ends)
       (λ w h. let l : w < x.n = omega arith in holds.coordinates w 2 l (omega arith) ∙ held.zeros w l) u v (omega arith) (omega arith)
       ∙ (λ i.
-      square (coordinate-is u 0 hu (omega arith) i -ℤ coordinate-is v 0 hv (omega arith) i)
-      +ℤ square (coordinate-is u 1 hu (omega arith) i -ℤ coordinate-is v 1 hv (omega arith) i))
+      square (coordinate_is u 0 hu (omega arith) i -ℤ coordinate_is v 0 hv (omega arith) i)
+      +ℤ square (coordinate_is u 1 hu (omega arith) i -ℤ coordinate_is v 1 hv (omega arith) i))
 
-  adjacent-is : (u v : ℕ) → adjacent image u v ≡ adjacent s u v
+  adjacent_is : (u v : ℕ) → adjacent image u v ≡ adjacent s u v
   unfolding adjacent
-  adjacent-is u v = λ i. any (parameters-are i).m (joins (edges_are i) u v)
+  adjacent_is u v = λ i. any (parameters_are i).m (joins (edges_are i) u v)
 
-  close-is : (u v : ℕ) → T (adjacent image u v)
+  close_is : (u v : ℕ) → T (adjacent image u v)
       → leb (distance_squared image u v) (limit_of image) ≡ le_z (planar_apart (planar_coordinate s u) (planar_coordinate s v)) (pos (limit_of s))
-  close-is u v t =
-      let below = adjacent_below image image-accepted u v t in
+  close_is u v t =
+      let below = adjacent_below image image_accepted u v t in
       let count : handset_count image ≡ x.n = ap (λ (y : Parameters). y.n) holds.parameters in
-      ap₂ le_z (distance_is u v (omega (arith, below.0)) (omega (arith, below.1))) (ap (λ (y : Parameters). pos y.limit) parameters-are)
+      ap₂ le_z (distance_is u v (omega (arith, below.0)) (omega (arith, below.1))) (ap (λ (y : Parameters). pos y.limit) parameters_are)
 
-  near-is : (u v : ℕ) → neighbour image u v ≡ planar_near s u v
+  near_is : (u v : ℕ) → neighbour image u v ≡ planar_near s u v
   unfolding planar_near
-  near-is u v =
+  near_is u v =
       neighbour_is image u v
       ∙ ap (λ (b : Bool). eqb u v || b)
-      (and_where (adjacent image u v) _ _ (close-is u v)
-      ∙ ap (λ (a : Bool). a && le_z (planar_apart (planar_coordinate s u) (planar_coordinate s v)) (pos (limit_of s))) (adjacent-is u v))
+      (and_where (adjacent image u v) _ _ (close_is u v)
+      ∙ ap (λ (a : Bool). a && le_z (planar_apart (planar_coordinate s u) (planar_coordinate s v)) (pos (limit_of s))) (adjacent_is u v))
 
-  network-is : network image ≡ planar_network s
+  network_is : network image ≡ planar_network s
   unfolding mu
-  network-is = λ i. record {
-    n = (parameters-are i).n;
-    neighbour = λ u v. near-is u v i;
-    p = (parameters-are i).p;
-    q = (parameters-are i).q;
-    mu = core_size (parameters-are i).mu;
+  network_is = λ i. record {
+    n = (parameters_are i).n;
+    neighbour = λ u v. near_is u v i;
+    p = (parameters_are i).p;
+    q = (parameters_are i).q;
+    mu = core_size (parameters_are i).mu;
   }
 
   -- from a spot whose z is 0
@@ -205,12 +205,12 @@ module _ (s : List ℕ) (x : Parameters) (coords : List ℤ) (ends : List ℕ) (
   unfolding signed_distance_to
   spot_is p ground v h =
       planar_distance.same_z (λ i. get_or p i (pos 0)) (signed_coordinate image v) (ground ∙ sym (holds.coordinates v 2 h (omega arith) ∙ held.zeros v h))
-      ∙ (λ i. square (get_or p 0 (pos 0) -ℤ coordinate-is v 0 h (omega arith) i) +ℤ square (get_or p 1 (pos 0) -ℤ coordinate-is v 1 h (omega arith) i))
+      ∙ (λ i. square (get_or p 0 (pos 0) -ℤ coordinate_is v 0 h (omega arith) i) +ℤ square (get_or p 1 (pos 0) -ℤ coordinate_is v 1 h (omega arith) i))
 
   kept : Kept s image
   kept = record {
-    accepted = image-accepted;
-    same_network = network-is;
+    accepted = image_accepted;
+    same_network = network_is;
     same_edges = edges_are;
     distances = λ u v hu hv. distance_is u v (handset u hu) (handset v hv);
     spots = λ p ground v h. spot_is p ground v (handset v h);
@@ -222,7 +222,7 @@ module _ (s : List ℕ) (x : Parameters) (coords : List ℤ) (ends : List ℕ) (
   anew : (l : List ℕ) (r : Encoded) (l' : List ℕ) → (header_for x).len ≤ length l → WriteCall x coords ends l r l'
       → (r ≡ E.Length (header_for x).len) × Kept s (take (header_for x).len l')
   anew l r l' room call =
-      let w = written x coords ends asked (opened image image-accepted) l r l' room call in
+      let w = written x coords ends asked (opened image image_accepted) l r l' room call in
       (w.0, subst (Kept s) (sym w.1) kept)
 
 -- ---- the tables of an older image
@@ -242,10 +242,10 @@ its_tables s ok small =
     let table : EndTable (edge_records s) x.m ends = ends_in_lem (edge_records s) x.m in
     let held : PlanarHolds s x coords ends = record {
       parameters = refl;
-      coordinate_count_lem = coordinates-length x.n (with_zero s);
+      coordinate_count_lem = coordinates_length x.n (with_zero s);
       end_count_lem = table.end_count_lem;
-      coordinates = λ v i h l. coordinate-at x.n (with_zero s) v i h (omega arith) ∙ planar v i l;
-      zeros = λ v h. coordinate-at x.n (with_zero s) v 2 h (omega arith);
+      coordinates = λ v i h l. coordinate_at x.n (with_zero s) v i h (omega arith) ∙ planar v i l;
+      zeros = λ v h. coordinate_at x.n (with_zero s) v 2 h (omega arith);
       first_ends = table.first_ends;
       second_ends = table.second_ends;
     } in

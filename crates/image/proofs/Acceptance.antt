@@ -4,14 +4,14 @@
 --     accepted            open_of s ≡ Site h gives Accepted s, and h is header_of s
 --     opened              Accepted s gives open_of s ≡ Site (header_of s)
 --     acceptance          the theorem of specs/Acceptance
---     when-accepted, when-refused     what a call says of an accepted image, and of a refused one; when-either: what holds of both holds of what it says
---     pass, go_on, refuse a question by its answer; go-on-each: one that gets a yes for each record goes on
---     records_header      questions 7 to 10 answer no other header; go-on-header: where 1 to 6 get a yes, the rest is the answer
+--     when_accepted, when_refused     what a call says of an accepted image, and of a refused one; when_either: what holds of both holds of what it says
+--     pass, go_on, refuse a question by its answer; go_on_each: one that gets a yes for each record goes on
+--     records_header      questions 7 to 10 answer no other header; go_on_header: where 1 to 6 get a yes, the rest is the answer
 --     counts_limits       what counts that fit keep to; Fits, fits: what a header's numbers keep to, for the proofs of the calls
---     header-fits, tables-clear, header-length, handsets-length, edges-length     what an image whose header is accepted keeps to: both tables of records are whole
---     accepted-fits, length-is, handsets-fit, edges_fit, ends-below, coordinate-limits     what an accepted image keeps to: its header, its length, its two tables,
+--     header_fits, tables_clear, header_length, handsets_length, edges_length     what an image whose header is accepted keeps to: both tables of records are whole
+--     accepted_fits, length_is, handsets_fit, edges_fit, ends_below, coordinate_limits     what an accepted image keeps to: its header, its length, its two tables,
 --                         its edges' ends, its coordinates
---     header_short, header-other, header-on     how questions 1 and 2 go, with the header in hand
+--     header_short, header_other, header_on     how questions 1 and 2 go, with the header in hand
 --     header_no           where one of questions 1 to 6 gets a no, that is the answer; header_yes: where all get a yes, what that says of the image
 --     header_passed       and then the answer is that of questions 7 to 10
 use Prim.Native.Nat.{ℕ, ◌+◌, ◌*◌, ◌-◌, ◌≤◌, ◌<◌}
@@ -46,13 +46,13 @@ go_on true k p next t = refl
 go_on false k p next t = absurd t
 
 module _ (n : ℕ) (bad : ℕ → Bool) (k : ℕ) (next : Opened) where
-  pass-each : {h : Header} → ask_each n bad k next ≡ Site h → ((i : ℕ) → i < n → T (not (bad i))) × (next ≡ Site h)
+  pass_each : {h : Header} → ask_each n bad k next ≡ Site h → ((i : ℕ) → i < n → T (not (bad i))) × (next ≡ Site h)
   unfolding ask_each
-  pass-each e = let a = pass (not (any n bad)) k _ next e in (any_none n bad a.0, a.1)
+  pass_each e = let a = pass (not (any n bad)) k _ next e in (any_none n bad a.0, a.1)
 
-  pub go-on-each : ((i : ℕ) → i < n → T (not (bad i))) → ask_each n bad k next ≡ next
+  pub go_on_each : ((i : ℕ) → i < n → T (not (bad i))) → ask_each n bad k next ≡ next
   unfolding ask_each
-  go-on-each f = go_on (not (any n bad)) k _ next (none_any n bad f)
+  go_on_each f = go_on (not (any n bad)) k _ next (none_any n bad f)
 
 same : {h g : Header} → Site g ≡ Site h → g ≡ h
 same e = cc
@@ -61,17 +61,17 @@ same e = cc
 pub records_header : (handsets edges : List ℕ) (g : Header) {h : Header} → ask_records handsets edges g ≡ Site h → g ≡ h
 unfolding ask_records ask_edges
 records_header handsets edges g e =
-    let a7 = pass-each g.n (λ v. out_of_limits (handset_record handsets v)) _ _ e in
-    let a8 = pass-each g.m (bad_end edges g.n) _ _ a7.1 in
-    let a9 = pass-each g.m (is_loop edges) _ _ a8.1 in
-    let a10 = pass-each g.m (repeats_earlier edges) _ _ a9.1 in
+    let a7 = pass_each g.n (λ v. out_of_limits (handset_record handsets v)) _ _ e in
+    let a8 = pass_each g.m (bad_end edges g.n) _ _ a7.1 in
+    let a9 = pass_each g.m (is_loop edges) _ _ a8.1 in
+    let a10 = pass_each g.m (repeats_earlier edges) _ _ a9.1 in
     same a10.1
 
 module _ (s : List ℕ) (next : Opened) where
   -- questions 1 to 6 got a yes, and the rest answered the header
-  pass-header : {h : Header} → ask_image s next ≡ Site h → HeaderAccepted s × (next ≡ Site h)
+  pass_header : {h : Header} → ask_image s next ≡ Site h → HeaderAccepted s × (next ≡ Site h)
   unfolding ask_image ask_header
-  pass-header e =
+  pass_header e =
       let a1 = pass (leb 32 (length s)) _ _ _ e in
       let a2 = pass (eqb (header_of s).len (length s)) _ _ _ a1.1 in
       let a3 = pass (counts_fit (header_of s).n (header_of s).m) _ _ _ a2.1 in
@@ -81,9 +81,9 @@ module _ (s : List ℕ) (next : Opened) where
       (record { q1 = a1.0; q2 = a2.0; q3 = a3.0; q4 = a4.0; q5 = a5.0; q6 = a6.0 }, a6.1)
 
   -- where they get a yes, the rest is the answer
-  pub go-on-header : HeaderAccepted s → ask_image s next ≡ next
+  pub go_on_header : HeaderAccepted s → ask_image s next ≡ next
   unfolding ask_image ask_header
-  go-on-header a =
+  go_on_header a =
       go_on (leb 32 (length s)) _ _ _ a.q1
       ∙ go_on (eqb (header_of s).len (length s)) _ _ _ a.q2
       ∙ go_on (counts_fit (header_of s).n (header_of s).m) _ _ _ a.q3
@@ -94,31 +94,31 @@ module _ (s : List ℕ) (next : Opened) where
 pub accepted : (s : List ℕ) (h : Header) → open_of s ≡ Site h → Accepted s × (h ≡ header_of s)
 unfolding open_of ask_records ask_edges
 accepted s h e =
-    let a = pass-header s _ e in
-    let a7 = pass-each (handset_count s) (λ v. out_of_limits (handset_record (handset_records s) v)) _ _ a.1 in
-    let a8 = pass-each (edge_count s) (bad_end (edge_records s) (handset_count s)) _ _ a7.1 in
-    let a9 = pass-each (edge_count s) (is_loop (edge_records s)) _ _ a8.1 in
-    let a10 = pass-each (edge_count s) (repeats_earlier (edge_records s)) _ _ a9.1 in
+    let a = pass_header s _ e in
+    let a7 = pass_each (handset_count s) (λ v. out_of_limits (handset_record (handset_records s) v)) _ _ a.1 in
+    let a8 = pass_each (edge_count s) (bad_end (edge_records s) (handset_count s)) _ _ a7.1 in
+    let a9 = pass_each (edge_count s) (is_loop (edge_records s)) _ _ a8.1 in
+    let a10 = pass_each (edge_count s) (repeats_earlier (edge_records s)) _ _ a9.1 in
     (record { header = a.0; q7 = a7.0; q8 = a8.0; q9 = a9.0; q10 = a10.0 }, sym (same a10.1))
 
 pub opened : (s : List ℕ) → Accepted s → open_of s ≡ Site (header_of s)
 unfolding open_of ask_records ask_edges
 opened s a =
-    go-on-header s _ a.header
-    ∙ go-on-each (handset_count s) (λ v. out_of_limits (handset_record (handset_records s) v)) _ _ a.q7
-    ∙ go-on-each (edge_count s) (bad_end (edge_records s) (handset_count s)) _ _ a.q8
-    ∙ go-on-each (edge_count s) (is_loop (edge_records s)) _ _ a.q9
-    ∙ go-on-each (edge_count s) (repeats_earlier (edge_records s)) _ _ a.q10
+    go_on_header s _ a.header
+    ∙ go_on_each (handset_count s) (λ v. out_of_limits (handset_record (handset_records s) v)) _ _ a.q7
+    ∙ go_on_each (edge_count s) (bad_end (edge_records s) (handset_count s)) _ _ a.q8
+    ∙ go_on_each (edge_count s) (is_loop (edge_records s)) _ _ a.q9
+    ∙ go_on_each (edge_count s) (repeats_earlier (edge_records s)) _ _ a.q10
 
 module _ {A : Type 0} (s : List ℕ) (f : Header → A) (g : Refusal → A) where
-  pub when-accepted : Accepted s → when_opened s f g ≡ f (header_of s)
-  when-accepted a = ap (λ (o : Opened). by_answer o f g) (opened s a)
+  pub when_accepted : Accepted s → when_opened s f g ≡ f (header_of s)
+  when_accepted a = ap (λ (o : Opened). by_answer o f g) (opened s a)
 
-  pub when-refused : (r : Refusal) → open_of s ≡ Refused r → when_opened s f g ≡ g r
-  when-refused r e = ap (λ (o : Opened). by_answer o f g) e
+  pub when_refused : (r : Refusal) → open_of s ≡ Refused r → when_opened s f g ≡ g r
+  when_refused r e = ap (λ (o : Opened). by_answer o f g) e
 
-  pub when-either : (P : A → Type 0) → (Accepted s → P (f (header_of s))) → ((r : Refusal) → open_of s ≡ Refused r → P (g r)) → P (when_opened s f g)
-  when-either P p q = go (open_of s) refl
+  pub when_either : (P : A → Type 0) → (Accepted s → P (f (header_of s))) → ((r : Refusal) → open_of s ≡ Refused r → P (g r)) → P (when_opened s f g)
+  when_either P p q = go (open_of s) refl
     where
       go : (o : Opened) → open_of s ≡ o → P (by_answer o f g)
       go (Site h) e = let a = accepted s h e in subst (λ (x : Header). P (f x)) (sym a.1) (p a.0)
@@ -190,15 +190,15 @@ unfolding ask_image
 header_short s next l = refuse (leb 32 (length s)) _ _ _ (lt-leb 32 (length s) l)
 
 module _ (s : List ℕ) (l : 32 ≤ length s) where
-  pub header-other : (next : Opened) → ((header_of s).len ≡ length s → ⊥) → ask_image s next ≡ Refused (record { number = 2; place = 0 })
+  pub header_other : (next : Opened) → ((header_of s).len ≡ length s → ⊥) → ask_image s next ≡ Refused (record { number = 2; place = 0 })
   unfolding ask_image
-  header-other next d =
+  header_other next d =
       go_on (leb 32 (length s)) _ _ _ (le→leb 32 (length s) l)
       ∙ refuse (eqb (header_of s).len (length s)) _ _ _ (ne_eqb (header_of s).len (length s) d)
 
-  pub header-on : (h : Header) → h ≡ header_of s → h.len ≡ length s → ask_image s (Site (header_of s)) ≡ ask_header h (Site h)
+  pub header_on : (h : Header) → h ≡ header_of s → h.len ≡ length s → ask_image s (Site (header_of s)) ≡ ask_header h (Site h)
   unfolding ask_image
-  header-on h e d =
+  header_on h e d =
       go_on (leb 32 (length s)) _ _ _ (le→leb 32 (length s) l)
       ∙ go_on (eqb (header_of s).len (length s)) _ _ _ (eqb_of (header_of s).len (length s) (ap (λ (x : Header). x.len) (sym e) ∙ d))
       ∙ ap (λ (x : Header). ask_header x (Site x)) (sym e)
@@ -220,31 +220,31 @@ header_no s r e =
     (stop (tables_fit (header_of s)) _ _ (Site (header_of s)) _ (λ z. let w : ◌≡◌ {A = ℕ} 0 1 = cc in absurd (omega arith))))))) e
 
 pub header_yes : (s : List ℕ) (h : Header) → ask_image s (Site (header_of s)) ≡ Site h → HeaderAccepted s × (h ≡ header_of s)
-header_yes s h e = let a = pass-header s _ e in (a.0, sym (same a.1))
+header_yes s h e = let a = pass_header s _ e in (a.0, sym (same a.1))
 
 module _ (s : List ℕ) (a : HeaderAccepted s) where
-  pub header-fits : Fits (header_of s)
-  header-fits = fits (header_of s) a.q3 a.q5 a.q6
+  pub header_fits : Fits (header_of s)
+  header_fits = fits (header_of s) a.q3 a.q5 a.q6
 
   -- the two tables do not overlap
-  pub tables-clear : T (leb ((header_of s).handsets + handset_bytes * (header_of s).n) (header_of s).edges)
+  pub tables_clear : T (leb ((header_of s).handsets + handset_bytes * (header_of s).n) (header_of s).edges)
       ⊎ T (leb ((header_of s).edges + edge_bytes * (header_of s).m) (header_of s).handsets)
-  tables-clear =
+  tables_clear =
       let h : Header = header_of s in
       or_cases (leb (h.handsets + handset_bytes * h.n) h.edges) (leb (h.edges + edge_bytes * h.m) h.handsets)
       (and_right (leb (h.edges + edge_bytes * h.m) h.len) _
       (and_right (leb (h.handsets + handset_bytes * h.n) h.len) _ (and_right (leb header_bytes h.edges) _ (and_right (leb header_bytes h.handsets) _ a.q6))))
 
-  pub header-length : (header_of s).len ≡ length s
-  header-length = eqb→eq (header_of s).len (length s) a.q2
+  pub header_length : (header_of s).len ≡ length s
+  header_length = eqb→eq (header_of s).len (length s) a.q2
 
-  pub handsets-length : length (handset_records s) ≡ handset_bytes * handset_count s
+  pub handsets_length : length (handset_records s) ≡ handset_bytes * handset_count s
   unfolding handset_records
-  handsets-length = simp (length-take, length-drop) (omega (arith, header-fits.handsets_to, header-length))
+  handsets_length = simp (length-take, length-drop) (omega (arith, header_fits.handsets_to, header_length))
 
-  pub edges-length : length (edge_records s) ≡ edge_bytes * edge_count s
+  pub edges_length : length (edge_records s) ≡ edge_bytes * edge_count s
   unfolding edge_records
-  edges-length = simp (length-take, length-drop) (omega (arith, header-fits.edges_to, header-length))
+  edges_length = simp (length-take, length-drop) (omega (arith, header_fits.edges_to, header_length))
 
 -- for the reader: with the header in hand, what its numbers keep to, and what is left to ask
 pub header_passed : (s : List ℕ) (h : Header) → ask_image s (Site (header_of s)) ≡ Site h
@@ -253,31 +253,31 @@ unfolding open_of handset_records edge_records
 header_passed s h e =
     let y = header_yes s h e in
     subst (λ (x : Header). Fits x × (x.len ≡ length s) × (open_of s ≡ ask_records (take (handset_bytes * x.n) (drop x.handsets s)) (take (edge_bytes * x.m) (drop x.edges s)) x)) (sym y.1)
-    (header-fits s y.0, header-length s y.0, go-on-header s _ y.0)
+    (header_fits s y.0, header_length s y.0, go_on_header s _ y.0)
 
 module _ (s : List ℕ) (a : Accepted s) where
-  pub accepted-fits : Fits (header_of s)
-  accepted-fits = header-fits s a.header
+  pub accepted_fits : Fits (header_of s)
+  accepted_fits = header_fits s a.header
 
-  pub length-is : (header_of s).len ≡ length s
-  length-is = header-length s a.header
+  pub length_is : (header_of s).len ≡ length s
+  length_is = header_length s a.header
 
   -- both tables of records stand in the image, by its header
-  pub handsets-fit : (h : Header) → h ≡ header_of s → h.handsets + handset_bytes * h.n ≤ length s
-  handsets-fit h e = rw e (omega (arith, accepted-fits.handsets_to, length-is))
+  pub handsets_fit : (h : Header) → h ≡ header_of s → h.handsets + handset_bytes * h.n ≤ length s
+  handsets_fit h e = rw e (omega (arith, accepted_fits.handsets_to, length_is))
 
   pub edges_fit : (h : Header) → h ≡ header_of s → h.edges + edge_bytes * h.m ≤ length s
-  edges_fit h e = rw e (omega (arith, accepted-fits.edges_to, length-is))
+  edges_fit h e = rw e (omega (arith, accepted_fits.edges_to, length_is))
 
   -- the ends of every edge are handsets
-  pub ends-below : (k : ℕ) → k < edge_count s → (end_a (edge_records s) k < handset_count s) × (end_b (edge_records s) k < handset_count s)
-  ends-below k h = good_ends (edge_records s) (handset_count s) k (a.q8 k h)
+  pub ends_below : (k : ℕ) → k < edge_count s → (end_a (edge_records s) k < handset_count s) × (end_b (edge_records s) k < handset_count s)
+  ends_below k h = good_ends (edge_records s) (handset_count s) k (a.q8 k h)
 
   -- every coordinate, shifted by 2 ^ 31, keeps its limits
-  pub coordinate-limits : (v i : ℕ) → v < handset_count s → i < coordinate_count
+  pub coordinate_limits : (v i : ℕ) → v < handset_count s → i < coordinate_count
       → (2147483648 - coordinate_limit ≤ coordinate_of (handset_record (handset_records s) v) i) × (coordinate_of (handset_record (handset_records s) v) i ≤ 2147483648 + coordinate_limit)
   unfolding out_of_limits
-  coordinate-limits v i h l =
+  coordinate_limits v i h l =
       let r : List ℕ = handset_record (handset_records s) v in
       let x : ℕ = coordinate_of r i in
       let t : T (in_limits x) = yes_of (in_limits x) (any_none coordinate_count (λ j. not (in_limits (coordinate_of r j))) (a.q7 v h) i l) in (

@@ -2,10 +2,10 @@
 --
 --     joins_cases, joins_one, joins_other     the ends of an edge, either way round
 --     selves_none, selves_more     each handset with itself: none, and one more; selves_new: it is not there before
---     linked_none, linked-more     the table of no edge, and of one edge more
---     second-new                   where the first cell of an edge is not set, the second is not either
---     end-told, fault-end, fault-linked     what an edge's fault is: an end that is no handset, or ends that are linked before it
---     added-no, added-yes          what adding the edges tells, where an edge is at fault and where none is
+--     linked_none, linked_more     the table of no edge, and of one edge more
+--     second_new                   where the first cell of an edge is not set, the second is not either
+--     end_told, fault_end, fault_linked     what an edge's fault is: an end that is no handset, or ends that are linked before it
+--     added_no, added_yes          what adding the edges tells, where an edge is at fault and where none is
 use Prim.Native.Nat.{ℕ, ◌+◌, ◌*◌, ◌<◌}
 use native.Mathlib.Omega.{arith}
 use native.Mathlib.Numerals.{add-one}
@@ -20,7 +20,7 @@ use Rattle.sets.specs.Below.{any, bit}
 use Rattle.sets.specs.Bits.{bit_at, cell, with_bit}
 use Rattle.sets.proofs.Tests.{and_make, and_left, and_right, or_left, or_right, or_cases, or_comm, T_true, T_false, T-ext, any_cong, eqb_of, eqb_not, passed_none, passed_other}
 use Rattle.sets.proofs.Counting.{bit_true, bit_false}
-use Rattle.sets.proofs.Bits.{bitAt-set-same, bit_at_set_other, length_with_bit}
+use Rattle.sets.proofs.Bits.{bit_at_set_same, bit_at_set_other, length_with_bit}
 use Rattle.image.specs.Image.{end_a, end_b, joins}
 use Rattle.image.specs.Questions.{bad_end, is_loop, repeats_earlier}
 use Rattle.sets.specs.Rows.{Table, Counted}
@@ -77,8 +77,8 @@ module _ (records : List ℕ) (k u v : ℕ) (ha : end_a records k < 512) (hb : e
       (λ w. p (ap₂ (λ (i j : ℕ). i * 512 + j) (sym w.1) (sym w.0)))
       (joins_cases records u v k t)))
 
-  cell-both : (rows : List ℕ) (x : Bool) → length rows ≡ 4096 → cell rows u v ≡ bit x → cell (with_bit (with_bit rows first) second) u v ≡ bit (joins records u v k || x)
-  cell-both rows x long e = pick (ℕ_discrete (u * 512 + v) second) (ℕ_discrete (u * 512 + v) first)
+  cell_both : (rows : List ℕ) (x : Bool) → length rows ≡ 4096 → cell rows u v ≡ bit x → cell (with_bit (with_bit rows first) second) u v ≡ bit (joins records u v k || x)
+  cell_both rows x long e = pick (ℕ_discrete (u * 512 + v) second) (ℕ_discrete (u * 512 + v) first)
     where
       on : T (joins records u v k) → 1 ≡ bit (joins records u v k || x)
       on t = sym (bit_true (joins records u v k || x) (or_left (joins records u v k) x t))
@@ -86,12 +86,12 @@ module _ (records : List ℕ) (k u v : ℕ) (ha : end_a records k < 512) (hb : e
       pick : Dec (u * 512 + v ≡ second) → Dec (u * 512 + v ≡ first) → cell (with_bit (with_bit rows first) second) u v ≡ bit (joins records u v k || x)
       pick (yes p) d =
           ap (bit_at (with_bit (with_bit rows first) second)) p
-          ∙ bitAt-set-same (with_bit rows first) second (omega (arith, length_with_bit rows first))
+          ∙ bit_at_set_same (with_bit rows first) second (omega (arith, length_with_bit rows first))
           ∙ on (at_second p)
       pick (no p) (yes d) =
           bit_at_set_other (with_bit rows first) second (u * 512 + v) p
           ∙ ap (bit_at (with_bit rows first)) d
-          ∙ bitAt-set-same rows first (omega arith)
+          ∙ bit_at_set_same rows first (omega arith)
           ∙ on (at_first d)
       pick (no p) (no d) =
           bit_at_set_other (with_bit rows first) second (u * 512 + v) p
@@ -118,7 +118,7 @@ selves_more rows k hk long t = record { bits = λ u v h l. go u v h l (ℕ_discr
     go u v h l (yes e) =
         let p : u < k + 1 = omega arith in
         let q : u ≡ v = omega arith in
-        ap (bit_at (with_bit rows (k * 512 + k))) e ∙ bitAt-set-same rows (k * 512 + k) (omega arith)
+        ap (bit_at (with_bit rows (k * 512 + k))) e ∙ bit_at_set_same rows (k * 512 + k) (omega arith)
         ∙ sym (bit_true (ltb u (k + 1) && eqb u v) (and_make (ltb u (k + 1)) (eqb u v) (lt→ltb u (k + 1) p) (eqb_of u v q)))
     go u v h l (no d) = bit_at_set_other rows (k * 512 + k) (u * 512 + v) d ∙ t.bits u v h l ∙ ap bit (kept u v l d (ℕ_discrete u k))
 
@@ -137,23 +137,23 @@ or_swap true false c = refl
 or_swap false b c = refl
 
 module _ (n : ℕ) (edges : List ℕ) (k : ℕ) where
-  pub linked-more : {rows : List ℕ} → end_a edges k < 512 → end_b edges k < 512 → length rows ≡ 4096 → Table rows (linked n edges k)
+  pub linked_more : {rows : List ℕ} → end_a edges k < 512 → end_b edges k < 512 → length rows ≡ 4096 → Table rows (linked n edges k)
       → Table (with_bit (with_bit rows (end_a edges k * 512 + end_b edges k)) (end_b edges k * 512 + end_a edges k)) (linked n edges (k + 1))
   unfolding linked any
-  linked-more {rows} ha hb long t = record {
+  linked_more {rows} ha hb long t = record {
     bits = λ u v hu hv.
-        cell-both edges k u v ha hb hu hv rows (linked n edges k u v) long (t.bits u v hu hv)
+        cell_both edges k u v ha hb hu hv rows (linked n edges k u v) long (t.bits u v hu hv)
         ∙ ap bit (or_swap (joins edges u v k) (ltb u n && eqb u v) (any k (joins edges u v)) ∙ sym (ap (λ (j : ℕ). linked n edges j u v) (add-one k)));
   }
 
   -- the ends of an edge are linked before it just where it is a loop or a repeat
-  linked-fault : end_a edges k < n → linked n edges k (end_a edges k) (end_b edges k) ≡ (is_loop edges k || repeats_earlier edges k)
+  linked_fault : end_a edges k < n → linked n edges k (end_a edges k) (end_b edges k) ≡ (is_loop edges k || repeats_earlier edges k)
   unfolding linked is_loop repeats_earlier
-  linked-fault h = ap (λ (b : Bool). (b && eqb (end_a edges k) (end_b edges k)) || any k (joins edges (end_a edges k) (end_b edges k))) (T_true (ltb (end_a edges k) n) (lt→ltb (end_a edges k) n h))
+  linked_fault h = ap (λ (b : Bool). (b && eqb (end_a edges k) (end_b edges k)) || any k (joins edges (end_a edges k) (end_b edges k))) (T_true (ltb (end_a edges k) n) (lt→ltb (end_a edges k) n h))
 
-  linked-comm : (u v : ℕ) → linked n edges k u v ≡ linked n edges k v u
+  linked_comm : (u v : ℕ) → linked n edges k u v ≡ linked n edges k v u
   unfolding linked
-  linked-comm u v = ap₂ ◌||◌ (T-ext (ltb u n && eqb u v) (ltb v n && eqb v u) (turn u v) (turn v u)) (any_swap k)
+  linked_comm u v = ap₂ ◌||◌ (T-ext (ltb u n && eqb u v) (ltb v n && eqb v u) (turn u v) (turn v u)) (any_swap k)
     where
       turn : (a b : ℕ) → T (ltb a n && eqb a b) → T (ltb b n && eqb b a)
       turn a b t =
@@ -163,44 +163,44 @@ module _ (n : ℕ) (edges : List ℕ) (k : ℕ) where
       any_swap : (i : ℕ) → any i (joins edges u v) ≡ any i (joins edges v u)
       any_swap i = any_cong i (joins edges u v) (joins edges v u) (λ j h. joins_comm edges u v j)
 
-  linked-self : (u : ℕ) → u < n → T (linked n edges k u u)
+  linked_self : (u : ℕ) → u < n → T (linked n edges k u u)
   unfolding linked
-  linked-self u h = or_left (ltb u n && eqb u u) (any k (joins edges u u)) (and_make (ltb u n) (eqb u u) (lt→ltb u n h) (eqb_refl u))
+  linked_self u h = or_left (ltb u n && eqb u u) (any k (joins edges u u)) (and_make (ltb u n) (eqb u u) (lt→ltb u n h) (eqb_refl u))
 
   -- where u and v are not linked, v and u are not either, also once the first cell is marked
-  pub second-new : {rows : List ℕ} → Table rows (linked n edges k) → (u v : ℕ) → u < n → u < 512 → v < 512 → cell rows u v ≡ 0
+  pub second_new : {rows : List ℕ} → Table rows (linked n edges k) → (u v : ℕ) → u < n → u < 512 → v < 512 → cell rows u v ≡ 0
       → cell (with_bit rows (u * 512 + v)) v u ≡ 0
-  second-new {rows} t u v h hu hv z =
+  second_new {rows} t u v h hu hv z =
       let other : u ≡ v → ⊥ =
-      λ e. let one = t.bits u u hu hu ∙ bit_true (linked n edges k u u) (linked-self u h) in
+      λ e. let one = t.bits u u hu hu ∙ bit_true (linked n edges k u u) (linked_self u h) in
       let same : cell rows u u ≡ cell rows u v = ap (cell rows u) e in omega (arith, one, same, z) in
       bit_at_set_other rows (u * 512 + v) (v * 512 + u) (λ e. other (omega arith))
-      ∙ t.bits v u hv hu ∙ ap bit (linked-comm v u) ∙ sym (t.bits u v hu hv) ∙ z
+      ∙ t.bits v u hv hu ∙ ap bit (linked_comm v u) ∙ sym (t.bits u v hu hv) ∙ z
 
   -- what an edge's fault is
-  pub end-told : (u v : ℕ) (x : Bool) → u ≡ end_a edges k → v ≡ end_b edges k → not (ltb u n && ltb v n) ≡ x → bad_end edges n k ≡ x
+  pub end_told : (u v : ℕ) (x : Bool) → u ≡ end_a edges k → v ≡ end_b edges k → not (ltb u n && ltb v n) ≡ x → bad_end edges n k ≡ x
   unfolding bad_end
-  end-told u v x p q e = ap₂ (λ (a b : ℕ). not (ltb a n && ltb b n)) (sym p) (sym q) ∙ e
+  end_told u v x p q e = ap₂ (λ (a b : ℕ). not (ltb a n && ltb b n)) (sym p) (sym q) ∙ e
 
-  pub fault-end : bad_end edges n k ≡ true → faulty edges n k ≡ true
+  pub fault_end : bad_end edges n k ≡ true → faulty edges n k ≡ true
   unfolding faulty
-  fault-end e = ap (λ (b : Bool). b || (is_loop edges k || repeats_earlier edges k)) e
+  fault_end e = ap (λ (b : Bool). b || (is_loop edges k || repeats_earlier edges k)) e
 
-  pub fault-linked : bad_end edges n k ≡ false → end_a edges k < n → faulty edges n k ≡ linked n edges k (end_a edges k) (end_b edges k)
+  pub fault_linked : bad_end edges n k ≡ false → end_a edges k < n → faulty edges n k ≡ linked n edges k (end_a edges k) (end_b edges k)
   unfolding faulty
-  fault-linked e h = ap (λ (b : Bool). b || (is_loop edges k || repeats_earlier edges k)) e ∙ sym (linked-fault h)
+  fault_linked e h = ap (λ (b : Bool). b || (is_loop edges k || repeats_earlier edges k)) e ∙ sym (linked_fault h)
 
 -- ---- what adding the edges tells
 module _ (edges : List ℕ) (n m k : ℕ) (none : T (not (any k (faulty edges n)))) where
-  pub added-no : (rows sizes : List ℕ) → k < m → faulty edges n k ≡ true → Added edges n m k rows sizes
-  added-no rows sizes h e = record {
+  pub added_no : (rows sizes : List ℕ) → k < m → faulty edges n k ≡ true → Added edges n m k rows sizes
+  added_no rows sizes h e = record {
     first = scan_found m (faulty edges n) k h none e;
     table = λ l. absurd (omega arith);
     counted = λ l. absurd (omega arith);
   }
 
-  pub added-yes : {rows sizes : List ℕ} → k ≡ m → Table rows (linked n edges k) → Counted rows sizes → Added edges n m k rows sizes
-  added-yes {rows} {sizes} e t c = record {
+  pub added_yes : {rows sizes : List ℕ} → k ≡ m → Table rows (linked n edges k) → Counted rows sizes → Added edges n m k rows sizes
+  added_yes {rows} {sizes} e t c = record {
     first = scan_ended m (faulty edges n) k e none;
     table = λ l. subst (λ (j : ℕ). Table rows (linked n edges j)) e t;
     counted = λ l. c;

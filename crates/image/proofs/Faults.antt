@@ -2,11 +2,11 @@
 -- get a yes of all edges, the fault is a repeat, and the first one.
 --
 --     find_cong           equal tests find the same
---     first-repeat        the first fault is the first repeat, where no edge is at fault for question 8 or 9
---     edges-yes           no fault: questions 8 to 10 get a yes
---     edges-repeat        the first fault is the refusal with number 10
+--     first_repeat        the first fault is the first repeat, where no edge is at fault for question 8 or 9
+--     edges_yes           no fault: questions 8 to 10 get a yes
+--     edges_repeat        the first fault is the refusal with number 10
 --     held_no, held_yes   what the tables have after a no, and after a yes; held_related, related_linked: the same, of the image's own records
---     reading-yes, reading-no     so the reader's answer, rows and sizes are what the definition says
+--     reading_yes, reading_no     so the reader's answer, rows and sizes are what the definition says
 use Prim.Native.Nat.{ℕ, zero, suc, ◌*◌, ◌≤◌, ◌<◌}
 use native.Mathlib.Omega.{arith}
 use mathlib.Core.Path.{◌≡◌, refl, sym, ap, ◌∙◌, subst}
@@ -27,8 +27,8 @@ use Rattle.image.specs.declared.Refusal.{Refusal}
 use Rattle.image.specs.declared.Opened.{Opened}
 use Rattle.image.specs.declared.Opened.TheVariants.{Site, Refused}
 use Rattle.image.proofs.Rows.{cleared_room}
-use Rattle.image.proofs.Acceptance.{go-on-each}
-use Rattle.image.proofs.Scanning.{each-no, none_bad}
+use Rattle.image.proofs.Acceptance.{go_on_each}
+use Rattle.image.proofs.Scanning.{each_no, none_bad}
 
 pub find_cong : (n : ℕ) (f g : ℕ → Bool) → ((k : ℕ) → k < n → f k ≡ g k) → find n f ≡ find n g
 unfolding find
@@ -38,43 +38,43 @@ find_cong (suc n) f g e =
 
 module _ (edges : List ℕ) (n : ℕ) where
   -- an edge that is not at fault
-  no-bad : (k : ℕ) → T (not (faulty edges n k)) → T (not (bad_end edges n k))
+  no_bad : (k : ℕ) → T (not (faulty edges n k)) → T (not (bad_end edges n k))
   unfolding faulty
-  no-bad k t = not_T (bad_end edges n k) (λ x. T_not (faulty edges n k) t (or_left (bad_end edges n k) (is_loop edges k || repeats_earlier edges k) x))
+  no_bad k t = not_T (bad_end edges n k) (λ x. T_not (faulty edges n k) t (or_left (bad_end edges n k) (is_loop edges k || repeats_earlier edges k) x))
 
   no_loop : (k : ℕ) → T (not (faulty edges n k)) → T (not (is_loop edges k))
   unfolding faulty
   no_loop k t = not_T (is_loop edges k) (λ x. T_not (faulty edges n k) t (or_right (bad_end edges n k) (is_loop edges k || repeats_earlier edges k) (or_left (is_loop edges k) (repeats_earlier edges k) x)))
 
-  no-repeat : (k : ℕ) → T (not (faulty edges n k)) → T (not (repeats_earlier edges k))
+  no_repeat : (k : ℕ) → T (not (faulty edges n k)) → T (not (repeats_earlier edges k))
   unfolding faulty
-  no-repeat k t = not_T (repeats_earlier edges k) (λ x. T_not (faulty edges n k) t (or_right (bad_end edges n k) (is_loop edges k || repeats_earlier edges k) (or_right (is_loop edges k) (repeats_earlier edges k) x)))
+  no_repeat k t = not_T (repeats_earlier edges k) (λ x. T_not (faulty edges n k) t (or_right (bad_end edges n k) (is_loop edges k || repeats_earlier edges k) (or_right (is_loop edges k) (repeats_earlier edges k) x)))
 
   -- where an edge is at fault for neither 8 nor 9, it is at fault just where it repeats an earlier one
-  fault-repeat : (k : ℕ) → T (not (bad_end edges n k)) → T (not (is_loop edges k)) → faulty edges n k ≡ repeats_earlier edges k
+  fault_repeat : (k : ℕ) → T (not (bad_end edges n k)) → T (not (is_loop edges k)) → faulty edges n k ≡ repeats_earlier edges k
   unfolding faulty
-  fault-repeat k b l = rw (T_false (bad_end edges n k) b, T_false (is_loop edges k) l) refl
+  fault_repeat k b l = rw (T_false (bad_end edges n k) b, T_false (is_loop edges k) l) refl
 
-  pub first-repeat : (m : ℕ) → ((k : ℕ) → k < m → T (not (bad_end edges n k))) → ((k : ℕ) → k < m → T (not (is_loop edges k)))
+  pub first_repeat : (m : ℕ) → ((k : ℕ) → k < m → T (not (bad_end edges n k))) → ((k : ℕ) → k < m → T (not (is_loop edges k)))
       → find m (faulty edges n) ≡ find m (repeats_earlier edges)
-  first-repeat m b l = find_cong m (faulty edges n) (repeats_earlier edges) (λ k h. fault-repeat k (b k h) (l k h))
+  first_repeat m b l = find_cong m (faulty edges n) (repeats_earlier edges) (λ k h. fault_repeat k (b k h) (l k h))
 
 module _ (edges : List ℕ) (h : Header) (found : ℕ) (first : found ≡ find h.m (faulty edges h.n)) where
-  pub edges-yes : h.m ≤ found → ask_edges edges h ≡ Site h
+  pub edges_yes : h.m ≤ found → ask_edges edges h ≡ Site h
   unfolding ask_edges
-  edges-yes l =
+  edges_yes l =
       let none = any_none h.m (faulty edges h.n) (none_bad h.m (faulty edges h.n) (omega arith)) in
-      go-on-each h.m (bad_end edges h.n) 8 _ (λ k q. no-bad edges h.n k (none k q))
-      ∙ go-on-each h.m (is_loop edges) 9 _ (λ k q. no_loop edges h.n k (none k q))
-      ∙ go-on-each h.m (repeats_earlier edges) 10 _ (λ k q. no-repeat edges h.n k (none k q))
+      go_on_each h.m (bad_end edges h.n) 8 _ (λ k q. no_bad edges h.n k (none k q))
+      ∙ go_on_each h.m (is_loop edges) 9 _ (λ k q. no_loop edges h.n k (none k q))
+      ∙ go_on_each h.m (repeats_earlier edges) 10 _ (λ k q. no_repeat edges h.n k (none k q))
 
-  pub edges-repeat : found < h.m → ((k : ℕ) → k < h.m → T (not (bad_end edges h.n k))) → ((k : ℕ) → k < h.m → T (not (is_loop edges k)))
+  pub edges_repeat : found < h.m → ((k : ℕ) → k < h.m → T (not (bad_end edges h.n k))) → ((k : ℕ) → k < h.m → T (not (is_loop edges k)))
       → ask_edges edges h ≡ Refused (record { number = 10; place = found })
   unfolding ask_edges
-  edges-repeat l b o =
-      go-on-each h.m (bad_end edges h.n) 8 _ b
-      ∙ go-on-each h.m (is_loop edges) 9 _ o
-      ∙ each-no h.m (repeats_earlier edges) found (first ∙ first-repeat edges h.n h.m b o) 10 _ l
+  edges_repeat l b o =
+      go_on_each h.m (bad_end edges h.n) 8 _ b
+      ∙ go_on_each h.m (is_loop edges) 9 _ o
+      ∙ each_no h.m (repeats_earlier edges) found (first ∙ first_repeat edges h.n h.m b o) 10 _ l
 
 -- ---- what is left behind
 no_site : {r : Refusal} {h : Header} → Refused r ≡ Site h → ⊥
@@ -99,16 +99,16 @@ held_related s h e {answer} {rows} {sizes} l =
     subst (λ (x : Header). Held (linked x.n (take (edge_bytes * x.m) (drop x.edges s)) x.m) answer rows sizes) e l
 
 module _ (s : List ℕ) (answer : Opened) (is : answer ≡ open_of s) where
-  pub reading-yes : {rows sizes : List ℕ} (h : Header) → answer ≡ Site h → Room rows sizes → Held (related s) answer rows sizes → Reading s answer rows sizes
-  reading-yes h e room k = record {
+  pub reading_yes : {rows sizes : List ℕ} (h : Header) → answer ≡ Site h → Room rows sizes → Held (related s) answer rows sizes → Reading s answer rows sizes
+  reading_yes h e room k = record {
     answered = ap open_answer is;
     room = room;
     held = k;
     cleared = λ x d. absurd (no_site (sym d ∙ e));
   }
 
-  pub reading-no : (r : Refusal) → answer ≡ Refused r → Reading s answer (zeros 4096) (zeros 512)
-  reading-no r e = record {
+  pub reading_no : (r : Refusal) → answer ≡ Refused r → Reading s answer (zeros 4096) (zeros 512)
+  reading_no r e = record {
     answered = ap open_answer is;
     room = cleared_room (refl, refl);
     held = held_no r e;

@@ -1,6 +1,6 @@
 -- The records of the two tables as code reads them: each is the slice of its table from its place on, and a number in it is the table's.
 --
---     slice_is           the slice from a to a + k is the k bytes from a on; edgeSlice-is, handsetSlice-is: so the slices that code hands on are the records
+--     slice_is           the slice from a to a + k is the k bytes from a on; edge_slice_is, handset_slice_is: so the slices that code hands on are the records
 --     handset_slice_lem      the slice that a handset's record stands in is its record
 --     ends_slice         the ends that the slice of an edge's record holds are the edge's ends
 use Prim.Native.Nat.{ℕ, ◌+◌, ◌*◌, ◌-◌, ◌≤◌}
@@ -26,13 +26,13 @@ abbrev pub handset_slice : List ℕ → Header → List ℕ
 handset_slice s h = take (h.handsets + handset_bytes * h.n - h.handsets) (drop h.handsets s)
 
 module _ (s : List ℕ) (h : Header) (e : h ≡ header_of s) where
-  pub edgeSlice-is : edge_slice s h ≡ edge_records s
+  pub edge_slice_is : edge_slice s h ≡ edge_records s
   unfolding edge_records
-  edgeSlice-is = slice_is s h.edges (edge_bytes * h.m) ∙ ap (λ (x : Header). take (edge_bytes * x.m) (drop x.edges s)) e
+  edge_slice_is = slice_is s h.edges (edge_bytes * h.m) ∙ ap (λ (x : Header). take (edge_bytes * x.m) (drop x.edges s)) e
 
-  pub handsetSlice-is : handset_slice s h ≡ handset_records s
+  pub handset_slice_is : handset_slice s h ≡ handset_records s
   unfolding handset_records
-  handsetSlice-is = slice_is s h.handsets (handset_bytes * h.n) ∙ ap (λ (x : Header). take (handset_bytes * x.n) (drop x.handsets s)) e
+  handset_slice_is = slice_is s h.handsets (handset_bytes * h.n) ∙ ap (λ (x : Header). take (handset_bytes * x.n) (drop x.handsets s)) e
 
 pub handset_slice_lem : (records : List ℕ) (v : ℕ) → take (handset_bytes * v + handset_bytes - handset_bytes * v) (drop (handset_bytes * v) records) ≡ handset_record records v
 unfolding handset_record

@@ -1,7 +1,7 @@
 -- Tables of rows of bits, and the sizes of the rows. A bit more in a row is one more in its size, and changes no other row.
 --
 --     cleared_room, -bit, -counted  a cleared table has room and no bit, and its sizes are those of its rows
---     counted-add                   the sizes with a bit more
+--     counted_add                   the sizes with a bit more
 --     row_most                      no size is above 512
 --     zero_is                       a bit that the test for it tells to be 0
 --     table_cong, table_has         equal relations have equal tables; the test of a cell is the relation
@@ -18,7 +18,7 @@ use Rattle.sets.specs.Below.{bit, sum}
 use Rattle.sets.specs.Bits.{bit_at, cell, with_bit}
 use Rattle.sets.proofs.Tests.{eqb_of}
 use Rattle.sets.proofs.Counting.{sum_cong, sum_le, sum_zero, sum_const}
-use Rattle.sets.proofs.Bits.{bit_at_lt, bit_at_zeros, bitAt-set-same, bit_at_set_other, sum_drop}
+use Rattle.sets.proofs.Bits.{bit_at_lt, bit_at_zeros, bit_at_set_same, bit_at_set_other, sum_drop}
 use Rattle.sets.specs.Rows.{Table, Counted}
 use Rattle.image.specs.Rows.{Room, Cleared}
 
@@ -39,21 +39,21 @@ module _ (rows sizes : List ℕ) (u v : ℕ) (hu : u < 512) (hv : v < 512) (room
   abbrev next : List ℕ
   next = with_bit rows (u * 512 + v)
 
-  row-added : sum 512 (λ w. cell rows u w) + 1 ≡ sum 512 (λ w. cell next u w)
-  row-added =
+  row_added : sum 512 (λ w. cell rows u w) + 1 ≡ sum 512 (λ w. cell next u w)
+  row_added =
       sum_drop (λ w. cell next u w) (λ w. cell rows u w) v 512 hv
-      (bitAt-set-same rows (u * 512 + v) (omega (arith, room.0, hu, hv))) new
+      (bit_at_set_same rows (u * 512 + v) (omega (arith, room.0, hu, hv))) new
       (λ w d. sym (bit_at_set_other rows (u * 512 + v) (u * 512 + w) (λ e. d (omega arith))))
 
-  pub counted-add : Counted next (set sizes u (get_or sizes u 0 + 1))
-  counted-add = record { rows = λ a l. go a l (ℕ_discrete a u) }
+  pub counted_add : Counted next (set sizes u (get_or sizes u 0 + 1))
+  counted_add = record { rows = λ a l. go a l (ℕ_discrete a u) }
     where
       go : (a : ℕ) → a < 512 → Dec (a ≡ u) → get_or (set sizes u (get_or sizes u 0 + 1)) a 0 ≡ sum 512 (λ w. cell next a w)
       go a l (yes e) =
           ap (λ (k : ℕ). get_or (set sizes u (get_or sizes u 0 + 1)) k 0) e
           ∙ get_or-set_same sizes u (get_or sizes u 0 + 1) 0 (omega (arith, hu, room.1))
           ∙ ap (λ (k : ℕ). k + 1) (c.rows u hu)
-          ∙ row-added
+          ∙ row_added
           ∙ ap (λ (k : ℕ). sum 512 (λ w. cell next k w)) (sym e)
       go a l (no d) =
           get_or-set_other sizes u a (get_or sizes u 0 + 1) 0 d

@@ -1,11 +1,11 @@
 -- Laws of a scan of the records from 0 up, which stops at the first bad one: what its loop keeps, and what the reader makes of its answer.
 --
---     bad-handset, bad-end, bad-loop           what makes a record bad, by its question
---     handset-found, end_found, loop-found     the first bad record is the question's
+--     bad_handset, bad_end_lem, bad_loop           what makes a record bad, by its question
+--     handset_found, end_found, loop_found     the first bad record is the question's
 --     scan_none, scan_more                     no record passed was bad: at the start, and after one more
 --     scan_found, scan_ended                   so the place where the scan stops is `find`
 --     none_bad                                 none is bad where the first is the end
---     each-no, each-yes, each-passed           a question to each record, by whether the scan came to the end
+--     each_no, each_yes, each_passed           a question to each record, by whether the scan came to the end
 use Prim.Native.Nat.{ℕ, ◌+◌, ◌≤◌, ◌<◌}
 use native.Mathlib.Omega.{arith}
 use native.Mathlib.Numerals.{add-one}
@@ -25,30 +25,30 @@ use Rattle.image.specs.declared.Opened.{Opened}
 use Rattle.image.specs.declared.Opened.TheVariants.{Refused}
 
 module _ (question : ℕ) (records : List ℕ) (n k : ℕ) where
-  pub bad-handset : question ≡ 7 → bad_record question records n k ≡ out_of_limits (handset_record records k)
+  pub bad_handset : question ≡ 7 → bad_record question records n k ≡ out_of_limits (handset_record records k)
   unfolding bad_record
-  bad-handset e = ap (λ (q : ℕ). bad_record q records n k) e
+  bad_handset e = ap (λ (q : ℕ). bad_record q records n k) e
 
-  pub bad-end : question ≡ 8 → bad_record question records n k ≡ bad_end records n k
+  pub bad_end_lem : question ≡ 8 → bad_record question records n k ≡ bad_end records n k
   unfolding bad_record
-  bad-end e = ap (λ (q : ℕ). bad_record q records n k) e
+  bad_end_lem e = ap (λ (q : ℕ). bad_record q records n k) e
 
-  pub bad-loop : (question ≡ 7 → ⊥) → (question ≡ 8 → ⊥) → bad_record question records n k ≡ is_loop records k
+  pub bad_loop : (question ≡ 7 → ⊥) → (question ≡ 8 → ⊥) → bad_record question records n k ≡ is_loop records k
   unfolding bad_record
-  bad-loop d e = rw (ne_eqb question 7 d, ne_eqb question 8 e)
+  bad_loop d e = rw (ne_eqb question 7 d, ne_eqb question 8 e)
 
 module _ (records : List ℕ) (n count r : ℕ) where
-  pub handset-found : r ≡ find count (bad_record 7 records n) → r ≡ find count (λ v. out_of_limits (handset_record records v))
+  pub handset_found : r ≡ find count (bad_record 7 records n) → r ≡ find count (λ v. out_of_limits (handset_record records v))
   unfolding bad_record
-  handset-found e = e
+  handset_found e = e
 
   pub end_found : r ≡ find count (bad_record 8 records n) → r ≡ find count (bad_end records n)
   unfolding bad_record
   end_found e = e
 
-  pub loop-found : r ≡ find count (bad_record 9 records n) → r ≡ find count (is_loop records)
+  pub loop_found : r ≡ find count (bad_record 9 records n) → r ≡ find count (is_loop records)
   unfolding bad_record
-  loop-found e = e
+  loop_found e = e
 
 pub scan_none : (f : ℕ → Bool) → T (not (any 0 f))
 unfolding any
@@ -71,13 +71,13 @@ some_bad : (n : ℕ) (bad : ℕ → Bool) → find n bad < n → T (any n bad)
 some_bad n bad h = ⊎_elim (λ t. t) (λ t. absurd (omega (arith, find_none n bad t))) (decide (any n bad))
 
 module _ (n : ℕ) (bad : ℕ → Bool) (r : ℕ) (found : r ≡ find n bad) where
-  pub each-no : (number : ℕ) (next : Opened) → r < n → ask_each n bad number next ≡ Refused (record { number = number; place = r })
+  pub each_no : (number : ℕ) (next : Opened) → r < n → ask_each n bad number next ≡ Refused (record { number = number; place = r })
   unfolding ask_each ask
-  each-no number next h = rw (T_true (any n bad) (some_bad n bad (omega arith)), ← found)
+  each_no number next h = rw (T_true (any n bad) (some_bad n bad (omega arith)), ← found)
 
-  pub each-yes : (number : ℕ) (next : Opened) → n ≤ r → ask_each n bad number next ≡ next
+  pub each_yes : (number : ℕ) (next : Opened) → n ≤ r → ask_each n bad number next ≡ next
   unfolding ask_each ask
-  each-yes number next h = rw (T_false (any n bad) (none_bad n bad (omega arith)))
+  each_yes number next h = rw (T_false (any n bad) (none_bad n bad (omega arith)))
 
-  pub each-passed : n ≤ r → (k : ℕ) → k < n → T (not (bad k))
-  each-passed h = any_none n bad (none_bad n bad (omega arith))
+  pub each_passed : n ≤ r → (k : ℕ) → k < n → T (not (bad k))
+  each_passed h = any_none n bad (none_bad n bad (omega arith))

@@ -2,8 +2,8 @@
 -- one table is coordinate j % coordinate_count of handset j / coordinate_count, and number j of the other an end of edge j / end_count.
 --
 --     word_below, signed_word, word_signed     a signed coordinate and the number in its bytes; shifted_word, shifted_raised: the same plus 2 ^ 31, and back
---     coordinate-place                         where a coordinate's bytes stand in the handset records
---     first-place, second-place                where the ends of an edge stand in the edge records
+--     coordinate_place                         where a coordinate's bytes stand in the handset records
+--     first_place, second_place                where the ends of an edge stand in the edge records
 --     coordinate_written, end_written          what is read there
 --     coordinate_raised, out_of_limits_lem         the same plus 2 ^ 31, and its limits
 --     record_numbers                           the theorem of specs/Layout
@@ -67,20 +67,20 @@ shifted_raised (negsuc x) h = omega arith
 -- ---- places
 
 module _ (records : List ℕ) where
-  pub coordinate-place : (v i : ℕ) → i < coordinate_count
+  pub coordinate_place : (v i : ℕ) → i < coordinate_count
       → number coordinate_bytes (handset_record records v) (coordinate_bytes * i) ≡ number coordinate_bytes records (coordinate_bytes * (coordinate_count * v + i))
   unfolding handset_record
-  coordinate-place v i h =
+  coordinate_place v i h =
       number_slice coordinate_bytes records (handset_bytes * v) handset_bytes (coordinate_bytes * i) (omega arith) (omega arith)
       ∙ ap (number coordinate_bytes records) (omega arith)
 
-  pub first-place : (k : ℕ) → end_a records k ≡ number end_bytes records (end_bytes * (end_count * k))
+  pub first_place : (k : ℕ) → end_a records k ≡ number end_bytes records (end_bytes * (end_count * k))
   unfolding end_a
-  first-place k = ap (number end_bytes records) (omega arith)
+  first_place k = ap (number end_bytes records) (omega arith)
 
-  pub second-place : (k : ℕ) → end_b records k ≡ number end_bytes records (end_bytes * (end_count * k + 1))
+  pub second_place : (k : ℕ) → end_b records k ≡ number end_bytes records (end_bytes * (end_count * k + 1))
   unfolding end_b
-  second-place k = ap (number end_bytes records) (omega arith)
+  second_place k = ap (number end_bytes records) (omega arith)
 
 -- ---- tables in bytes
 
@@ -98,7 +98,7 @@ coordinate_raised : (coords : List ℤ) → Signed32 coords → (v i : ℕ) → 
     → coordinate_of (handset_record (handset_table coords) v) i ≡ raised (get_or coords (coordinate_count * v + i) (pos 0))
 unfolding coordinate_of
 coordinate_raised coords signed v i l h =
-    ap shifted (coordinate-place (handset_table coords) v i l ∙ coordinate_written coords signed (coordinate_count * v + i) h)
+    ap shifted (coordinate_place (handset_table coords) v i l ∙ coordinate_written coords signed (coordinate_count * v + i) h)
     ∙ shifted_word (get_or coords (coordinate_count * v + i) (pos 0)) (signed (coordinate_count * v + i))
 
 out_of_limits_lem : (coords : List ℤ) → Signed32 coords → (v : ℕ) → coordinate_count * v + coordinate_count ≤ length coords
@@ -114,6 +114,6 @@ pub record_numbers : RecordNumbers
 record_numbers = record {
   coordinates = coordinate_raised;
   limits = out_of_limits_lem;
-  first_ends = λ ends low k h. first-place (edge_table ends) k ∙ end_written ends low (end_count * k) h;
-  second_ends = λ ends low k h. second-place (edge_table ends) k ∙ end_written ends low (end_count * k + 1) h;
+  first_ends = λ ends low k h. first_place (edge_table ends) k ∙ end_written ends low (end_count * k) h;
+  second_ends = λ ends low k h. second_place (edge_table ends) k ∙ end_written ends low (end_count * k + 1) h;
 }

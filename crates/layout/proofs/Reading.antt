@@ -1,13 +1,13 @@
 -- What the reader finds in the image of a site's numbers. The header has fixed widths, so what stands from a field's place on is the field's bytes by computing;
 -- the records are what stands after them. Questions 3, 5 and 6 of the writer make every number fit its field, so that 1 to 6 of the reader get a yes.
 --
---     length-image                  the header, and the bytes of each coordinate and of each end
---     image-below                   every number of the image is a byte
+--     length_image                  the header, and the bytes of each coordinate and of each end
+--     image_below                   every number of the image is a byte
 --     Asked x coords ends           questions 3, 5 and 6 of the writer got a yes
---     asked-length, header_read     then the image is as long as its header says, and its header is read back
---     handsets-read, edges-read     the records are the tables in bytes
---     header-accepted               questions 1 to 6 of the reader get a yes
---     open-image                    and what is left to ask is 7 to 10
+--     asked_length, header_read     then the image is as long as its header says, and its header is read back
+--     handsets_read, edges_read     the records are the tables in bytes
+--     header_accepted               questions 1 to 6 of the reader get a yes
+--     open_image                    and what is left to ask is 7 to 10
 use Prim.Native.Nat.{ℕ, ◌+◌, ◌*◌, ◌^◌, ◌≤◌, ◌<◌}
 use native.Mathlib.Omega.{arith}
 use mathlib.Core.Path.{◌≡◌, refl, sym, ap, ap₂, ◌∙◌, subst}
@@ -25,7 +25,7 @@ use Rattle.limits.specs.Limits.{counts_fit, thresholds_fit}
 use Rattle.image.specs.Image.{header_of, handset_records, edge_records}
 use Rattle.image.specs.Questions.{tables_fit, ask_records, open_of, HeaderAccepted}
 use Rattle.image.specs.declared.Header.{Header}
-use Rattle.image.proofs.Acceptance.{fits, go-on-header}
+use Rattle.image.proofs.Acceptance.{fits, go_on_header}
 use Rattle.layout.specs.Layout.{header_for, header_bytes_of, word32, handset_table, edge_table, image_of, lengths_fit}
 use Rattle.layout.specs.declared.Parameters.{Parameters}
 
@@ -38,18 +38,18 @@ module _ (x : Parameters) (coords : List ℤ) (ends : List ℕ) where
   abbrev h : Header
   h = header_for x
 
-  length-image : length image ≡ header_bytes + (coordinate_bytes * length coords + end_bytes * length ends)
+  length_image : length image ≡ header_bytes + (coordinate_bytes * length coords + end_bytes * length ends)
   unfolding image_of header_bytes_of le_bytes
-  length-image =
+  length_image =
       omega (arith, length-append (handset_table coords) (edge_table ends), length_table_bytes coordinate_bytes (map word32 coords), length_table_bytes end_bytes ends, length-map coords word32)
 
-  after-header : drop header_bytes image ≡ handset_table coords ++ edge_table ends
+  after_header : drop header_bytes image ≡ handset_table coords ++ edge_table ends
   unfolding image_of header_bytes_of le_bytes
-  after-header = refl
+  after_header = refl
 
-  pub image-below : Below 256 image
+  pub image_below : Below 256 image
   unfolding image_of header_bytes_of
-  image-below =
+  image_below =
       let l9 : List ℕ = le_bytes 2 h.width in
       let l8 : List ℕ = le_bytes 2 h.mu ++ l9 in
       let l7 : List ℕ = le_bytes 2 h.q ++ l8 in
@@ -69,7 +69,7 @@ module _ (x : Parameters) (coords : List ℤ) (ends : List ℕ) where
 
   -- a field whose bytes begin what stands from its place on
   field : (w v at : ℕ) (rest : List ℕ) → v < 256 ^ w → at + w ≤ header_bytes → drop at image ≡ le_bytes w v ++ rest → number w image at ≡ v
-  field w v at rest small l e = number_at w v image at rest small (omega (arith, length-image)) e
+  field w v at rest small l e = number_at w v image at rest small (omega (arith, length_image)) e
 
 -- ---- an image whose numbers fit
 
@@ -94,14 +94,14 @@ module _ (x : Parameters) (coords : List ℤ) (ends : List ℕ) (ok : Asked x co
   abbrev made : Header
   made = header_for x
 
-  pub coords-length : length coords ≡ coordinate_count * x.n
-  coords-length = eqb→eq (length coords) (coordinate_count * x.n) (and_left (eqb (length coords) (coordinate_count * x.n)) (eqb (length ends) (end_count * x.m)) ok.q6)
+  pub coords_length : length coords ≡ coordinate_count * x.n
+  coords_length = eqb→eq (length coords) (coordinate_count * x.n) (and_left (eqb (length coords) (coordinate_count * x.n)) (eqb (length ends) (end_count * x.m)) ok.q6)
 
-  pub ends-length : length ends ≡ end_count * x.m
-  ends-length = eqb→eq (length ends) (end_count * x.m) (and_right (eqb (length coords) (coordinate_count * x.n)) (eqb (length ends) (end_count * x.m)) ok.q6)
+  pub ends_length : length ends ≡ end_count * x.m
+  ends_length = eqb→eq (length ends) (end_count * x.m) (and_right (eqb (length coords) (coordinate_count * x.n)) (eqb (length ends) (end_count * x.m)) ok.q6)
 
-  pub asked-length : length (image_of x coords ends) ≡ made.len
-  asked-length = omega (arith, length-image x coords ends, coords-length, ends-length)
+  pub asked_length : length (image_of x coords ends) ≡ made.len
+  asked_length = omega (arith, length_image x coords ends, coords_length, ends_length)
 
   pub header_read : header_of (image_of x coords ends) ≡ made
   unfolding image_of header_bytes_of le_bytes header_of
@@ -121,43 +121,43 @@ module _ (x : Parameters) (coords : List ℤ) (ends : List ℕ) (ok : Asked x co
         width = read 2 made.width 30 _ (omega arith) (omega arith) refl i;
       }
 
-  handsets-long : length (handset_table coords) ≡ handset_bytes * x.n
-  handsets-long = omega (arith, length_table_bytes coordinate_bytes (map word32 coords), length-map coords word32, coords-length)
+  handsets_long : length (handset_table coords) ≡ handset_bytes * x.n
+  handsets_long = omega (arith, length_table_bytes coordinate_bytes (map word32 coords), length-map coords word32, coords_length)
 
-  edges-long : length (edge_table ends) ≡ edge_bytes * x.m
-  edges-long = omega (arith, length_table_bytes end_bytes ends, ends-length)
+  edges_long : length (edge_table ends) ≡ edge_bytes * x.m
+  edges_long = omega (arith, length_table_bytes end_bytes ends, ends_length)
 
-  pub handsets-read : handset_records (image_of x coords ends) ≡ handset_table coords
+  pub handsets_read : handset_records (image_of x coords ends) ≡ handset_table coords
   unfolding handset_records
-  handsets-read =
+  handsets_read =
       ap (λ (g : Header). take (handset_bytes * g.n) (drop g.handsets (image_of x coords ends))) header_read
-      ∙ ap (take (handset_bytes * x.n)) (after-header x coords ends)
-      ∙ take_at (handset_table coords) (edge_table ends) (handset_bytes * x.n) handsets-long
+      ∙ ap (take (handset_bytes * x.n)) (after_header x coords ends)
+      ∙ take_at (handset_table coords) (edge_table ends) (handset_bytes * x.n) handsets_long
 
-  pub edges-read : edge_records (image_of x coords ends) ≡ edge_table ends
+  pub edges_read : edge_records (image_of x coords ends) ≡ edge_table ends
   unfolding edge_records
-  edges-read =
+  edges_read =
       ap (λ (g : Header). take (edge_bytes * g.m) (drop g.edges (image_of x coords ends))) header_read
       ∙ ap (take (edge_bytes * x.m))
-      (sym (drop-drop (handset_bytes * x.n) header_bytes (image_of x coords ends)) ∙ ap (drop (handset_bytes * x.n)) (after-header x coords ends)
-      ∙ drop_at (handset_table coords) (edge_table ends) (handset_bytes * x.n) handsets-long)
-      ∙ take_all (edge_bytes * x.m) (edge_table ends) (omega (arith, edges-long))
+      (sym (drop-drop (handset_bytes * x.n) header_bytes (image_of x coords ends)) ∙ ap (drop (handset_bytes * x.n)) (after_header x coords ends)
+      ∙ drop_at (handset_table coords) (edge_table ends) (handset_bytes * x.n) handsets_long)
+      ∙ take_all (edge_bytes * x.m) (edge_table ends) (omega (arith, edges_long))
 
-  pub header-accepted : HeaderAccepted (image_of x coords ends)
-  header-accepted =
+  pub header_accepted : HeaderAccepted (image_of x coords ends)
+  header_accepted =
       let image : List ℕ = image_of x coords ends in
       record {
-        q1 = le→leb header_bytes (length image) (omega (arith, asked-length));
-        q2 = eqb_of (header_of image).len (length image) (ap (λ (g : Header). g.len) header_read ∙ sym asked-length);
+        q1 = le→leb header_bytes (length image) (omega (arith, asked_length));
+        q2 = eqb_of (header_of image).len (length image) (ap (λ (g : Header). g.len) header_read ∙ sym asked_length);
         q3 = subst (λ (g : Header). T (counts_fit g.n g.m)) (sym header_read) ok.q3;
         q4 = eqb_of (header_of image).width handset_bytes (ap (λ (g : Header). g.width) header_read);
         q5 = subst (λ (g : Header). T (thresholds_fit g.limit g.p g.q g.mu)) (sym header_read) ok.q5;
         q6 = subst (λ (g : Header). T (tables_fit g)) (sym header_read) (tables_fit_lem x);
       }
 
-  pub open-image : open_of (image_of x coords ends) ≡ ask_records (handset_table coords) (edge_table ends) made
+  pub open_image : open_of (image_of x coords ends) ≡ ask_records (handset_table coords) (edge_table ends) made
   unfolding open_of
-  open-image =
-      go-on-header (image_of x coords ends) _ header-accepted
-      ∙ ap₂ (λ (a b : List ℕ). ask_records a b (header_of (image_of x coords ends))) handsets-read edges-read
+  open_image =
+      go_on_header (image_of x coords ends) _ header_accepted
+      ∙ ap₂ (λ (a b : List ℕ). ask_records a b (header_of (image_of x coords ends))) handsets_read edges_read
       ∙ ap (ask_records (handset_table coords) (edge_table ends)) header_read

@@ -4,7 +4,7 @@
 --     get_or_word           a number of a coordinate table as the word that is written
 --     parts               the two halves of the header and the two tables, written one after the other, are the image
 --     Fitting, fitting    what all tests say
---     writes-by           whether the image is written, where the counts fit; uncounted: it is not where they do not; writes-yes, -no: what `put_image` does then
+--     writes_by           whether the image is written, where the counts fit; uncounted: it is not where they do not; writes_yes, -no: what `put_image` does then
 use Prim.Native.Nat.{ℕ, ◌+◌, ◌*◌, ◌≤◌}
 use native.Mathlib.Omega.{arith}
 use mathlib.Core.Path.{◌≡◌, refl, sym, ap, ap₂, ◌∙◌, subst}
@@ -91,23 +91,23 @@ fitting x a b room c e =
 
 module _ (x : Parameters) (coords : List ℤ) (ends s : List ℕ) where
   -- of counts that fit, what is left to test
-  pub writes-by : (b : Bool) → T (counts_fit x.n x.m) → (lengths_fit x (length coords) (length ends) && leb (header_for x).len (length s)) ≡ b
+  pub writes_by : (b : Bool) → T (counts_fit x.n x.m) → (lengths_fit x (length coords) (length ends) && leb (header_for x).len (length s)) ≡ b
       → writes x (length coords) (length ends) (length s) ≡ b
-  writes-by b c e = ap (λ (a : Bool). a && (lengths_fit x (length coords) (length ends) && leb (header_for x).len (length s))) (T_true (counts_fit x.n x.m) c) ∙ e
+  writes_by b c e = ap (λ (a : Bool). a && (lengths_fit x (length coords) (length ends) && leb (header_for x).len (length s))) (T_true (counts_fit x.n x.m) c) ∙ e
 
   -- of counts that do not
   pub uncounted : counts_fit x.n x.m ≡ false → writes x (length coords) (length ends) (length s) ≡ false
   uncounted e = ap (λ (a : Bool). a && (lengths_fit x (length coords) (length ends) && leb (header_for x).len (length s))) e
 
-  pub writes-yes : {s' : List ℕ} {r : ℕ} → writes x (length coords) (length ends) (length s) ≡ true → s' ≡ sets s 0 (image_of x coords ends) → r ≡ (header_for x).len
+  pub writes_yes : {s' : List ℕ} {r : ℕ} → writes x (length coords) (length ends) (length s) ≡ true → s' ≡ sets s 0 (image_of x coords ends) → r ≡ (header_for x).len
       → Put x coords ends s r s'
-  writes-yes t e d = record {
+  writes_yes t e d = record {
     buffer = e ∙ ap (λ (b : Bool). cond b (sets s 0 (image_of x coords ends)) s) (sym t);
     size = d ∙ ap (λ (b : Bool). cond b (header_for x).len 0) (sym t);
   }
 
-  pub writes-no : writes x (length coords) (length ends) (length s) ≡ false → Put x coords ends s 0 s
-  writes-no f = record {
+  pub writes_no : writes x (length coords) (length ends) (length s) ≡ false → Put x coords ends s 0 s
+  writes_no f = record {
     buffer = ap (λ (b : Bool). cond b (sets s 0 (image_of x coords ends)) s) (sym f);
     size = ap (λ (b : Bool). cond b (header_for x).len 0) (sym f);
   }

@@ -3,7 +3,7 @@
 --     le_cong, number_cong       equal bytes make equal numbers
 --     le_split                   a number of a + b bytes is made of two: how `four` makes four bytes of two, and `read8` eight of four
 --     number_le                  a number whose bytes are all there
---     number-there, number-none  the number, by a test of whether its bytes are there
+--     number_there, number_none  the number, by a test of whether its bytes are there
 --     number_slice               a number in a slice of a list
 use Prim.Native.Nat.{ℕ, zero, suc, ◌+◌, ◌*◌, ◌^◌, ◌≤◌, ◌<◌}
 use native.Mathlib.Omega.{arith}
@@ -43,12 +43,12 @@ number_le w s at h = ap (λ (b : Bool). cond b (le w s at) 0) (T_true (leb (at +
 
 -- by a test of whether they are
 module _ (w : ℕ) (s : List ℕ) (at : ℕ) {b : Bool} (e : b ≡ leb (at + w) (length s)) where
-  pub number-there : b ≡ true → number w s at ≡ le w s at
-  number-there t = number_le w s at (leb-true _ _ (sym e ∙ t))
+  pub number_there : b ≡ true → number w s at ≡ le w s at
+  number_there t = number_le w s at (leb-true _ _ (sym e ∙ t))
 
-  pub number-none : b ≡ false → number w s at ≡ 0
+  pub number_none : b ≡ false → number w s at ≡ 0
   unfolding number
-  number-none f = ap (λ (x : Bool). cond x (le w s at) 0) (sym e ∙ f)
+  number_none f = ap (λ (x : Bool). cond x (le w s at) 0) (sym e ∙ f)
 
 -- the same bytes at two places of two lists that both have them
 pub number_cong : (w : ℕ) (s t : List ℕ) (a b : ℕ) → a + w ≤ length s → b + w ≤ length t

@@ -2,7 +2,7 @@
 --
 --     append_below, take-, drop_below    a bound of every number of two lists is one of both together, and of every number of a list one of a part's
 --     length_le_bytes, le_bytes_below    w bytes, each less than 256
---     le_bytes_more                      one byte more; write-none, write-more: the loop that writes a number, at its start and after one more
+--     le_bytes_more                      one byte more; write_none, write_more: the loop that writes a number, at its start and after one more
 --     le_written                         a number at the front of a list is read back
 --     number_at                          the same at a place, where what stands from there on begins with the number's bytes
 --     number_below                       a number of w bytes is less than 256 ^ w
@@ -74,13 +74,13 @@ le_bytes_more (suc w) v =
 
 -- the loop that writes a number, after i bytes: what it has written, and what is left of the number
 module _ (s : List ℕ) (at v : ℕ) where
-  pub write-none : (v ≡ v / 256 ^ 0) × (s ≡ sets s at (le_bytes 0 v))
+  pub write_none : (v ≡ v / 256 ^ 0) × (s ≡ sets s at (le_bytes 0 v))
   unfolding le_bytes
-  write-none = (omega arith, refl)
+  write_none = (omega arith, refl)
 
-  pub write-more : (i rest : ℕ) (s' : List ℕ) → rest ≡ v / 256 ^ i → s' ≡ sets s at (le_bytes i v)
+  pub write_more : (i rest : ℕ) (s' : List ℕ) → rest ≡ v / 256 ^ i → s' ≡ sets s at (le_bytes i v)
       → (rest / 256 ≡ v / 256 ^ suc i) × (set s' (at + i) (rest % 256) ≡ sets s at (le_bytes (suc i) v))
-  write-more i rest s' e d = (
+  write_more i rest s' e d = (
     ap (λ (x : ℕ). x / 256) e ∙ rest_more v i,
     ap₂ (λ (l : List ℕ) (x : ℕ). set l (at + i) (x % 256)) d e
         ∙ ap (λ (k : ℕ). set (sets s at (le_bytes i v)) (at + k) (v / 256 ^ i % 256)) (sym (length_le_bytes i v))
@@ -234,8 +234,8 @@ module _ (w : ℕ) (s : List ℕ) (at : ℕ) (l : List ℕ) where
       ∙ sym (sets_append s at before (le_bytes w (get_or l k 0)))
       ∙ ap (sets s at) (sym (table_bytes_more w l k h))
 
-  pub table-all : (k : ℕ) (s' : List ℕ) → length l ≤ k → s' ≡ sets s at (table_bytes w (take k l)) → s' ≡ sets s at (table_bytes w l)
-  table-all k s' h e = e ∙ ap (λ (x : List ℕ). sets s at (table_bytes w x)) (take_all k l h)
+  pub table_all : (k : ℕ) (s' : List ℕ) → length l ≤ k → s' ≡ sets s at (table_bytes w (take k l)) → s' ≡ sets s at (table_bytes w l)
+  table_all k s' h e = e ∙ ap (λ (x : List ℕ). sets s at (table_bytes w x)) (take_all k l h)
 
 pub table_bytes_below : (w : ℕ) (l : List ℕ) → Below 256 (table_bytes w l)
 unfolding table_bytes

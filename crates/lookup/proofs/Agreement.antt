@@ -18,29 +18,29 @@ use Rattle.lookup.specs.declared.Span.{Span}
 use Rattle.lookup.specs.declared.Looked.TheVariants.{Found, Refused}
 
 module _ (s : List ℕ) (size k : ℕ) where
-  pub placed-yes : k + 1 < length s → start_of s k ≤ start_of s (k + 1) → start_of s (k + 1) ≤ size → placed s size k ≡ true
+  pub placed_yes : k + 1 < length s → start_of s k ≤ start_of s (k + 1) → start_of s (k + 1) ≤ size → placed s size k ≡ true
   unfolding placed
-  placed-yes a b c = simp (lt-ltb _ _ a, le-leb _ _ b, le-leb _ _ c)
+  placed_yes a b c = simp (lt-ltb _ _ a, le-leb _ _ b, le-leb _ _ c)
 
-  pub placed-short : length s ≤ k + 1 → placed s size k ≡ false
+  pub placed_short : length s ≤ k + 1 → placed s size k ≡ false
   unfolding placed
-  placed-short a = simp (le-ltb _ _ a)
+  placed_short a = simp (le-ltb _ _ a)
 
-  pub placed-falling : k + 1 < length s → start_of s (k + 1) < start_of s k → placed s size k ≡ false
+  pub placed_falling : k + 1 < length s → start_of s (k + 1) < start_of s k → placed s size k ≡ false
   unfolding placed
-  placed-falling a b = simp (lt-ltb _ _ a, lt-leb _ _ b)
+  placed_falling a b = simp (lt-ltb _ _ a, lt-leb _ _ b)
 
-  pub placed-beyond : k + 1 < length s → start_of s k ≤ start_of s (k + 1) → size < start_of s (k + 1) → placed s size k ≡ false
+  pub placed_beyond : k + 1 < length s → start_of s k ≤ start_of s (k + 1) → size < start_of s (k + 1) → placed s size k ≡ false
   unfolding placed
-  placed-beyond a b c = simp (lt-ltb _ _ a, le-leb _ _ b, lt-leb _ _ c)
+  placed_beyond a b c = simp (lt-ltb _ _ a, le-leb _ _ b, lt-leb _ _ c)
 
-  pub span-yes : placed s size k ≡ true → span_of s size k ≡ record { found = true; first = start_of s k; past = start_of s (k + 1) }
+  pub span_yes : placed s size k ≡ true → span_of s size k ≡ record { found = true; first = start_of s k; past = start_of s (k + 1) }
   unfolding span_of
-  span-yes e = simp e
+  span_yes e = simp e
 
-  pub span-no : placed s size k ≡ false → span_of s size k ≡ record { found = false; first = 0; past = 0 }
+  pub span_no : placed s size k ≡ false → span_of s size k ≡ record { found = false; first = 0; past = 0 }
   unfolding span_of
-  span-no e = simp e
+  span_no e = simp e
 
 module _ (starts table : List ℕ) (k : ℕ) where
   pub members_yes : placed starts (length table) k ≡ true → members_of starts table k ≡ between (start_of starts k) (start_of starts (k + 1)) table
@@ -51,44 +51,44 @@ module _ (starts table : List ℕ) (k : ℕ) where
   unfolding members_of
   members_no e = simp e
 
-  pub looked-yes : placed starts (length table) k ≡ true → looked_of starts table k ≡ Found (length (members_of starts table k))
+  pub looked_yes : placed starts (length table) k ≡ true → looked_of starts table k ≡ Found (length (members_of starts table k))
   unfolding looked_of
-  looked-yes e = simp e
+  looked_yes e = simp e
 
-  pub looked-no : placed starts (length table) k ≡ false → looked_of starts table k ≡ Refused (refusal 14)
+  pub looked_no : placed starts (length table) k ≡ false → looked_of starts table k ≡ Refused (refusal 14)
   unfolding looked_of
-  looked-no e = simp e
+  looked_no e = simp e
 
   -- the part, and the companion's answer, from the two places that both are made of
-  pub members-span : members_of starts table k ≡ between (span_of starts (length table) k).first (span_of starts (length table) k).past table
-  members-span = go (placed starts (length table) k) refl
+  pub members_span : members_of starts table k ≡ between (span_of starts (length table) k).first (span_of starts (length table) k).past table
+  members_span = go (placed starts (length table) k) refl
     where
       go : (b : Bool) → placed starts (length table) k ≡ b → members_of starts table k ≡ between (span_of starts (length table) k).first (span_of starts (length table) k).past table
-      go true e = rw (span-yes starts (length table) k e) (members_yes e)
-      go false e = rw (span-no starts (length table) k e) (members_no e)
+      go true e = rw (span_yes starts (length table) k e) (members_yes e)
+      go false e = rw (span_no starts (length table) k e) (members_no e)
 
-  pub looked-span : (r : Span) → r ≡ span_of starts (length table) k → r.past ≤ length table
+  pub looked_span : (r : Span) → r ≡ span_of starts (length table) k → r.past ≤ length table
       → looked_of starts table k ≡ cond r.found (Found (r.past - r.first)) (Refused (refusal 14))
-  looked-span r d h = go (placed starts (length table) k) refl
+  looked_span r d h = go (placed starts (length table) k) refl
     where
       go : (b : Bool) → placed starts (length table) k ≡ b → looked_of starts table k ≡ cond r.found (Found (r.past - r.first)) (Refused (refusal 14))
       go true e =
-          let s = d ∙ span-yes starts (length table) k e in
+          let s = d ∙ span_yes starts (length table) k e in
           let inside : start_of starts (k + 1) ≤ length table = rw s at h in
-          rw s (looked-yes e ∙ ap Found (ap length (members_yes e) ∙ simp (length-take, length-drop) (omega arith)))
-      go false e = rw (d ∙ span-no starts (length table) k e) (looked-no e)
+          rw s (looked_yes e ∙ ap Found (ap length (members_yes e) ∙ simp (length-take, length-drop) (omega arith)))
+      go false e = rw (d ∙ span_no starts (length table) k e) (looked_no e)
 
   pub agree : Agree starts table k (members_of starts table k) (looked_of starts table k)
   agree = go (placed starts (length table) k) refl
     where
       go : (b : Bool) → placed starts (length table) k ≡ b → Agree starts table k (members_of starts table k) (looked_of starts table k)
       go true e = record {
-        found = λ n f. let l = looked-yes e in (rw e tt, members_yes e, cc);
-        refused = λ r f. let l = looked-yes e in let z : ◌≡◌ {A = ℕ} 0 1 = cc in absurd (omega arith);
+        found = λ n f. let l = looked_yes e in (rw e tt, members_yes e, cc);
+        refused = λ r f. let l = looked_yes e in let z : ◌≡◌ {A = ℕ} 0 1 = cc in absurd (omega arith);
       }
       go false e = record {
-        found = λ n f. let l = looked-no e in let z : ◌≡◌ {A = ℕ} 0 1 = cc in absurd (omega arith);
-        refused = λ r f. let l = looked-no e in ((λ t. rw e at t), cc, members_no e);
+        found = λ n f. let l = looked_no e in let z : ◌≡◌ {A = ℕ} 0 1 = cc in absurd (omega arith);
+        refused = λ r f. let l = looked_no e in ((λ t. rw e at t), cc, members_no e);
       }
 
 take_none : (n : ℕ) → ◌≡◌ {A = List ℕ} (take n []) []
@@ -103,4 +103,4 @@ between_slice (suc a) (suc b) (x ∷ t) = let e : suc b - suc a ≡ b - a = omeg
 
 pub members_slice : (starts table : List ℕ) (k : ℕ) → k + 1 < length starts → start_of starts k ≤ start_of starts (k + 1) → start_of starts (k + 1) ≤ length table
     → members_of starts table k ≡ slice (start_of starts k) (start_of starts (k + 1)) table
-members_slice starts table k a b c = members_yes starts table k (placed-yes starts (length table) k a b c) ∙ between_slice (start_of starts k) (start_of starts (k + 1)) table
+members_slice starts table k a b c = members_yes starts table k (placed_yes starts (length table) k a b c) ∙ between_slice (start_of starts k) (start_of starts (k + 1)) table

@@ -7,12 +7,12 @@
 use Rattle.std.proofs.Common.{◌≡◌, ℕ, ◌+◌, ◌-◌, ◌*◌, ◌/◌, ◌<◌, ◌≤◌, Bool, true, false, cond, ◌&&◌, ltb, List, length, take, drop, sym, refl, ap, ◌∙◌, ap₂, add-zero, arith, length-drop, take_all, lt-ltb}
 use borrow.Author.Tests.{lt-leb}
 use Rattle.little_endian.specs.Bytes.{number}
-use Rattle.little_endian.proofs.Bytes.{number_slice, number-none}
+use Rattle.little_endian.proofs.Bytes.{number_slice, number_none}
 use Rattle.fields.specs.Fields.{end_bytes, edge_bytes, ends_of}
 use Rattle.fields.specs.declared.Ends.{Ends}
 use Rattle.image.specs.Image.{handset_count, edge_count, limit_of, handset_records, handset_record, edge_records, end_a, end_b}
 use Rattle.image.specs.Questions.{Accepted}
-use Rattle.image.proofs.Acceptance.{handsets-length, ends-below}
+use Rattle.image.proofs.Acceptance.{handsets_length, ends_below}
 use Rattle.near.specs.Near.{proximity_of, handsets_in, ends_proximity, proximity}
 use Rattle.near.specs.declared.Proximity.{Proximity}
 use Rattle.near.specs.declared.Proximity.TheVariants.{Near, NotNear}
@@ -36,7 +36,7 @@ ends_rest records k =
 pub ends_none : (records : List ℕ) (k : ℕ) → length records / edge_bytes < k → ◌≡◌ {A = Ends} (record { a = 0; b = 0 }) (record { a = end_a records k; b = end_b records k })
 unfolding end_a end_b
 ends_none records k h =
-    let none : (at : ℕ) → edge_bytes * k ≤ at → number end_bytes records at ≡ 0 = λ at l. number-none end_bytes records at refl (lt-leb (at + end_bytes) (length records) (omega (arith, h, l))) in
+    let none : (at : ℕ) → edge_bytes * k ≤ at → number end_bytes records at ≡ 0 = λ at l. number_none end_bytes records at refl (lt-leb (at + end_bytes) (length records) (omega (arith, h, l))) in
     sym (ap₂ (λ (x y : ℕ). record { a = x; b = y }) (none (edge_bytes * k) (omega arith)) (none (edge_bytes * k + end_bytes) (omega arith)))
 
 pub ends_most : (handsets : List ℕ) (u v limit d : ℕ) → ends_proximity handsets u v limit ≡ Near d → d ≤ limit
@@ -54,7 +54,7 @@ ends_accepted s ok k h =
     let hs : List ℕ = handset_records s in
     let a : ℕ = end_a (edge_records s) k in
     let b : ℕ = end_b (edge_records s) k in
-    let there : (v : ℕ) → v < handset_count s → ltb v (handsets_in hs) ≡ true = λ v l. lt-ltb v (handsets_in hs) (omega (arith, l, handsets-length s ok.header)) in
-    let below = ends-below s ok k h in
+    let there : (v : ℕ) → v < handset_count s → ltb v (handsets_in hs) ≡ true = λ v l. lt-ltb v (handsets_in hs) (omega (arith, l, handsets_length s ok.header)) in
+    let below = ends_below s ok k h in
     ap₂ (λ (x y : Bool). cond (x && y) (proximity_of (handset_record hs a) (handset_record hs b) (limit_of s)) NotNear) (there a below.0) (there b below.1)
     ∙ sym (edge_proximity_lem s ok k h)

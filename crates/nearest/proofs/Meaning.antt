@@ -33,34 +33,34 @@ module _ (s : List ℕ) (p : List ℤ) (a : Nearest) (ok : Accepted s) (inside :
   answer_is : a ≡ nearest_in (distance_to s p) (communities_of s)
   answer_is = nearest_same _ _ call ∙ sym (inside_answer s p ok (T_true (point_in_limits p) inside))
 
-  answer-right : Right (distance_to s p) (Member (communities_of s)) a
+  answer_right : Right (distance_to s p) (Member (communities_of s)) a
   unfolding nearest_in
-  answer-right =
+  answer_right =
       subst (Right (distance_to s p) (Member (communities_of s))) (sym answer_is)
       (groups_right (distance_to s p) (λ k. get_or (communities_of s) k []) (length (communities_of s)) (some_member s ok))
 
-  group-law : (k d : ℕ) → (a ≡ Group k d) ↔ IsNearest (distance_to s p) (Member (communities_of s)) k d
-  group-law k d = (
-    (λ e. subst (Right (distance_to s p) (Member (communities_of s))) e answer-right),
-    (λ n. nearest_is (distance_to s p) (Member (communities_of s)) a k d answer-right n),
+  group_law : (k d : ℕ) → (a ≡ Group k d) ↔ IsNearest (distance_to s p) (Member (communities_of s)) k d
+  group_law k d = (
+    (λ e. subst (Right (distance_to s p) (Member (communities_of s))) e answer_right),
+    (λ n. nearest_is (distance_to s p) (Member (communities_of s)) a k d answer_right n),
   )
 
-  no-groups-law : (a ≡ NoGroups) ↔ (communities_of s ≡ [])
+  no_groups_law : (a ≡ NoGroups) ↔ (communities_of s ≡ [])
   unfolding communities_of nearest_in nearest_among
-  no-groups-law = (
+  no_groups_law = (
     (λ e. empty_list (communities_of s) (λ h.
-        subst (Right (distance_to s p) (Member (communities_of s))) e answer-right 0 (leader (network s) 0) (h, leader_member (accepted_sound s ok) 0 h))),
+        subst (Right (distance_to s p) (Member (communities_of s))) e answer_right 0 (leader (network s) 0) (h, leader_member (accepted_sound s ok) 0 h))),
     (λ e. answer_is ∙ ap (nearest_in (distance_to s p)) e),
   )
 
-  not-refused-law : (r : Refusal) → a ≡ Refused r → ⊥
-  not-refused-law r e = subst (Right (distance_to s p) (Member (communities_of s))) e answer-right
+  not_refused_law : (r : Refusal) → a ≡ Refused r → ⊥
+  not_refused_law r e = subst (Right (distance_to s p) (Member (communities_of s))) e answer_right
 
 pub nearest_means : NearestMeans
 nearest_means = record {
-  group = group-law;
-  no_groups = no-groups-law;
-  not_refused = not-refused-law;
+  group = group_law;
+  no_groups = no_groups_law;
+  not_refused = not_refused_law;
   image_first = λ s p a r e call. nearest_same _ _ call ∙ sym (refused_answer s p r e);
   out_of_limits_lem = λ s p a ok t call. nearest_same _ _ call ∙ sym (past_answer s p ok (T_false (point_in_limits p) t));
 }

@@ -1,7 +1,7 @@
 -- The nearest group by the rows. The handsets at the least distance of all that are in a row are the nearest members of all groups, so that the first row that
 -- meets them is the nearest group.
 --
---     rows-nearest     what the pass over the rows answers
+--     rows_nearest     what the pass over the rows answers
 --     some_member      a community has a member
 --     rows_filled      so that each row of the communities has
 --     rows_found       what the crate graph finds are the rows of the communities
@@ -20,13 +20,13 @@ use Rattle.sets.specs.Below.{any, bit, find}
 use Rattle.sets.specs.Bits.{bit_at}
 use Rattle.sets.proofs.Tests.{T_true, decide, any_make, any_take, not_any, and_make, and_left, and_right, eqb_of, find_law}
 use Rattle.sets.proofs.Counting.{bit_true, bit_test}
-use Rattle.sets.proofs.Selecting.{mem-at, at_mem, select_mem}
+use Rattle.sets.proofs.Selecting.{mem_at, at_mem, select_mem}
 use Rattle.fields.specs.Fields.{coordinate_count, handset_bytes}
 use Rattle.image.specs.Image.{handset_records}
 use Rattle.image.specs.Questions.{Accepted}
 use Rattle.image.specs.Signed.{raised}
 use Rattle.image.specs.declared.Header.{Header}
-use Rattle.image.proofs.Records.{handsetSlice-is}
+use Rattle.image.proofs.Records.{handset_slice_is}
 use Rattle.community.specs.Network.{contains, membership_count}
 use Rattle.community.specs.Site.{network, communities_of}
 use Rattle.community.proofs.Communities.{member_below, leader_member}
@@ -36,9 +36,9 @@ use Rattle.rows.specs.Rows.{row_members, rows_of, MembersFound, meets, first_mee
 use Rattle.rows.proofs.Listing.{in_row, rows_at, rows_length}
 use Rattle.graph.specs.Graph.{Groups}
 use Rattle.graph.proofs.Listing.{groups_most, grouped_rows}
-use Rattle.image.proofs.Acceptance.{accepted-fits}
+use Rattle.image.proofs.Acceptance.{accepted_fits}
 use Rattle.points.specs.Points.{point_in_limits, distance_to}
-use Rattle.points.proofs.Distances.{distance-exact}
+use Rattle.points.proofs.Distances.{distance_exact}
 use Rattle.nearest.specs.Nearest.{least_of, nearest_among, nearest_in, nearest_of, closer}
 use Rattle.nearest.specs.Meaning.{IsNearest}
 use Rattle.nearest.specs.ForProofs.{wrapped, Closest, RowsFilled, PointHeld}
@@ -70,46 +70,46 @@ module _ (far : ℕ → ℕ) (rows : List ℕ) (n : ℕ) (filled : RowsFilled ro
   abbrev group : ℕ → List ℕ
   group k = get_or (rows_of rows n) k []
 
-  abbrev inOnce : ℕ → Bool
-  inOnce v = eqb (bit_at once v) 1
+  abbrev in_once : ℕ → Bool
+  in_once v = eqb (bit_at once v) 1
 
   below_all : (k v : ℕ) → k < n → Memᴰ v (group k) → v < 512
   unfolding row_members
   below_all k v h m = (select_mem 512 (in_row rows k) v (subst (λ (l : List ℕ). Memᴰ v l) (rows_at rows n k h) m)).0
 
-  once_is : (v : ℕ) → v < 512 → inOnce v ≡ leb 1 (membership_count v (rows_of rows n))
+  once_is : (v : ℕ) → v < 512 → in_once v ≡ leb 1 (membership_count v (rows_of rows n))
   once_is v h = ap (λ (b : ℕ). eqb b 1) (found.in_one.bits v h) ∙ bit_test (leb 1 (membership_count v (rows_of rows n)))
 
-  seen : (k v : ℕ) → k < n → Memᴰ v (group k) → T (inOnce v)
+  seen : (k v : ℕ) → k < n → Memᴰ v (group k) → T (in_once v)
   seen k v h m =
       subst T (sym (once_is v (below_all k v h m) ∙ le-leb 1 _ (times_some v (rows_of rows n) k (omega (arith, rows_length rows n)) (mem_contains v (group k) m)))) tt
 
   -- a handset that is in the set of the closest
-  close : (v : ℕ) → v < 512 → T (inOnce v) → far v ≡ least → T (eqb (bit_at closest v) 1)
+  close : (v : ℕ) → v < 512 → T (in_once v) → far v ≡ least → T (eqb (bit_at closest v) 1)
   close v h t e =
-      eqb_of (bit_at closest v) 1 (held.bits v h ∙ bit_true (inOnce v && eqb (far v) least) (and_make (inOnce v) (eqb (far v) least) t (eqb_of (far v) least e)))
+      eqb_of (bit_at closest v) 1 (held.bits v h ∙ bit_true (in_once v && eqb (far v) least) (and_make (in_once v) (eqb (far v) least) t (eqb_of (far v) least e)))
 
-  close-far : (v : ℕ) → v < 512 → T (eqb (bit_at closest v) 1) → far v ≡ least
-  close-far v h t =
-      let q : (inOnce v && eqb (far v) least) ≡ true = sym (bit_test (inOnce v && eqb (far v) least)) ∙ ap (λ (b : ℕ). eqb b 1) (sym (held.bits v h)) ∙ T_true (eqb (bit_at closest v) 1) t in
-      eqb→eq (far v) least (and_right (inOnce v) (eqb (far v) least) (subst T (sym q) tt))
+  close_far : (v : ℕ) → v < 512 → T (eqb (bit_at closest v) 1) → far v ≡ least
+  close_far v h t =
+      let q : (in_once v && eqb (far v) least) ≡ true = sym (bit_test (in_once v && eqb (far v) least)) ∙ ap (λ (b : ℕ). eqb b 1) (sym (held.bits v h)) ∙ T_true (eqb (bit_at closest v) 1) t in
+      eqb→eq (far v) least (and_right (in_once v) (eqb (far v) least) (subst T (sym q) tt))
 
   -- some handset of a row is as near as the least
-  nearest-handset : (v : ℕ) × (v < 512) × T (inOnce v) × (far v ≡ least)
-  nearest-handset =
+  nearest_handset : (v : ℕ) × (v < 512) × T (in_once v) × (far v ≡ least)
+  nearest_handset =
       let l : 0 < length (group 0) = subst (λ (x : List ℕ). 0 < length x) (sym (rows_at rows n 0 some)) (filled.some 0 some) in
       let v : ℕ = get_or (group 0) 0 0 in
       let m : Memᴰ v (group 0) = at_mem (group 0) 0 0 l in
       let b : v < 512 = below_all 0 v some m in
-      let t : T (inOnce v) = seen 0 v some m in
+      let t : T (in_once v) = seen 0 v some m in
       ⊎_elim (λ e. (v, b, t, omega (arith, e, fits v, held.none_nearer v b t))) (λ w. w) held.attained
 
   abbrev at : ℕ → Bool
   at k = meets closest (group k)
 
-  meets-with : (k v : ℕ) → v < 512 → T (eqb (bit_at closest v) 1) → T (contains v (group k)) → T (at k)
+  meets_with : (k v : ℕ) → v < 512 → T (eqb (bit_at closest v) 1) → T (contains v (group k)) → T (at k)
   unfolding meets
-  meets-with k v h c t = any_make 512 (λ u. eqb (bit_at closest u) 1 && contains u (group k)) v h (and_make (eqb (bit_at closest v) 1) (contains v (group k)) c t)
+  meets_with k v h c t = any_make 512 (λ u. eqb (bit_at closest u) 1 && contains u (group k)) v h (and_make (eqb (bit_at closest v) 1) (contains v (group k)) c t)
 
   met_by : (k : ℕ) → T (at k) → (v : ℕ) × (v < 512) × T (eqb (bit_at closest v) 1) × T (contains v (group k))
   unfolding meets
@@ -117,38 +117,38 @@ module _ (far : ℕ → ℕ) (rows : List ℕ) (n : ℕ) (filled : RowsFilled ro
       let r = any_take 512 (λ u. eqb (bit_at closest u) 1 && contains u (group k)) t in
       (r.0, r.1, and_left (eqb (bit_at closest r.0) 1) (contains r.0 (group k)) r.2, and_right (eqb (bit_at closest r.0) 1) (contains r.0 (group k)) r.2)
 
-  some-meets : T (any (length (rows_of rows n)) at)
-  some-meets =
-      let w = nearest-handset in
-      let e : leb 1 (membership_count w.0 (rows_of rows n)) ≡ true = sym (once_is w.0 w.1) ∙ T_true (inOnce w.0) w.2 in
+  some_meets : T (any (length (rows_of rows n)) at)
+  some_meets =
+      let w = nearest_handset in
+      let e : leb 1 (membership_count w.0 (rows_of rows n)) ≡ true = sym (once_is w.0 w.1) ∙ T_true (in_once w.0) w.2 in
       let k = some_times w.0 (rows_of rows n) (lib.Dec.leb→le 1 (membership_count w.0 (rows_of rows n)) (subst T (sym e) tt)) in
-      any_make (length (rows_of rows n)) at k.0 k.1 (meets-with k.0 w.0 w.1 (close w.0 w.1 w.2 w.3) k.2)
+      any_make (length (rows_of rows n)) at k.0 k.1 (meets_with k.0 w.0 w.1 (close w.0 w.1 w.2 w.3) k.2)
 
-  is-nearest : IsNearest far (Below group (length (rows_of rows n))) (first_meeting closest (rows_of rows n)) least
+  is_nearest : IsNearest far (Below group (length (rows_of rows n))) (first_meeting closest (rows_of rows n)) least
   unfolding first_meeting
-  is-nearest =
-      let l = find_law (length (rows_of rows n)) at some-meets in
+  is_nearest =
+      let l = find_law (length (rows_of rows n)) at some_meets in
       let k : ℕ = find (length (rows_of rows n)) at in
       let v = met_by k l.1 in
       record {
-        stands = (v.0, (l.0, contains_mem v.0 (group k) v.3), close-far v.0 v.1 v.2);
+        stands = (v.0, (l.0, contains_mem v.0 (group k) v.3), close_far v.0 v.1 v.2);
         none_nearer = λ j u m.
             let h : j < n = omega (arith, m.0, rows_length rows n) in
             held.none_nearer u (below_all j u h m.1) (seen j u h m.1);
         lowest = λ j u m e.
             let h : j < n = omega (arith, m.0, rows_length rows n) in
             let b : u < 512 = below_all j u h m.1 in
-            let t : T (at j) = meets-with j u b (close u b (seen j u h m.1) e) (mem_contains u (group j) m.1) in
+            let t : T (at j) = meets_with j u b (close u b (seen j u h m.1) e) (mem_contains u (group j) m.1) in
             ⊎_elim (λ q. absurd (not_any k at j l.2 (lib.Dec.ltb→lt j k q) t)) (λ q. lib.Dec.nltb→le j k q) (decide (lib.Dec.ltb j k));
       }
 
-  pub rows-nearest : Group (first_meeting closest (rows_of rows n)) least ≡ nearest_in far (rows_of rows n)
+  pub rows_nearest : Group (first_meeting closest (rows_of rows n)) least ≡ nearest_in far (rows_of rows n)
   unfolding nearest_in
-  rows-nearest =
+  rows_nearest =
       sym (nearest_is far (Below group (length (rows_of rows n))) _ (first_meeting closest (rows_of rows n)) least
       (groups_right far group (length (rows_of rows n))
       (λ k h. let q : k < n = omega (arith, h, rows_length rows n) in subst (λ (x : List ℕ). 0 < length x) (sym (rows_at rows n k q)) (filled.some k q)))
-      is-nearest)
+      is_nearest)
 
 pub no_rows : (far : ℕ → ℕ) (rows : List ℕ) (n : ℕ) → n ≡ 0 → NoGroups ≡ nearest_in far (rows_of rows n)
 unfolding nearest_in nearest_among rows_of
@@ -161,7 +161,7 @@ wrapped_fits q records v = omega arith
 -- ---- of an accepted image
 pub some_member : (s : List ℕ) → Accepted s → (k : ℕ) → k < length (communities_of s) → 0 < length (get_or (communities_of s) k [])
 unfolding communities_of
-some_member s ok k l = omega (arith, (mem-at (get_or (communities_of s) k []) 0 _ (leader_member (accepted_sound s ok) k l)).1)
+some_member s ok k l = omega (arith, (mem_at (get_or (communities_of s) k []) 0 _ (leader_member (accepted_sound s ok) k l)).1)
 
 pub rows_filled : (s rows : List ℕ) (n : ℕ) → Accepted s → n ≤ 512 → rows_of rows n ≡ communities_of s → RowsFilled rows n
 rows_filled s rows n ok few listed = record {
@@ -175,7 +175,7 @@ rows_filled s rows n ok few listed = record {
 pub rows_found : (s : List ℕ) {k tests : ℕ} {near ws sizes cores : List ℕ} → Accepted s → Groups s (network s) k tests near ws sizes cores
     → (k ≤ 512) × (rows_of ws k ≡ communities_of s)
 unfolding communities_of
-rows_found s ok f = let few = (accepted-fits s ok).n_limit in (groups_most few f.grouped, grouped_rows few f.grouped)
+rows_found s ok f = let few = (accepted_fits s ok).n_limit in (groups_most few f.grouped, grouped_rows few f.grouped)
 
 least_cong : (far near : ℕ → ℕ) (l : List ℕ) → ((t : ℕ) → t < length l → far (get_or l t 0) ≡ near (get_or l t 0)) → least_of far l ≡ least_of near l
 unfolding least_of
@@ -195,7 +195,7 @@ module _ {s : List ℕ} {h : Header} {p : List ℤ} (held : PointHeld s h p) (lo
   unfolding communities_of
   exact k t l m =
       let v : ℕ = get_or (get_or (communities_of s) k []) t 0 in
-      distance-exact s held.accepted p long held.inside v (member_below (network s) k v l (at_mem (get_or (communities_of s) k []) 0 t m))
+      distance_exact s held.accepted p long held.inside v (member_below (network s) k v l (at_mem (get_or (communities_of s) k []) 0 t m))
 
   pub site_answer_lem : (q rows : List ℕ) (n : ℕ) (r : Nearest) → q ≡ map raised p → rows_of rows n ≡ communities_of s
       → r ≡ nearest_in (wrapped q (take (h.handsets + handset_bytes * h.n - h.handsets) (drop h.handsets s))) (rows_of rows n)
@@ -203,7 +203,7 @@ module _ {s : List ℕ} {h : Header} {p : List ℤ} (held : PointHeld s h p) (lo
   unfolding nearest_in
   site_answer_lem q rows n r f listed e =
       e
-      ∙ ap₂ (λ (x records : List ℕ). nearest_in (wrapped x records) (rows_of rows n)) f (handsetSlice-is s h held.header)
+      ∙ ap₂ (λ (x records : List ℕ). nearest_in (wrapped x records) (rows_of rows n)) f (handset_slice_is s h held.header)
       ∙ ap (nearest_in (wrapped (map raised p) (handset_records s))) listed
       ∙ nearest_cong _ _ (length (communities_of s)) (λ k l. least_cong (wrapped (map raised p) (handset_records s)) (distance_to s p) (get_or (communities_of s) k []) (λ t m. exact k t l m))
       ∙ inside_answer s p held.accepted (T_true (point_in_limits p) held.inside)

@@ -1,11 +1,11 @@
 -- The cases of the report's answer: of a refused image, and of a text that fits the buffer or does not; and what the program makes of each.
 --
 --     report_same                          two answers with the same number, place and values are the same
---     report-accepted, report-refused      the answer for an accepted image and for a refused one; after-accepted, after-refused: the buffer
+--     report_accepted, report_refused      the answer for an accepted image and for a refused one; after_accepted, after_refused: the buffer
 --     site_answer_lem, refused_answer          the outcome of the call for each
---     filled-written, filled-refused       a text that is written where it fits; filled_same: the same of an equal text
+--     filled_written, filled_refused       a text that is written where it fits; filled_same: the same of an equal text
 --     program_long                         an input of more than 65,536 bytes
---     program-written, program-refused     what the program prints after either answer
+--     program_written, program_refused     what the program prints after either answer
 use Prim.Native.Nat.{ℕ, ◌+◌, ◌≤◌, ◌<◌}
 use native.Mathlib.Omega.{arith}
 use mathlib.Core.Path.{◌≡◌, refl, sym, ap, ◌∙◌, subst}
@@ -19,7 +19,7 @@ use Rattle.image.specs.Questions.{Accepted, open_of}
 use Rattle.image.specs.Answers.{Answer, refusal}
 use Rattle.image.specs.declared.Refusal.{Refusal}
 use Rattle.image.specs.declared.Opened.TheVariants as O
-use Rattle.image.proofs.Acceptance.{when-accepted, when-refused, when-either}
+use Rattle.image.proofs.Acceptance.{when_accepted, when_refused, when_either}
 use Rattle.image.proofs.Answers.{given_refused, refused_same}
 use Rattle.text.specs.Text.{Wrote}
 use Rattle.reporting.specs.Report.{report_text, written_of, written_in, report_of, text_after, printed, program_text, report_answer, ReportCall, OneAnswer}
@@ -38,27 +38,27 @@ pub one_answer : OneAnswer
 one_answer = record { reported = report_same }
 
 module _ (s : List ℕ) where
-  pub report-accepted : (room : ℕ) → Accepted s → report_of s room ≡ written_of (report_text s) room
+  pub report_accepted : (room : ℕ) → Accepted s → report_of s room ≡ written_of (report_text s) room
   unfolding report_of
-  report-accepted room a = when-accepted s (λ h. written_of (report_text s) room) R.Refused a
+  report_accepted room a = when_accepted s (λ h. written_of (report_text s) room) R.Refused a
 
-  pub report-refused : (room : ℕ) (r : Refusal) → open_of s ≡ O.Refused r → report_of s room ≡ R.Refused r
+  pub report_refused : (room : ℕ) (r : Refusal) → open_of s ≡ O.Refused r → report_of s room ≡ R.Refused r
   unfolding report_of
-  report-refused room r e = when-refused s (λ h. written_of (report_text s) room) R.Refused r e
+  report_refused room r e = when_refused s (λ h. written_of (report_text s) room) R.Refused r e
 
-  pub after-accepted : (l : List ℕ) → Accepted s → text_after s l ≡ written_in (report_text s) l
+  pub after_accepted : (l : List ℕ) → Accepted s → text_after s l ≡ written_in (report_text s) l
   unfolding text_after
-  after-accepted l a = when-accepted s (λ h. written_in (report_text s) l) (λ r. l) a
+  after_accepted l a = when_accepted s (λ h. written_in (report_text s) l) (λ r. l) a
 
-  pub after-refused : (l : List ℕ) (r : Refusal) → open_of s ≡ O.Refused r → text_after s l ≡ l
+  pub after_refused : (l : List ℕ) (r : Refusal) → open_of s ≡ O.Refused r → text_after s l ≡ l
   unfolding text_after
-  after-refused l r e = when-refused s (λ h. written_in (report_text s) l) (λ r. l) r e
+  after_refused l r e = when_refused s (λ h. written_in (report_text s) l) (λ r. l) r e
 
 pub site_answer_lem : {s l l' : List ℕ} {r : Reported} → Accepted s → Filled (report_text s) l r l' → ReportCall s l r l'
-site_answer_lem {s} {l} a f = record { answer = ap report_answer (f.answer ∙ sym (report-accepted s (length l) a)); text = f.text ∙ sym (after-accepted s l a) }
+site_answer_lem {s} {l} a f = record { answer = ap report_answer (f.answer ∙ sym (report_accepted s (length l) a)); text = f.text ∙ sym (after_accepted s l a) }
 
 pub refused_answer : (s l : List ℕ) (r : Refusal) → open_of s ≡ O.Refused r → ReportCall s l (R.Refused r) l
-refused_answer s l r e = record { answer = ap report_answer (sym (report-refused s (length l) r e)); text = sym (after-refused s l r e) }
+refused_answer s l r e = record { answer = ap report_answer (sym (report_refused s (length l) r e)); text = sym (after_refused s l r e) }
 
 -- a written answer is that of a text that fits
 written_fits : (t l : List ℕ) (k : ℕ) → R.Written k ≡ written_of t (length l) → (k ≡ length t) × (length t ≤ length l)
@@ -71,15 +71,15 @@ written_fits t l k q = go (leb (length t) (length l)) refl q
 
 -- a text that is written where it fits
 module _ {t l : List ℕ} where
-  pub filled-written : {l' : List ℕ} {k : ℕ} → length l < 9223372036854775808 → length t ≤ length l → Wrote l 0 t l' k → Filled t l (R.Written k) l'
+  pub filled_written : {l' : List ℕ} {k : ℕ} → length l < 9223372036854775808 → length t ≤ length l → Wrote l 0 t l' k → Filled t l (R.Written k) l'
   unfolding written_of written_in
-  filled-written {l'} {k} small fits q =
+  filled_written {l'} {k} small fits q =
       let e : k ≡ length t = omega (arith, q.next) in
       record { answer = simp (le-leb _ _ fits) (ap R.Written e); text = simp (le-leb _ _ fits) (q.list ∙ sets_front l t fits) }
 
-  pub filled-refused : length l < length t → Filled t l (R.Refused (refusal 16)) l
+  pub filled_refused : length l < length t → Filled t l (R.Refused (refusal 16)) l
   unfolding written_of written_in
-  filled-refused short = record { answer = simp (lt-leb _ _ short); text = simp (lt-leb _ _ short) }
+  filled_refused short = record { answer = simp (lt-leb _ _ short); text = simp (lt-leb _ _ short) }
 
 pub filled_same : {t u l l' : List ℕ} {r : Reported} → t ≡ u → Filled t l r l' → Filled u l r l'
 filled_same {l = l} {l'} {r} e f = subst (λ (x : List ℕ). Filled x l r l') e f
@@ -108,35 +108,35 @@ program_short s room h = simp (le-ltb _ _ h)
 module _ (s l : List ℕ) (short : length s ≤ 65536) where
   -- what holds of an accepted image and of a refused one
   by_answer : {X : Type 0} → (Accepted s → X) → ((r : Refusal) → open_of s ≡ O.Refused r → X) → X
-  by_answer {X} f g = when-either s (λ h. l) (λ r. l) (λ (_ : List ℕ). X) f g
+  by_answer {X} f g = when_either s (λ h. l) (λ r. l) (λ (_ : List ℕ). X) f g
 
-  written-text : (l' : List ℕ) (k : ℕ) → length l < 9223372036854775808 → ReportCall s l (R.Written k) l' → Wrote l 0 (report_text s) l' k
-  written-text l' k small call =
+  written_text : (l' : List ℕ) (k : ℕ) → length l < 9223372036854775808 → ReportCall s l (R.Written k) l' → Wrote l 0 (report_text s) l' k
+  written_text l' k small call =
       let same : R.Written k ≡ report_of s (length l) = report_same (R.Written k) (report_of s (length l)) call.answer in
       by_answer
       (λ a.
-      let f = written_fits (report_text s) l k (same ∙ report-accepted s (length l) a) in
+      let f = written_fits (report_text s) l k (same ∙ report_accepted s (length l) a) in
       record {
-        list = call.text ∙ after-accepted s l a ∙ in_front (report_text s) l f.1 ∙ sym (sets_front l (report_text s) f.1);
+        list = call.text ∙ after_accepted s l a ∙ in_front (report_text s) l f.1 ∙ sym (sets_front l (report_text s) f.1);
         next = omega (arith, f.0, f.1);
       })
-      (λ r e. let q : R.Written k ≡ R.Refused r = same ∙ report-refused s (length l) r e in let z : ◌≡◌ {A = ℕ} 0 1 = cc in absurd (omega arith))
+      (λ r e. let q : R.Written k ≡ R.Refused r = same ∙ report_refused s (length l) r e in let z : ◌≡◌ {A = ℕ} 0 1 = cc in absurd (omega arith))
 
-  refused-text : (l' : List ℕ) (r : Refusal) → ReportCall s l (R.Refused r) l' → l' ≡ l
-  refused-text l' r call =
+  refused_text_lem : (l' : List ℕ) (r : Refusal) → ReportCall s l (R.Refused r) l' → l' ≡ l
+  refused_text_lem l' r call =
       let same : R.Refused r ≡ report_of s (length l) = report_same (R.Refused r) (report_of s (length l)) call.answer in
       call.text
-      ∙ by_answer (λ a. after-accepted s l a ∙ refused_keeps (report_text s) l r (same ∙ report-accepted s (length l) a)) (λ x e. after-refused s l x e)
+      ∙ by_answer (λ a. after_accepted s l a ∙ refused_keeps (report_text s) l r (same ∙ report_accepted s (length l) a)) (λ x e. after_refused s l x e)
 
-  pub program-written : (l' : List ℕ) (k : ℕ) (answer : Reported) → length l < 9223372036854775808 → answer ≡ R.Written k
+  pub program_written : (l' : List ℕ) (k : ℕ) (answer : Reported) → length l < 9223372036854775808 → answer ≡ R.Written k
       → ReportCall s l answer l' → Wrote l 0 (program_text s (length l)) l' k
-  program-written l' k answer small d call =
+  program_written l' k answer small d call =
       let w : ReportCall s l (R.Written k) l' = subst (λ (r : Reported). ReportCall s l r l') d call in
-      subst (λ (t : List ℕ). Wrote l 0 t l' k) (ap (printed s) (report_same (R.Written k) (report_of s (length l)) w.answer) ∙ sym (program_short s (length l) short)) (written-text l' k small w)
+      subst (λ (t : List ℕ). Wrote l 0 t l' k) (ap (printed s) (report_same (R.Written k) (report_of s (length l)) w.answer) ∙ sym (program_short s (length l) short)) (written_text l' k small w)
 
-  pub program-refused : (l' l'' : List ℕ) (r : Refusal) (k : ℕ) (answer : Reported) → answer ≡ R.Refused r
+  pub program_refused : (l' l'' : List ℕ) (r : Refusal) (k : ℕ) (answer : Reported) → answer ≡ R.Refused r
       → ReportCall s l answer l' → Wrote l' 0 (refused_text r) l'' k → Wrote l 0 (program_text s (length l)) l'' k
-  program-refused l' l'' r k answer d call wrote =
+  program_refused l' l'' r k answer d call wrote =
       let w : ReportCall s l (R.Refused r) l' = subst (λ (x : Reported). ReportCall s l x l') d call in
       subst (λ (t : List ℕ). Wrote l 0 t l'' k) (ap (printed s) (report_same (R.Refused r) (report_of s (length l)) w.answer) ∙ sym (program_short s (length l) short))
-      (subst (λ (m : List ℕ). Wrote m 0 (refused_text r) l'' k) (refused-text l' r w) wrote)
+      (subst (λ (m : List ℕ). Wrote m 0 (refused_text r) l'' k) (refused_text_lem l' r w) wrote)

@@ -3,7 +3,7 @@
 --
 --     SameRecords s t   the images s and t have the same parameters and the same records
 --     SameOpening s t   both images are accepted, or both are refused with the same number, 7 to 10, and place
---     same-opening      that is so where their parameters and records are the same and both headers are accepted
+--     same_opening      that is so where their parameters and records are the same and both headers are accepted
 use Prim.Native.Nat.{ℕ, ◌≤◌}
 use native.Mathlib.Omega.{arith}
 use mathlib.Core.Path.{◌≡◌, refl, sym, ◌∙◌}
@@ -17,7 +17,7 @@ use Rattle.image.specs.Questions.{bad_end, is_loop, repeats_earlier, ask, ask_ea
 use Rattle.image.specs.declared.Refusal.{Refusal}
 use Rattle.image.specs.declared.Opened.{Opened}
 use Rattle.image.specs.declared.Opened.TheVariants.{Site, Refused}
-use Rattle.image.proofs.Acceptance.{go-on-header}
+use Rattle.image.proofs.Acceptance.{go_on_header}
 use Rattle.layout.specs.declared.Parameters.{Parameters}
 use Rattle.writer.specs.Holds.{parameters_of}
 
@@ -58,15 +58,15 @@ asked_settled x handsets edges =
 
 open_asked : (s : List ℕ) → HeaderAccepted s → open_of s ≡ asked (parameters_of (header_of s)) (handset_records s) (edge_records s) (Site (header_of s))
 unfolding open_of ask_records ask_edges
-open_asked s ok = go-on-header s _ ok
+open_asked s ok = go_on_header s _ ok
 
 module _ (s t : List ℕ) (same : SameRecords s t) (ok : HeaderAccepted s) (fine : HeaderAccepted t) where
-  pub same-opening : SameOpening s t
-  same-opening = go (asked_settled (parameters_of (header_of s)) (handset_records s) (edge_records s))
+  pub same_opening : SameOpening s t
+  same_opening = go (asked_settled (parameters_of (header_of s)) (handset_records s) (edge_records s))
     where
-      of-t : open_of t ≡ asked (parameters_of (header_of s)) (handset_records s) (edge_records s) (Site (header_of t))
-      of-t = open_asked t fine ∙ sym (λ i. asked (same.parameters i) (same.handsets i) (same.edges i) (Site (header_of t)))
+      of_t : open_of t ≡ asked (parameters_of (header_of s)) (handset_records s) (edge_records s) (Site (header_of t))
+      of_t = open_asked t fine ∙ sym (λ i. asked (same.parameters i) (same.handsets i) (same.edges i) (Site (header_of t)))
 
       go : Settled (asked (parameters_of (header_of s)) (handset_records s) (edge_records s)) → SameOpening s t
-      go (inl f) = inl (open_asked s ok ∙ f (Site (header_of s)), of-t ∙ f (Site (header_of t)))
-      go (inr (q, l, h, f)) = inr (q, l, h, open_asked s ok ∙ f (Site (header_of s)), of-t ∙ f (Site (header_of t)))
+      go (inl f) = inl (open_asked s ok ∙ f (Site (header_of s)), of_t ∙ f (Site (header_of t)))
+      go (inr (q, l, h, f)) = inr (q, l, h, open_asked s ok ∙ f (Site (header_of s)), of_t ∙ f (Site (header_of t)))

@@ -2,9 +2,9 @@
 -- writer's answer is the reader's answer to the image written, but for 20; and that image has the records of every image that holds the tables (proofs/Openings).
 --
 --     reads_back                   what is written is read back
---     asked_of, records-of         the tables that an image holds pass 3, 5 and 6, and their image has its records
---     image-opening                so the two are both accepted, or refused with the same number and place; accepted-image: the first where one is
---     writer-too, image-too        a refusal of such an image is the writer's, and one of the writer's is the image's, but for 20
+--     asked_of, records_of         the tables that an image holds pass 3, 5 and 6, and their image has its records
+--     image_opening                so the two are both accepted, or refused with the same number and place; accepted_image: the first where one is
+--     writer_too, image_too        a refusal of such an image is the writer's, and one of the writer's is the image's, but for 20
 --     no_longer                    the image written is no longer than one that holds its tables
 --     written_again                an accepted image's tables are written where there is room, and what is written has the image's outcome
 --     round_trips                  the theorem
@@ -26,20 +26,20 @@ use Rattle.image.specs.declared.Header.{Header}
 use Rattle.image.specs.declared.Refusal.{Refusal}
 use Rattle.image.specs.declared.Opened.{Opened}
 use Rattle.image.specs.declared.Opened.TheVariants as O
-use Rattle.image.proofs.Acceptance.{accepted, opened, header-fits, header-length, tables-clear}
+use Rattle.image.proofs.Acceptance.{accepted, opened, header_fits, header_length, tables_clear}
 use Rattle.image.proofs.Answers.{open_same}
 use Rattle.layout.specs.Layout.{header_for, image_of, Signed32}
 use Rattle.layout.specs.declared.Parameters.{Parameters}
-use Rattle.layout.proofs.Reading.{Asked, image-below, header_read, handsets-read, edges-read, header-accepted}
+use Rattle.layout.proofs.Reading.{Asked, image_below, header_read, handsets_read, edges_read, header_accepted}
 use Rattle.writer.specs.Holds.{parameters_of, Holds}
 use Rattle.writer.specs.Writer.{ask_buffer, WriteCall}
 use Rattle.writer.specs.declared.Encoded.{Encoded}
 use Rattle.writer.specs.declared.Encoded.TheVariants as E
-use Rattle.writer.proofs.Drafting.{by-reader}
-use Rattle.writer.proofs.Outcome.{no_length, Granted, granted, front, rest, kept, answer-by, written, too_short}
-use Rattle.writer.proofs.Tables.{asked_by, handsets-are, edges_are, image_holds, tables-of}
+use Rattle.writer.proofs.Drafting.{by_reader}
+use Rattle.writer.proofs.Outcome.{no_length, Granted, granted, front, rest, kept, answer_by, written, too_short}
+use Rattle.writer.proofs.Tables.{asked_by, handsets_are, edges_are, image_holds, tables_of}
 use Rattle.roundtrips.specs.RoundTrips.{ReadsBack, SameOutcome, RoundTrips}
-use Rattle.roundtrips.proofs.Openings.{SameRecords, SameOpening, same-opening}
+use Rattle.roundtrips.proofs.Openings.{SameRecords, SameOpening, same_opening}
 use Rattle.roundtrips.proofs.Same.{same_outcome}
 
 -- ---- the cases of an answer
@@ -65,7 +65,7 @@ reads_back x coords ends l k l' call signed low =
     let g : Granted x coords ends (length l) k = granted x coords ends l k l' call in
     let same : take k l' ≡ image_of x coords ends = front x coords ends l k l' call in record {
       size = g.size;
-      opens = λ o e. open_same o (open_of (take k l')) e ∙ ap open_of same ∙ sym (by-reader x coords ends g.asked) ∙ g.site;
+      opens = λ o e. open_same o (open_of (take k l')) e ∙ ap open_of same ∙ sym (by_reader x coords ends g.asked) ∙ g.site;
       holds = subst (λ (t : List ℕ). Holds t x coords ends) (sym same) (image_holds x coords ends signed low g.asked);
       rest = rest x coords ends l k l' call;
     }
@@ -76,31 +76,31 @@ reads_back x coords ends l k l' call signed low =
 no_longer : (s : List ℕ) (x : Parameters) (coords : List ℤ) (ends : List ℕ) → HeaderAccepted s → Holds s x coords ends → (header_for x).len ≤ length s
 no_longer s x coords ends ok held =
     let h : Header = header_of s in
-    let f = header-fits s ok in
+    let f = header_fits s ok in
     let n : h.n ≡ x.n = ap (λ (y : Parameters). y.n) held.parameters in
     let m : h.m ≡ x.m = ap (λ (y : Parameters). y.m) held.parameters in
     ⊎_elim
-    (λ t. omega (arith, f.handsets_from, f.edges_to, header-length s ok, leb→le (h.handsets + handset_bytes * h.n) h.edges t))
-    (λ t. omega (arith, f.edges_from, f.handsets_to, header-length s ok, leb→le (h.edges + edge_bytes * h.m) h.handsets t))
-    (tables-clear s ok)
+    (λ t. omega (arith, f.handsets_from, f.edges_to, header_length s ok, leb→le (h.handsets + handset_bytes * h.n) h.edges t))
+    (λ t. omega (arith, f.edges_from, f.handsets_to, header_length s ok, leb→le (h.edges + edge_bytes * h.m) h.handsets t))
+    (tables_clear s ok)
 
 module _ (s : List ℕ) (x : Parameters) (coords : List ℤ) (ends : List ℕ) (ok : HeaderAccepted s) (small : Below 256 s)
     (held : Holds s x coords ends) where
   asked_of : Asked x coords ends
   asked_of = asked_by (header_of s) x coords ends held.parameters ok.q3 ok.q5 held.coordinate_count_lem held.end_count_lem
 
-  records-of : SameRecords s (image_of x coords ends)
-  records-of = record {
+  records_of : SameRecords s (image_of x coords ends)
+  records_of = record {
     parameters = held.parameters ∙ sym (ap parameters_of (header_read x coords ends asked_of));
-    handsets = handsets-are s x coords ends ok small held ∙ sym (handsets-read x coords ends asked_of);
-    edges = edges_are s x coords ends ok small held ∙ sym (edges-read x coords ends asked_of);
+    handsets = handsets_are s x coords ends ok small held ∙ sym (handsets_read x coords ends asked_of);
+    edges = edges_are s x coords ends ok small held ∙ sym (edges_read x coords ends asked_of);
   }
 
-  image-opening : SameOpening s (image_of x coords ends)
-  image-opening = same-opening s (image_of x coords ends) records-of ok (header-accepted x coords ends asked_of)
+  image_opening : SameOpening s (image_of x coords ends)
+  image_opening = same_opening s (image_of x coords ends) records_of ok (header_accepted x coords ends asked_of)
 
-  accepted-image : Accepted s → open_of (image_of x coords ends) ≡ O.Site (header_of (image_of x coords ends))
-  accepted-image good = go image-opening
+  accepted_image : Accepted s → open_of (image_of x coords ends) ≡ O.Site (header_of (image_of x coords ends))
+  accepted_image good = go image_opening
     where
       go : SameOpening s (image_of x coords ends) → open_of (image_of x coords ends) ≡ O.Site (header_of (image_of x coords ends))
       go (inl (_, again)) = again
@@ -108,25 +108,25 @@ module _ (s : List ℕ) (x : Parameters) (coords : List ℤ) (ends : List ℕ) (
 
   module _ (l : List ℕ) (r : Encoded) (l' : List ℕ) (call : WriteCall x coords ends l r l') where
     answered : (o : Opened) → open_of (image_of x coords ends) ≡ o → r ≡ by_answer o (ask_buffer (length l)) E.Refused
-    answered o e = answer-by x coords ends l r l' call asked_of o e
+    answered o e = answer_by x coords ends l r l' call asked_of o e
 
-    writer-too : (q : Refusal) → SameOpening s (image_of x coords ends) → open_of s ≡ O.Refused q
+    writer_too : (q : Refusal) → SameOpening s (image_of x coords ends) → open_of s ≡ O.Refused q
         → (r ≡ E.Refused q) × (7 ≤ q.number) × (q.number ≤ 10)
-    writer-too q (inl (site, _)) e = no_site (sym site ∙ e)
-    writer-too q (inr (p, from, to, here, again)) e =
+    writer_too q (inl (site, _)) e = no_site (sym site ∙ e)
+    writer_too q (inr (p, from, to, here, again)) e =
         let same : p ≡ q = same_refusal (sym here ∙ e) in
         let number : p.number ≡ q.number = ap (λ (y : Refusal). y.number) same in
         (answered _ again ∙ ap E.Refused same, omega arith, omega arith)
 
-    image-too : (q : Refusal) → SameOpening s (image_of x coords ends) → r ≡ E.Refused q → (open_of s ≡ O.Refused q) ⊎ (q.number ≡ 20)
-    image-too q (inl (_, again)) e = inr (only_20 q (leb _ (length l)) _ (sym e ∙ answered _ again))
-    image-too q (inr (p, _, _, here, again)) e = inl (here ∙ ap O.Refused (same_no (sym (answered _ again) ∙ e)))
+    image_too : (q : Refusal) → SameOpening s (image_of x coords ends) → r ≡ E.Refused q → (open_of s ≡ O.Refused q) ⊎ (q.number ≡ 20)
+    image_too q (inl (_, again)) e = inr (only_20 q (leb _ (length l)) _ (sym e ∙ answered _ again))
+    image_too q (inr (p, _, _, here, again)) e = inl (here ∙ ap O.Refused (same_no (sym (answered _ again) ∙ e)))
 
     written_again : Accepted s → (header_for x).len ≤ length l → (r ≡ E.Length (header_for x).len) × SameOutcome s (take (header_for x).len l')
     written_again good room =
         let image : List ℕ = image_of x coords ends in
-        let again : open_of image ≡ O.Site (header_of image) = accepted-image good in
-        let outcome : SameOutcome s image = same_outcome s image records-of good (accepted image (header_of image) again).0 in
+        let again : open_of image ≡ O.Site (header_of image) = accepted_image good in
+        let outcome : SameOutcome s image = same_outcome s image records_of good (accepted image (header_of image) again).0 in
         let w = written x coords ends asked_of again l r l' room call in
         (w.0, subst (SameOutcome s) (sym w.1) outcome)
 
@@ -135,16 +135,16 @@ round_trips = record {
   reads_back = λ x coords ends l k l' signed low call. reads_back x coords ends l k l' call signed low;
   written_again = λ s x coords ends l r l' good small held room call. written_again s x coords ends good.header small held l r l' call good room;
   too_short = λ s x coords ends l r l' good small held room call.
-      too_short x coords ends (asked_of s x coords ends good.header small held) (accepted-image s x coords ends good.header small held good) l r l' room call;
+      too_short x coords ends (asked_of s x coords ends good.header small held) (accepted_image s x coords ends good.header small held good) l r l' room call;
   kept = kept;
   same_refusals = λ s x coords ends l r l' ok small held call q.
-      let o : SameOpening s (image_of x coords ends) = image-opening s x coords ends ok small held in (
-        λ e. let a = writer-too s x coords ends ok small held l r l' call q o e in (a.0, omega (arith, a.1), omega (arith, a.2)),
-        λ (e, from, to). ⊎_elim (λ a. a) (λ n. absurd (omega arith)) (image-too s x coords ends ok small held l r l' call q o e),
+      let o : SameOpening s (image_of x coords ends) = image_opening s x coords ends ok small held in (
+        λ e. let a = writer_too s x coords ends ok small held l r l' call q o e in (a.0, omega (arith, a.1), omega (arith, a.2)),
+        λ (e, from, to). ⊎_elim (λ a. a) (λ n. absurd (omega arith)) (image_too s x coords ends ok small held l r l' call q o e),
       );
   an_image = λ x coords ends signed low q3 q5 q6.
       let ok : Asked x coords ends = record { q3 = q3; q5 = q5; q6 = q6 } in
-      (header-accepted x coords ends ok, image-below x coords ends, image_holds x coords ends signed low ok);
+      (header_accepted x coords ends ok, image_below x coords ends, image_holds x coords ends signed low ok);
   no_longer = no_longer;
-  its_tables = tables-of;
+  its_tables = tables_of;
 }

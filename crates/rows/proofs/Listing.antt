@@ -40,10 +40,10 @@ pub row_room : (rows : List ℕ) (k n : ℕ) → n ≤ 512 → length (select n 
 unfolding row_members
 row_room rows k n h =
     le_ind (λ (m : ℕ). length (select n (in_row rows k)) ≤ length (select m (in_row rows k))) (omega arith)
-    (λ m l e. omega (arith, e, select-grows m (in_row rows k))) 512 h
+    (λ m l e. omega (arith, e, select_grows m (in_row rows k))) 512 h
   where
-    select-grows : (m : ℕ) (f : ℕ → Bool) → length (select m f) ≤ length (select (suc m) f)
-    select-grows m f =
+    select_grows : (m : ℕ) (f : ℕ → Bool) → length (select m f) ≤ length (select (suc m) f)
+    select_grows m f =
         ⊎_elim
         (λ t. omega (arith, ap length (select_yes m f t), length-append (select m f) (m ∷ [])))
         (λ t. omega (arith, ap length (select_no m f t)))

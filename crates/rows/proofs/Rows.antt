@@ -6,10 +6,10 @@
 --     row_words_lem, row_slice           the words of row k have its members; the slice that the code cuts has them
 --     contains_row, contains_past    a row contains v where its bit is set; it contains nothing from 512 on
 --     times_none, times_more         counting the rows that contain v
---     found_none, found-more         the handsets in one row or more and in two or more: of no rows, and of one row more
---     meets-none, meets_word         the members of a row in a set: of no words, and of one word more
---     meets-row                      of all eight words
---     first_found, first-none        the first row that meets a set; none does
+--     found_none, found_more         the handsets in one row or more and in two or more: of no rows, and of one row more
+--     meets_none, meets_word         the members of a row in a set: of no words, and of one word more
+--     meets_row                      of all eight words
+--     first_found, first_none        the first row that meets a set; none does
 use Prim.Native.Nat.{ℕ, zero, suc, ◌+◌, ◌-◌, ◌*◌, ◌/◌, ◌%◌, ◌^◌, ◌≤◌, ◌<◌, min, max}
 use native.Mathlib.Omega.{arith}
 use native.Mathlib.Numerals.{add-one}
@@ -161,33 +161,33 @@ module _ (rows : List ℕ) (k : ℕ) (once twice once' twice' : List ℕ) (found
       times_more rows k v
       ∙ ap (λ (x : ℕ). membership_count v (rows_of rows k) + x) (ap bit (contains_row rows k v h) ∙ test_bit (cell rows k v) (bit_at_lt rows (k * 512 + v)))
 
-  once-bit : (v : ℕ) → v < 512 → bit_at once' v ≡ max (bit_at once v) (cell rows k v)
+  once_bit : (v : ℕ) → v < 512 → bit_at once' v ≡ max (bit_at once v) (cell rows k v)
   unfolding bit_at
-  once-bit v h =
+  once_bit v h =
       ap (λ (w : ℕ). bit_of w (v % 64)) (added.once_words (v / 64) (omega arith))
       ∙ bit_of_or (get_or once (v / 64) 0) (get_or rows (k * 8 + v / 64) 0) (v % 64)
       ∙ ap (max (bit_of (get_or once (v / 64) 0) (v % 64))) (sym (cell_at rows k v))
 
-  twice-bit : (v : ℕ) → v < 512 → bit_at twice' v ≡ max (bit_at twice v) (min (bit_at once v) (cell rows k v))
+  twice_bit : (v : ℕ) → v < 512 → bit_at twice' v ≡ max (bit_at twice v) (min (bit_at once v) (cell rows k v))
   unfolding bit_at
-  twice-bit v h =
+  twice_bit v h =
       ap (λ (w : ℕ). bit_of w (v % 64)) (added.twice_words (v / 64) (omega arith))
       ∙ bit_of_or (get_or twice (v / 64) 0) (bit_and (get_or once (v / 64) 0) (get_or rows (k * 8 + v / 64) 0)) (v % 64)
       ∙ ap (max (bit_of (get_or twice (v / 64) 0) (v % 64)))
       (bit_of_and (get_or once (v / 64) 0) (get_or rows (k * 8 + v / 64) 0) (v % 64) ∙ ap (min (bit_of (get_or once (v / 64) 0) (v % 64))) (sym (cell_at rows k v)))
 
-  pub found-more : MembersFound (rows_of rows (k + 1)) once' twice'
-  found-more = record {
+  pub found_more : MembersFound (rows_of rows (k + 1)) once' twice'
+  found_more = record {
     in_one = record {
       size = added.once_size;
       bits = λ v h.
-          once-bit v h ∙ ap (λ (x : ℕ). max x (cell rows k v)) (found.in_one.bits v h)
+          once_bit v h ∙ ap (λ (x : ℕ). max x (cell rows k v)) (found.in_one.bits v h)
           ∙ once_step (membership_count v (rows_of rows k)) (cell rows k v) (bit_at_lt rows (k * 512 + v)) ∙ ap (λ (n : ℕ). bit (leb 1 n)) (sym (times v h));
     };
     in_two = record {
       size = added.twice_size;
       bits = λ v h.
-          twice-bit v h ∙ ap₂ (λ (x y : ℕ). max x (min y (cell rows k v))) (found.in_two.bits v h) (found.in_one.bits v h)
+          twice_bit v h ∙ ap₂ (λ (x y : ℕ). max x (min y (cell rows k v))) (found.in_two.bits v h) (found.in_one.bits v h)
           ∙ twice_step (membership_count v (rows_of rows k)) (cell rows k v) (bit_at_lt rows (k * 512 + v)) ∙ ap (λ (n : ℕ). bit (leb 2 n)) (sym (times v h));
     };
   }
@@ -260,9 +260,9 @@ module _ (set rows : List ℕ) (k : ℕ) where
   abbrev pub common : ℕ → Bool
   common v = eqb (bit_at set v) 1 && in_row rows k v
 
-  pub meets-none : eqb 0 0 ≡ not (any 0 common)
+  pub meets_none : eqb 0 0 ≡ not (any 0 common)
   unfolding any
-  meets-none = refl
+  meets_none = refl
 
   pub meets_word : (both j : ℕ) → (let x = get_or rows (k * 8 + j) 0 in let y = get_or set j 0 in x < 2 ^ 64 → y < 2 ^ 64 → eqb both 0 ≡ not (any (j * 64) common)
       → eqb (bit_or both (bit_and x y)) 0 ≡ not (any ((j + 1) * 64) common))
@@ -279,40 +279,40 @@ module _ (set rows : List ℕ) (k : ℕ) where
       ∙ not_or (any (j * 64) common) (any 64 (λ (i : ℕ). common (j * 64 + i)))
       ∙ ap not (sym (any_split (j * 64) 64 common) ∙ ap (λ (n : ℕ). any n common) (sym p))
 
-  pub meets-row : (both : ℕ) → eqb both 0 ≡ not (any 512 common) → not (eqb both 0) ≡ meets set (row_members rows k)
+  pub meets_row : (both : ℕ) → eqb both 0 ≡ not (any 512 common) → not (eqb both 0) ≡ meets set (row_members rows k)
   unfolding meets
-  meets-row both e =
+  meets_row both e =
       ap not e ∙ not_not (any 512 common)
       ∙ any_cong 512 common (λ v. eqb (bit_at set v) 1 && contains v (row_members rows k)) (λ v h. ap (λ (b : Bool). eqb (bit_at set v) 1 && b) (sym (contains_row rows k v h)))
 
 -- ---- the first row that meets a set
 module _ (set rows : List ℕ) (g : ℕ) where
-  abbrev pub meetsAt : ℕ → Bool
-  meetsAt k = meets set (row_members rows k)
+  abbrev pub meets_at : ℕ → Bool
+  meets_at k = meets set (row_members rows k)
 
-  listed : (k : ℕ) → k < g → meetsAt k ≡ meets set (get_or (rows_of rows g) k [])
+  listed : (k : ℕ) → k < g → meets_at k ≡ meets set (get_or (rows_of rows g) k [])
   listed k h = ap (meets set) (sym (rows_at rows g k h))
 
-  pub first_found : (k : ℕ) → k < g → meetsAt k ≡ true → T (not (any k meetsAt)) → first_meeting set (rows_of rows g) ≡ k
+  pub first_found : (k : ℕ) → k < g → meets_at k ≡ true → T (not (any k meets_at)) → first_meeting set (rows_of rows g) ≡ k
   unfolding first_meeting
   first_found k h t n =
       find_is (length (rows_of rows g)) (λ i. meets set (get_or (rows_of rows g) i [])) k (omega (arith, rows_length rows g))
       (subst T (sym t ∙ listed k h) tt)
-      (subst T (ap not (any_cong k meetsAt (λ i. meets set (get_or (rows_of rows g) i [])) (λ i l. listed i (omega arith)))) n)
+      (subst T (ap not (any_cong k meets_at (λ i. meets set (get_or (rows_of rows g) i [])) (λ i l. listed i (omega arith)))) n)
 
-  pub first-none : T (not (any g meetsAt)) → first_meeting set (rows_of rows g) ≡ g
+  pub first_none : T (not (any g meets_at)) → first_meeting set (rows_of rows g) ≡ g
   unfolding first_meeting
-  first-none n =
+  first_none n =
       find_none (length (rows_of rows g)) (λ i. meets set (get_or (rows_of rows g) i []))
       (subst T
-      (ap not (any_cong g meetsAt (λ i. meets set (get_or (rows_of rows g) i [])) listed ∙ ap (λ (m : ℕ). any m (λ i. meets set (get_or (rows_of rows g) i []))) (sym (rows_length rows g))))
+      (ap not (any_cong g meets_at (λ i. meets set (get_or (rows_of rows g) i [])) listed ∙ ap (λ (m : ℕ). any m (λ i. meets set (get_or (rows_of rows g) i []))) (sym (rows_length rows g))))
       n)
       ∙ rows_length rows g
 
-  pub none_before : T (not (any 0 meetsAt))
+  pub none_before : T (not (any 0 meets_at))
   unfolding any
   none_before = tt
 
-  pub none-next : (k : ℕ) → T (not (any k meetsAt)) → meetsAt k ≡ false → T (not (any (k + 1) meetsAt))
+  pub none_next : (k : ℕ) → T (not (any k meets_at)) → meets_at k ≡ false → T (not (any (k + 1) meets_at))
   unfolding any
-  none-next k n e = subst T (sym (ap not (ap (λ (m : ℕ). any m meetsAt) (add-one k) ∙ ap (λ (b : Bool). b || any k meetsAt) e))) n
+  none_next k n e = subst T (sym (ap not (ap (λ (m : ℕ). any m meets_at) (add-one k) ∙ ap (λ (b : Bool). b || any k meets_at) e))) n

@@ -106,17 +106,17 @@ module _ (k : ℕ) (starts members starts' members' : List ℕ) where
       (a.2, inr a.1)
   refused (C.Neither q) r e = (refl, inl cc)
 
-  workday-counted : (c : Choice) (n : ℕ) → answer c ≡ S.Workday n → (c ≡ C.Workday) × (n ≡ length (part c))
+  workday_counted : (c : Choice) (n : ℕ) → answer c ≡ S.Workday n → (c ≡ C.Workday) × (n ≡ length (part c))
   unfolding part_of scheduled_of unnamed table
-  workday-counted C.Workday n e = (refl, ((lookup.agree starts members k).found n (workday_unnamed (looked_of starts members k) ∙ ap unnamed e)).2)
-  workday-counted C.Restday n e = absurd (in_second (looked_of starts' members' k) (ap table e))
-  workday-counted (C.Neither q) n e = let z : ◌≡◌ {A = ℕ} 0 1 = ap table e in absurd (omega arith)
+  workday_counted C.Workday n e = (refl, ((lookup.agree starts members k).found n (workday_unnamed (looked_of starts members k) ∙ ap unnamed e)).2)
+  workday_counted C.Restday n e = absurd (in_second (looked_of starts' members' k) (ap table e))
+  workday_counted (C.Neither q) n e = let z : ◌≡◌ {A = ℕ} 0 1 = ap table e in absurd (omega arith)
 
-  restday-counted : (c : Choice) (n : ℕ) → answer c ≡ S.Restday n → (c ≡ C.Restday) × (n ≡ length (part c))
+  restday_counted : (c : Choice) (n : ℕ) → answer c ≡ S.Restday n → (c ≡ C.Restday) × (n ≡ length (part c))
   unfolding part_of scheduled_of unnamed table
-  restday-counted C.Workday n e = absurd (in_first (looked_of starts members k) (ap table e))
-  restday-counted C.Restday n e = (refl, ((lookup.agree starts' members' k).found n (restday_unnamed (looked_of starts' members' k) ∙ ap unnamed e)).2)
-  restday-counted (C.Neither q) n e = let z : ◌≡◌ {A = ℕ} 0 2 = ap table e in absurd (omega arith)
+  restday_counted C.Workday n e = absurd (in_first (looked_of starts members k) (ap table e))
+  restday_counted C.Restday n e = (refl, ((lookup.agree starts' members' k).found n (restday_unnamed (looked_of starts' members' k) ∙ ap unnamed e)).2)
+  restday_counted (C.Neither q) n e = let z : ◌≡◌ {A = ℕ} 0 2 = ap table e in absurd (omega arith)
 
 -- a choice that is neither is 18 or 19
 neither : (t : Time) (w : Window) (r : Refusal) → choice_of t w ≡ C.Neither r → (r ≡ refusal 18) ⊎ (r ≡ refusal 19)
@@ -135,8 +135,8 @@ agreement t w k starts members starts' members' = record {
   no_minutes = λ a b. rw (no_minutes t w (T_true (date_fits t) a) (T_false (minutes_fit t w) (not_T (minutes_fit t w) b)));
   workday = λ a b e. rw (chosen t w (T_true _ a) (T_true _ b) ∙ e) (refl, refl);
   restday = λ a b e. rw (chosen t w (T_true _ a) (T_true _ b) ∙ e) (refl, refl);
-  in_workday = λ n e. workday-counted k starts members starts' members' (choice_of t w) n e;
-  in_restday = λ n e. restday-counted k starts members starts' members' (choice_of t w) n e;
+  in_workday = λ n e. workday_counted k starts members starts' members' (choice_of t w) n e;
+  in_restday = λ n e. restday_counted k starts members starts' members' (choice_of t w) n e;
   refused = λ r e.
       let a = refused k starts members starts' members' (choice_of t w) r e in (
         a.0,

@@ -2,11 +2,11 @@
 --
 --     listed              the entries of a list that question 13 passes, for at most 512 handsets
 --     counted             such entries counted: the table of multiplicities
---     entries-no, none_bad, entries-yes     question 13, by the place where the scan of the entries stopped
+--     entries_no, none_bad, entries_yes     question 13, by the place where the scan of the entries stopped
 --     entries_good        a list of at most 512 entries, all below n, passes question 13
 --     table_le            no place holds more than 512
---     tiesOf, leaves      what one edge adds to t, and whether it adds to o, by a table; ties-le: at most 512 * 512
---     joined-none, leaving-none, joined-more, leaving-more     no edge, and one more; joined-le, leaving-le: how much the first edges make
+--     ties_of, leaves      what one edge adds to t, and whether it adds to o, by a table; ties_le: at most 512 * 512
+--     joined_none, leaving_none, joined_more, leaving_more     no edge, and one more; joined_le, leaving_le: how much the first edges make
 --     table_tally         the counts by a table of multiplicities are the tally over the edges
 use Prim.Native.Nat.{ℕ, zero, suc, ◌+◌, ◌*◌, ◌≤◌, ◌<◌}
 use native.Mathlib.Omega.{arith}
@@ -40,19 +40,19 @@ some_bad n l i w =
     ⊎_elim (λ h. or_left (leb n (get_or l i 0)) (leb 512 i) (le→leb n (get_or l i 0) h)) (λ h. or_right (leb n (get_or l i 0)) (leb 512 i) (le→leb 512 i h)) w
 
 module _ (n : ℕ) (l : List ℕ) (few : n ≤ 512) (t : T (not (any (length l) (bad_entry n l)))) where
-  not-bad : (i : ℕ) → i < length l → (n ≤ get_or l i 0) ⊎ (512 ≤ i) → ⊥
-  not-bad i h w = not_any (length l) (bad_entry n l) i t h (some_bad n l i w)
+  not_bad : (i : ℕ) → i < length l → (n ≤ get_or l i 0) ⊎ (512 ≤ i) → ⊥
+  not_bad i h w = not_any (length l) (bad_entry n l) i t h (some_bad n l i w)
 
-  is-short : Dec (512 < length l) → length l ≤ 512
-  is-short (yes h) = absurd (not-bad 512 h (inr (omega arith)))
-  is-short (no h) = omega arith
+  is_short : Dec (512 < length l) → length l ≤ 512
+  is_short (yes h) = absurd (not_bad 512 h (inr (omega arith)))
+  is_short (no h) = omega arith
 
-  is-low : (i : ℕ) → i < length l → Dec (get_or l i 0 < 512) → get_or l i 0 < 512
-  is-low i h (yes k) = k
-  is-low i h (no k) = absurd (not-bad i h (inl (omega arith)))
+  is_low : (i : ℕ) → i < length l → Dec (get_or l i 0 < 512) → get_or l i 0 < 512
+  is_low i h (yes k) = k
+  is_low i h (no k) = absurd (not_bad i h (inl (omega arith)))
 
   pub listed : GoodEntries l
-  listed = record { short = is-short (dec_lt 512 (length l)); low = λ i h. is-low i h (dec_lt (get_or l i 0) 512) }
+  listed = record { short = is_short (dec_lt 512 (length l)); low = λ i h. is_low i h (dec_lt (get_or l i 0) 512) }
 
 pub counted : (l table : List ℕ) → GoodEntries l → EntriesCounted l table → Multiplicities table l
 counted l table a c = record { held = λ v. pick v (dec_lt v 512) }
@@ -70,9 +70,9 @@ table_le l table a m v = omega (arith, m.held v, multiplicity_le l v, a.short)
 -- ---- question 13, by the place where the scan of the entries stopped
 
 module _ (n : ℕ) (l : List ℕ) (t : Tally) (r : ℕ) (e : r ≡ find (length l) (bad_entry n l)) where
-  pub entries-no : r < length l → T.Refused (record { number = 13; place = r }) ≡ ask_entries n l t
+  pub entries_no : r < length l → T.Refused (record { number = 13; place = r }) ≡ ask_entries n l t
   unfolding ask_entries
-  entries-no h =
+  entries_no h =
       ⊎_elim (λ y. rw (T_true (any (length l) (bad_entry n l)) y, ← e)) (λ z. absurd (omega (arith, find_none (length l) (bad_entry n l) z)))
       (decide (any (length l) (bad_entry n l)))
 
@@ -81,9 +81,9 @@ module _ (n : ℕ) (l : List ℕ) (t : Tally) (r : ℕ) (e : r ≡ find (length 
       ⊎_elim (λ y. absurd (omega (arith, (find_law (length l) (bad_entry n l) y).0))) (λ z. z)
       (decide (any (length l) (bad_entry n l)))
 
-  pub entries-yes : length l ≤ r → T.Of t ≡ ask_entries n l t
+  pub entries_yes : length l ≤ r → T.Of t ≡ ask_entries n l t
   unfolding ask_entries
-  entries-yes h = rw (T_false (any (length l) (bad_entry n l)) (none_bad h))
+  entries_yes h = rw (T_false (any (length l) (bad_entry n l)) (none_bad h))
 
 -- a list of at most 512 entries, all below n, gets a yes
 good_entry : (n : ℕ) (l : List ℕ) (i : ℕ) → i < 512 → get_or l i 0 < n → T (bad_entry n l i) → ⊥
@@ -100,44 +100,44 @@ entries_good n l t a b =
 
 module _ (table records : List ℕ) (test : ℕ → Bool) where
   -- what edge k adds to t, and whether it adds to o, by a table
-  abbrev pub tiesOf : ℕ → ℕ
-  tiesOf k = cond (test k) (get_or table (end_a records k) 0 * get_or table (end_b records k) 0) 0
+  abbrev pub ties_of : ℕ → ℕ
+  ties_of k = cond (test k) (get_or table (end_a records k) 0 * get_or table (end_b records k) 0) 0
 
   abbrev pub leaves : ℕ → Bool
   leaves k = test k && just_one (leb 1 (get_or table (end_a records k) 0)) (leb 1 (get_or table (end_b records k) 0))
 
-  pub joined-none : joined_sum table records test 0 ≡ 0
+  pub joined_none : joined_sum table records test 0 ≡ 0
   unfolding joined_sum sum
-  joined-none = refl
+  joined_none = refl
 
-  pub leaving-none : leaving_sum table records test 0 ≡ 0
+  pub leaving_none : leaving_sum table records test 0 ≡ 0
   unfolding leaving_sum count
-  leaving-none = refl
+  leaving_none = refl
 
-  pub joined-more : (k : ℕ) → joined_sum table records test (k + 1) ≡ joined_sum table records test k + tiesOf k
+  pub joined_more : (k : ℕ) → joined_sum table records test (k + 1) ≡ joined_sum table records test k + ties_of k
   unfolding joined_sum sum
-  joined-more k = rw (add-one k) (omega arith)
+  joined_more k = rw (add-one k) (omega arith)
 
-  pub leaving-more : (k : ℕ) → leaving_sum table records test (k + 1) ≡ leaving_sum table records test k + bit (leaves k)
+  pub leaving_more : (k : ℕ) → leaving_sum table records test (k + 1) ≡ leaving_sum table records test k + bit (leaves k)
   unfolding leaving_sum
-  leaving-more k = count_more k leaves
+  leaving_more k = count_more k leaves
 
-  pub leaving-le : (k : ℕ) → leaving_sum table records test k ≤ k
+  pub leaving_le : (k : ℕ) → leaving_sum table records test k ≤ k
   unfolding leaving_sum
-  leaving-le k = count_le k _
+  leaving_le k = count_le k _
 
   module _ (h : (v : ℕ) → get_or table v 0 ≤ 512) where
-    pub ties-le : (k : ℕ) → tiesOf k ≤ 262144
-    ties-le k = pick (test k)
+    pub ties_le : (k : ℕ) → ties_of k ≤ 262144
+    ties_le k = pick (test k)
       where
         pick : (b : Bool) → cond b (get_or table (end_a records k) 0 * get_or table (end_b records k) 0) 0 ≤ 262144
         pick true = mul-le-mul {n₂ = 512} {m₂ = 512} (h (end_a records k)) (h (end_b records k))
         pick false = omega arith
 
-    pub joined-le : (k : ℕ) → joined_sum table records test k ≤ 262144 * k
+    pub joined_le : (k : ℕ) → joined_sum table records test k ≤ 262144 * k
     unfolding joined_sum sum
-    joined-le zero = omega arith
-    joined-le (suc k) = omega (arith, joined-le k, ties-le k)
+    joined_le zero = omega arith
+    joined_le (suc k) = omega (arith, joined_le k, ties_le k)
 
 pub table_tally : (records : List ℕ) (m : ℕ) (test : ℕ → Bool) (l table : List ℕ) → Multiplicities table l
     → record { pairs = pairs l; joined = joined_sum table records test m; leaving = leaving_sum table records test m } ≡ tally_at records m test l

@@ -1,10 +1,10 @@
 -- The closures that a search finds: a closure has the row of its start and of each core left that it has, and it is the least such set. So what
 -- `collect` leaves is the closure, whatever rows stand in the place of those of cores that are not left.
 --
---     closure-start, closure-on, closure-least     a closure is the least set with the row of its start that is closed under steps
---     collected-closure                            the set that `collect` gives is the closure; collected-left: and what is left is left without it
+--     closure_start, closure_on, closure_least     a closure is the least set with the row of its start that is closed under steps
+--     collected_closure                            the set that `collect` gives is the closure; collected_left: and what is left is left without it
 --     left_first, left_next                        what is left at first, and after each search; found_is: what a search finds
---     smallest-later                               a search takes out the smallest core left, so the next one starts after it
+--     smallest_later                               a search takes out the smallest core left, so the next one starts after it
 --     searched_most, search_most                   so there are at most 512 searches, whatever the tables
 --     Finding                                      the loop of find_communities: k rows are written, those of the cores left are as at first
 use Prim.Native.Nat.{ℕ, zero, suc, ◌+◌, ◌*◌, ◌-◌, ◌/◌, ◌%◌, ◌≤◌, ◌<◌, min}
@@ -23,7 +23,7 @@ use Rattle.sets.proofs.Bits.{bit_at_lt, zeros, bit_at_zeros}
 use Rattle.sets.proofs.Counting.{bit_true}
 use Rattle.sets.proofs.Tests.{and_make, and_left, and_right, or_left, decide, eqb_of, eqb_not, any_make, none_any, not_any, find_law, find_is, find_none}
 use Rattle.community.specs.Network.{chain}
-use Rattle.community.proofs.Reachability.{chain-step, chain-meet, chain-least}
+use Rattle.community.proofs.Reachability.{chain_step, chain_meet, chain_least}
 use Rattle.search.specs.ForProofs.{FirstCommon, Joined, Stored, Collected}
 use Rattle.search.specs.Search.{steps, closure, left_after, found_by, Searched, Sized, SearchCall}
 use Rattle.search.proofs.Growth.{cell_at, sum_less}
@@ -57,20 +57,20 @@ module _ (rows : List ℕ) (left : ℕ → Bool) (u : ℕ) where
   unfolding steps
   step_in x v t e = and_make (left x) (eqb (cell rows x v) 1) t (eqb_of (cell rows x v) 1 e)
 
-  pub closure-on : (x v : ℕ) → x < 512 → T (closure rows left u x) → T (left x) → cell rows x v ≡ 1 → T (closure rows left u v)
+  pub closure_on : (x v : ℕ) → x < 512 → T (closure rows left u x) → T (left x) → cell rows x v ≡ 1 → T (closure rows left u v)
   unfolding closure
-  closure-on x v h t p e = chain-meet (steps rows left) 512 x h u v t (chain-step (steps rows left) 512 x v (step_in x v p e))
+  closure_on x v h t p e = chain_meet (steps rows left) 512 x h u v t (chain_step (steps rows left) 512 x v (step_in x v p e))
 
-  pub closure-start : (v : ℕ) → T (left u) → cell rows u v ≡ 1 → T (closure rows left u v)
+  pub closure_start : (v : ℕ) → T (left u) → cell rows u v ≡ 1 → T (closure rows left u v)
   unfolding closure
-  closure-start v p e = chain-step (steps rows left) 512 u v (step_in u v p e)
+  closure_start v p e = chain_step (steps rows left) 512 u v (step_in u v p e)
 
-  pub closure-least : (f : ℕ → Bool) → u < 512 → ((v : ℕ) → v < 512 → cell rows u v ≡ 1 → T (f v))
+  pub closure_least : (f : ℕ → Bool) → u < 512 → ((v : ℕ) → v < 512 → cell rows u v ≡ 1 → T (f v))
       → ((x v : ℕ) → x < 512 → v < 512 → T (f x) → T (left x) → cell rows x v ≡ 1 → T (f v))
       → (v : ℕ) → v < 512 → T (closure rows left u v) → T (f v)
   unfolding closure steps
-  closure-least f h first on v l t =
-      chain-least (steps rows left) 512 (λ x y. (x ≡ u) ⊎ T (f x) → T (f y))
+  closure_least f h first on v l t =
+      chain_least (steps rows left) 512 (λ x y. (x ≡ u) ⊎ T (f x) → T (f y))
       (λ x y a b s.
       let e : cell rows x y ≡ 1 = eqb→eq (cell rows x y) 1 (and_right (left x) (eqb (cell rows x y) 1) s) in
       ⊎_elim (λ q. first y b (ap (λ (z : ℕ). cell rows z y) (sym q) ∙ e)) (λ fx. on x y a b fx (and_left (left x) (eqb (cell rows x y) 1) s) e))
@@ -80,47 +80,47 @@ module _ (rows : List ℕ) (left : ℕ → Bool) (u : ℕ) where
 -- the numbers of `left` pass the test f, and the table has rows for them as in `rows`
 module _ (rows table left : List ℕ) (f : ℕ → Bool) (left_is : (v : ℕ) → v < 512 → bit_at left v ≡ bit (f v))
     (same : (x v : ℕ) → x < 512 → v < 512 → bit_at left x ≡ 1 → cell table x v ≡ cell rows x v)
-    (u : ℕ) (h : u < 512) (is-left : T (f u)) (left' set : List ℕ) (col : Collected table left u left' set) where
+    (u : ℕ) (h : u < 512) (is_left : T (f u)) (left' set : List ℕ) (col : Collected table left u left' set) where
   in_left : (x : ℕ) → x < 512 → T (f x) → bit_at left x ≡ 1
   in_left x l t = left_is x l ∙ bit_true (f x) t
 
-  pub collected-closure : (v : ℕ) → v < 512 → bit_at set v ≡ bit (closure rows f u v)
-  collected-closure v l =
+  pub collected_closure : (v : ℕ) → v < 512 → bit_at set v ≡ bit (closure rows f u v)
+  collected_closure v l =
       bit_is (closure rows f u v) (bit_at set v) (bit_at_lt set v)
       (λ e.
-      col.least (closure rows f u) (λ y hy c. closure-start rows f u y is-left (sym (same u y h hy (in_left u h is-left)) ∙ c))
-      (λ x y hx hy t p r. closure-on rows f u x y hx t (bit_one (f x) (bit_at left x) (left_is x hx) p) (sym (same x y hx hy p) ∙ r))
+      col.least (closure rows f u) (λ y hy c. closure_start rows f u y is_left (sym (same u y h hy (in_left u h is_left)) ∙ c))
+      (λ x y hx hy t p r. closure_on rows f u x y hx t (bit_one (f x) (bit_at left x) (left_is x hx) p) (sym (same x y hx hy p) ∙ r))
       v l e)
       (λ t.
       eqb→eq (bit_at set v) 1
-      (closure-least rows f u (λ x. eqb (bit_at set x) 1) h
-      (λ y hy c. eqb_of (bit_at set y) 1 (col.start y hy (same u y h hy (in_left u h is-left) ∙ c)))
+      (closure_least rows f u (λ x. eqb (bit_at set x) 1) h
+      (λ y hy c. eqb_of (bit_at set y) 1 (col.start y hy (same u y h hy (in_left u h is_left) ∙ c)))
       (λ x y hx hy s p r.
       eqb_of (bit_at set y) 1
       (col.closed x y hx hy (eqb→eq (bit_at set x) 1 s) (in_left x hx p) (same x y hx hy (in_left x hx p) ∙ r)))
       v l t))
 
-  pub collected-left : (v : ℕ) → v < 512 → bit_at left' v ≡ bit (f v && not (eqb u v || closure rows f u v))
-  collected-left v l = pick (ℕ_discrete v u)
+  pub collected_left : (v : ℕ) → v < 512 → bit_at left' v ≡ bit (f v && not (eqb u v || closure rows f u v))
+  collected_left v l = pick (ℕ_discrete v u)
     where
-      and-not : (a b : Bool) {x y z : ℕ} → x ≡ min y (1 - z) → y ≡ bit a → z ≡ bit b → x ≡ bit (a && not b)
-      and-not true true e p q = omega (arith, e, p, q)
-      and-not true false e p q = omega (arith, e, p, q)
-      and-not false b e p q = omega (arith, e, p)
+      and_not : (a b : Bool) {x y z : ℕ} → x ≡ min y (1 - z) → y ≡ bit a → z ≡ bit b → x ≡ bit (a && not b)
+      and_not true true e p q = omega (arith, e, p, q)
+      and_not true false e p q = omega (arith, e, p, q)
+      and_not false b e p q = omega (arith, e, p)
 
-      start-out : (a b c : Bool) → T b → 0 ≡ bit (a && not (b || c))
-      start-out true true c t = refl
-      start-out false true c t = refl
-      start-out a false c t = absurd t
+      start_out : (a b c : Bool) → T b → 0 ≡ bit (a && not (b || c))
+      start_out true true c t = refl
+      start_out false true c t = refl
+      start_out a false c t = absurd t
 
       other : (b c : Bool) → T (not b) → c ≡ (b || c)
       other true c t = absurd t
       other false c t = refl
 
       pick : Dec (v ≡ u) → bit_at left' v ≡ bit (f v && not (eqb u v || closure rows f u v))
-      pick (yes e) = ap (bit_at left') e ∙ col.gone ∙ start-out (f v) (eqb u v) (closure rows f u v) (eqb_of u v (sym e))
+      pick (yes e) = ap (bit_at left') e ∙ col.gone ∙ start_out (f v) (eqb u v) (closure rows f u v) (eqb_of u v (sym e))
       pick (no d) =
-          and-not (f v) (closure rows f u v) (col.rest v l d) (left_is v l) (collected-closure v l)
+          and_not (f v) (closure rows f u v) (col.rest v l d) (left_is v l) (collected_closure v l)
           ∙ ap (λ (b : Bool). bit (f v && not b)) (other (eqb u v) (closure rows f u v) (eqb_not u v (λ e. d (sym e))))
 
 -- ---- the searches
@@ -143,8 +143,8 @@ module _ (table cores : List ℕ) (k : ℕ) where
   abbrev least : ℕ → ℕ
   least j = find 512 (left_after table cores j)
 
-  smallest-later : T (any 512 (left_after table cores k)) → least k < least (suc k)
-  smallest-later some =
+  smallest_later : T (any 512 (left_after table cores k)) → least k < least (suc k)
+  smallest_later some =
       ⊎_elim (λ t. later t (ℕ_discrete (least (suc k)) (least k)) (dec_lt (least (suc k)) (least k)))
       (λ n. omega (arith, find_none 512 (left_after table cores (suc k)) n, m.0)) (decide (any 512 (left_after table cores (suc k))))
     where
@@ -168,7 +168,7 @@ module _ (table cores : List ℕ) (k : ℕ) where
 smallest_rises : (table cores : List ℕ) (k : ℕ) → ((j : ℕ) → j < k → T (any 512 (left_after table cores j))) → k ≤ find 512 (left_after table cores k)
 smallest_rises table cores zero some = omega arith
 smallest_rises table cores (suc k) some =
-    omega (arith, smallest_rises table cores k (λ j h. some j (omega arith)), smallest-later table cores k (some k (omega arith)))
+    omega (arith, smallest_rises table cores k (λ j h. some j (omega arith)), smallest_later table cores k (some k (omega arith)))
 
 pub searched_most : {table cores after : List ℕ} {r : ℕ} → Searched table cores after r → r ≤ 512
 searched_most {table} {cores} {after} {r} s =
@@ -202,8 +202,8 @@ cell_same : (ws rows : List ℕ) (x v : ℕ) → v < 512 → get_or ws (x * 8 + 
 cell_same ws rows x v l e = cell_at ws x v l ∙ ap (λ (w : ℕ). bit_of w (v % 64)) e ∙ sym (cell_at rows x v l)
 
 module _ (rows₀ cores : List ℕ) where
-  pub finding-start : (left : List ℕ) (u : ℕ) → Joined cores 0 (zeros 8) left → FirstCommon left left u → Finding rows₀ cores rows₀ left 0 u
-  finding-start left u copy first = record {
+  pub finding_start : (left : List ℕ) (u : ℕ) → Joined cores 0 (zeros 8) left → FirstCommon left left u → Finding rows₀ cores rows₀ left 0 u
+  finding_start left u copy first = record {
     behind = omega arith;
     some_left = λ j h. absurd (omega arith);
     left_size = copy.size;
@@ -220,19 +220,19 @@ module _ (rows₀ cores : List ℕ) where
           omega (arith, copy.bits v h, bit_at_zeros 8 v, ap (bit_at cores) e)
 
   module _ (rows left : List ℕ) (k u : ℕ) (now : Finding rows₀ cores rows left k u) where
-    finding-left : u < 512 → bit_at left u ≡ 1
-    finding-left h = omega (arith, now.first.found h)
+    finding_left : u < 512 → bit_at left u ≡ 1
+    finding_left h = omega (arith, now.first.found h)
 
     -- no core before u is left
     gone : (v : ℕ) → v < u → T (not (left_after rows₀ cores k v))
     gone v l = bit_none (left_after rows₀ cores k v) (bit_at left v) (now.left_is v (omega (arith, now.first.within))) (omega (arith, now.first.before v l))
 
     module _ (h : u < 512) (left' set : List ℕ) (col : Collected rows left u left' set) where
-      is-left : T (left_after rows₀ cores k u)
-      is-left = bit_one (left_after rows₀ cores k u) (bit_at left u) (now.left_is u h) (finding-left h)
+      is_left : T (left_after rows₀ cores k u)
+      is_left = bit_one (left_after rows₀ cores k u) (bit_at left u) (now.left_is u h) (finding_left h)
 
       smallest : find 512 (left_after rows₀ cores k) ≡ u
-      smallest = find_is 512 (left_after rows₀ cores k) u h is-left (none_any u (left_after rows₀ cores k) gone)
+      smallest = find_is 512 (left_after rows₀ cores k) u h is_left (none_any u (left_after rows₀ cores k) gone)
 
       -- a core that is left has not been written over: it does not come before u
       same : (x v : ℕ) → x < 512 → v < 512 → bit_at left x ≡ 1 → cell rows x v ≡ cell rows₀ x v
@@ -250,21 +250,21 @@ module _ (rows₀ cores : List ℕ) where
           let before : x < u → ⊥ = λ q. omega (arith, now.first.before x q, was) in
           omega (arith, other, before)
 
-      pub finding-falls : sum 512 (bit_at left') < sum 512 (bit_at left)
-      finding-falls =
-          sum_less 512 (bit_at left) (bit_at left') u h (λ v l. fewer v l (ℕ_discrete v u)) (omega (arith, col.gone, finding-left h))
+      pub finding_falls : sum 512 (bit_at left') < sum 512 (bit_at left)
+      finding_falls =
+          sum_less 512 (bit_at left) (bit_at left') u h (λ v l. fewer v l (ℕ_discrete v u)) (omega (arith, col.gone, finding_left h))
         where
           fewer : (v : ℕ) → v < 512 → Dec (v ≡ u) → bit_at left' v ≤ bit_at left v
           fewer v l (yes e) = omega (arith, col.gone, ap (bit_at left') e)
           fewer v l (no d) = omega (arith, col.rest v l d)
 
-      pub finding-on : (after : List ℕ) (u' : ℕ) → length left' ≡ 8 → Stored rows k set after → FirstCommon left' left' u' → Finding rows₀ cores after left' (k + 1) u'
-      finding-on after u' l st first = record {
+      pub finding_on : (after : List ℕ) (u' : ℕ) → length left' ≡ 8 → Stored rows k set after → FirstCommon left' left' u' → Finding rows₀ cores after left' (k + 1) u'
+      finding_on after u' l st first = record {
         behind = next (dec_lt u' 512);
         some_left = λ j q. some j q (ℕ_discrete j k);
         left_size = l;
         left_is = λ v q.
-            collected-left rows₀ rows left (left_after rows₀ cores k) now.left_is same u h is-left left' set col v q
+            collected_left rows₀ rows left (left_after rows₀ cores k) now.left_is same u h is_left left' set col v q
             ∙ ap bit (sym (left_next rows₀ cores k u v smallest) ∙ ap (λ (x : ℕ). left_after rows₀ cores x v) (sym (add-one k)));
         first = first;
         size = st.size ∙ now.size;
@@ -277,20 +277,20 @@ module _ (rows₀ cores : List ℕ) where
           next (no d) = omega (arith, d, h, now.behind)
 
           some : (j : ℕ) → j < k + 1 → Dec (j ≡ k) → T (any 512 (left_after rows₀ cores j))
-          some j q (yes e) = rw e (any_make 512 (left_after rows₀ cores k) u h is-left)
+          some j q (yes e) = rw e (any_make 512 (left_after rows₀ cores k) u h is_left)
           some j q (no d) = now.some_left j (omega (arith, q, d))
 
           row_next : (j v : ℕ) → j < k + 1 → v < 512 → Dec (j ≡ k) → cell after j v ≡ bit (found_by rows₀ cores j v)
           row_next j v q m (yes e) =
               ap (λ (x : ℕ). cell after x v) e ∙ st.row v m
-              ∙ collected-closure rows₀ rows left (left_after rows₀ cores k) now.left_is same u h is-left left' set col v m
+              ∙ collected_closure rows₀ rows left (left_after rows₀ cores k) now.left_is same u h is_left left' set col v m
               ∙ ap bit (sym (found_is rows₀ cores k u v smallest))
               ∙ ap (λ (x : ℕ). bit (found_by rows₀ cores x v)) (sym e)
           row_next j v q m (no d) =
               cell_same after rows j v m (st.others (j * 8 + v / 64) (λ e. d (omega (arith, e, m)))) ∙ now.row j v (omega (arith, q, d)) m
 
-    pub finding-end : 512 ≤ u → Searched rows₀ cores rows k
-    finding-end h = record {
+    pub finding_end : 512 ≤ u → Searched rows₀ cores rows k
+    finding_end h = record {
       some_left = now.some_left;
       none_left = none_any 512 (left_after rows₀ cores k) (λ v l. gone v (omega arith));
       size = now.size;

@@ -21,8 +21,8 @@ use Rattle.sets.specs.Below.{sum}
 use Rattle.sets.specs.Bits.{bit_of, bit_at, cell, without_bit}
 use Rattle.sets.proofs.Tests.{below}
 use Rattle.sets.proofs.Counting.{sum_le}
-use Rattle.sets.proofs.Bits.{bit_of_none, bit_of_lt, bit_at_lt, bit_of_and, bit_of_or, bit_of_xor, differ_self, differ_none, word_bit, cell_word, zeros, bit_at_zeros, bitAt-clear-same, bit_at_clear_other}
-use Rattle.sets.proofs.Lowest.{Lowest, cleared, cleared_lt, cleared_le, cleared-other}
+use Rattle.sets.proofs.Bits.{bit_of_none, bit_of_lt, bit_at_lt, bit_of_and, bit_of_or, bit_of_xor, differ_self, differ_none, word_bit, cell_word, zeros, bit_at_zeros, bit_at_clear_same, bit_at_clear_other}
+use Rattle.sets.proofs.Lowest.{Lowest, cleared, cleared_lt, cleared_le, cleared_other}
 use Rattle.search.specs.ForProofs.{FirstCommon, Joined, JoinedAll, Stored, Collected}
 
 -- ---- the first word that two sets share a bit of
@@ -51,8 +51,8 @@ module _ (a b : List ℕ) (j : ℕ) (none : NoneCommon a b j) where
           ∙ ap (λ (x : ℕ). bit_of x (k % 64)) e ∙ bit_of_none (k % 64)
       pick (no n) = none k (omega arith)
 
-  pub common-found : j < 8 → (z : ℕ) → z < 64 → Lowest (bit_and (get_or a j 0) (get_or b j 0)) z → FirstCommon a b (j * 64 + z)
-  common-found h z l low = record {
+  pub common_found : j < 8 → (z : ℕ) → z < 64 → Lowest (bit_and (get_or a j 0) (get_or b j 0)) z → FirstCommon a b (j * 64 + z)
+  common_found h z l low = record {
     within = omega arith;
     before = λ k q. pick k q (ℕ_discrete (k / 64) j);
     found = λ q. both_bit a b j z l ∙ low.here;
@@ -80,12 +80,12 @@ pub record Joining (table : List ℕ) (u : ℕ) (s₀ s : List ℕ) (j : ℕ) : 
   pub others : (k : ℕ) → j ≤ k → get_or s k 0 ≡ get_or s₀ k 0
 
 module _ (table : List ℕ) (u : ℕ) (s₀ : List ℕ) where
-  pub joining-start : length s₀ ≡ 8 → Joining table u s₀ s₀ 0
-  joining-start l = record { within = omega arith; size = l; done = λ k h. absurd (omega arith); others = λ k h. refl }
+  pub joining_start : length s₀ ≡ 8 → Joining table u s₀ s₀ 0
+  joining_start l = record { within = omega arith; size = l; done = λ k h. absurd (omega arith); others = λ k h. refl }
 
   module _ (s : List ℕ) (j : ℕ) (now : Joining table u s₀ s j) where
-    pub joining-on : j < 8 → Joining table u s₀ (set s j (bit_or (get_or s j 0) (get_or table (u * 8 + j) 0))) (j + 1)
-    joining-on h = record {
+    pub joining_on : j < 8 → Joining table u s₀ (set s j (bit_or (get_or s j 0) (get_or table (u * 8 + j) 0))) (j + 1)
+    joining_on h = record {
       within = omega arith;
       size = length-set s j w ∙ now.size;
       done = λ k q. pick k q (ℕ_discrete k j);
@@ -103,9 +103,9 @@ module _ (table : List ℕ) (u : ℕ) (s₀ : List ℕ) where
             ∙ ap (λ (x : ℕ). bit_or (get_or s₀ x 0) (get_or table (u * 8 + x) 0)) (sym e)
         pick k q (no n) = get_or-set_other s j k w 0 n ∙ now.done k (omega arith)
 
-    pub joining-end : 8 ≤ j → Joined table u s₀ s
+    pub joining_end : 8 ≤ j → Joined table u s₀ s
     unfolding bit_at
-    joining-end h = record {
+    joining_end h = record {
       size = now.size;
       bits = λ v l.
           ap (λ (x : ℕ). bit_of x (v % 64)) (now.done (v / 64) (omega arith))
@@ -122,12 +122,12 @@ pub record Storing (rows₀ : List ℕ) (k : ℕ) (s rows : List ℕ) (j : ℕ) 
   pub others : (i : ℕ) → (i / 8 ≡ k → ⊥) → get_or rows i 0 ≡ get_or rows₀ i 0
 
 module _ (rows₀ : List ℕ) (k : ℕ) (s : List ℕ) where
-  pub storing-start : Storing rows₀ k s rows₀ 0
-  storing-start = record { within = omega arith; size = refl; done = λ i h. absurd (omega arith); others = λ i n. refl }
+  pub storing_start : Storing rows₀ k s rows₀ 0
+  storing_start = record { within = omega arith; size = refl; done = λ i h. absurd (omega arith); others = λ i n. refl }
 
   module _ (rows : List ℕ) (j : ℕ) (now : Storing rows₀ k s rows j) where
-    pub storing-on : j < 8 → k * 8 + 8 ≤ length rows₀ → Storing rows₀ k s (set rows (k * 8 + j) (get_or s j 0)) (j + 1)
-    storing-on h l = record {
+    pub storing_on : j < 8 → k * 8 + 8 ≤ length rows₀ → Storing rows₀ k s (set rows (k * 8 + j) (get_or s j 0)) (j + 1)
+    storing_on h l = record {
       within = omega arith;
       size = length-set rows (k * 8 + j) w ∙ now.size;
       done = λ i q. pick i q (ℕ_discrete i j);
@@ -144,9 +144,9 @@ module _ (rows₀ : List ℕ) (k : ℕ) (s : List ℕ) where
             ∙ ap (λ (x : ℕ). get_or s x 0) (sym e)
         pick i q (no n) = get_or-set_other rows (k * 8 + j) (k * 8 + i) w 0 (λ e. n (omega arith)) ∙ now.done i (omega arith)
 
-    pub storing-end : 8 ≤ j → Stored rows₀ k s rows
+    pub storing_end : 8 ≤ j → Stored rows₀ k s rows
     unfolding bit_at
-    storing-end h = record {
+    storing_end h = record {
       size = now.size;
       row = λ v l. cell_at rows k v l ∙ ap (λ (x : ℕ). bit_of x (v % 64)) (now.done (v / 64) (omega arith));
       others = now.others;
@@ -165,8 +165,8 @@ pub record Adding (table : List ℕ) (word base : ℕ) (s₀ : List ℕ) (w : �
       → (v : ℕ) → v < 512 → bit_at s v ≡ 1 → T (f v)
 
 module _ (table : List ℕ) (word base : ℕ) (s₀ : List ℕ) where
-  pub adding-start : word < 2 ^ 64 → length s₀ ≡ 8 → Adding table word base s₀ word s₀
-  adding-start h l = record {
+  pub adding_start : word < 2 ^ 64 → length s₀ ≡ 8 → Adding table word base s₀ word s₀
+  adding_start h l = record {
     fits = h;
     size = l;
     part = λ k. le_refl (bit_of word k);
@@ -177,11 +177,11 @@ module _ (table : List ℕ) (word base : ℕ) (s₀ : List ℕ) where
 
   module _ (w : ℕ) (s : List ℕ) (now : Adding table word base s₀ w s) where
     -- a bit that is left is one of the word
-    adding-bit : (k : ℕ) → bit_of w k ≡ 1 → bit_of word k ≡ 1
-    adding-bit k e = omega (arith, now.part k, bit_of_lt word k)
+    adding_bit : (k : ℕ) → bit_of w k ≡ 1 → bit_of word k ≡ 1
+    adding_bit k e = omega (arith, now.part k, bit_of_lt word k)
 
-    pub adding-on : (t : ℕ) (s' : List ℕ) → t < 64 → Lowest w t → Joined table (base + t) s s' → Adding table word base s₀ (cleared w) s'
-    adding-on t s' h low j = record {
+    pub adding_on : (t : ℕ) (s' : List ℕ) → t < 64 → Lowest w t → Joined table (base + t) s s' → Adding table word base s₀ (cleared w) s'
+    adding_on t s' h low j = record {
       fits = cleared_lt w now.fits;
       size = j.size;
       part = λ k. omega (arith, cleared_le w k, now.part k);
@@ -197,7 +197,7 @@ module _ (table : List ℕ) (word base : ℕ) (s₀ : List ℕ) where
         pick k v a b p q r (yes d) =
             let c : cell table (base + t) v ≡ 1 = ap (λ (x : ℕ). cell table (base + x) v) (sym d) ∙ r in
             omega (arith, j.bits v b, c, bit_at_lt s v)
-        pick k v a b p q r (no d) = kept v b (now.rows k v a b p (sym (cleared-other w t low k d) ∙ q) r)
+        pick k v a b p q r (no d) = kept v b (now.rows k v a b p (sym (cleared_other w t low k d) ∙ q) r)
 
         only : (f : ℕ → Bool) → ((v : ℕ) → v < 512 → bit_at s₀ v ≡ 1 → T (f v))
             → ((k v : ℕ) → k < 64 → v < 512 → bit_of word k ≡ 1 → cell table (base + k) v ≡ 1 → T (f v))
@@ -205,10 +205,10 @@ module _ (table : List ℕ) (word base : ℕ) (s₀ : List ℕ) where
         only f given step v l p (yes q) = now.least f given step v l q
         only f given step v l p (no d) =
             let c : cell table (base + t) v ≡ 1 = omega (arith, j.bits v l, p, d, bit_at_lt s v) in
-            step t v h l (adding-bit t low.here) c
+            step t v h l (adding_bit t low.here) c
 
-    pub adding-end : w ≡ 0 → JoinedAll table word base s₀ s
-    adding-end e = record {
+    pub adding_end : w ≡ 0 → JoinedAll table word base s₀ s
+    adding_end e = record {
       size = now.size;
       keeps = now.keeps;
       rows = λ k v a b p r. now.rows k v a b p (ap (λ (x : ℕ). bit_of x k) e ∙ bit_of_none k) r;
@@ -225,8 +225,8 @@ without s left j = set left j (bit_xor (get_or left j 0) (shared s left j))
 
 module _ (s left : List ℕ) (j : ℕ) (h : j < length left) where
   -- a bit of both words
-  shared-bit : (k : ℕ) → k < 64 → bit_of (shared s left j) k ≡ 1 → (bit_at s (j * 64 + k) ≡ 1) × (bit_at left (j * 64 + k) ≡ 1)
-  shared-bit k l e =
+  shared_bit : (k : ℕ) → k < 64 → bit_of (shared s left j) k ≡ 1 → (bit_at s (j * 64 + k) ≡ 1) × (bit_at left (j * 64 + k) ≡ 1)
+  shared_bit k l e =
       let m = both_bit s left j k l ∙ e in
       (omega (arith, m, bit_at_lt s (j * 64 + k), bit_at_lt left (j * 64 + k)), omega (arith, m, bit_at_lt s (j * 64 + k), bit_at_lt left (j * 64 + k)))
 
@@ -236,8 +236,8 @@ module _ (s left : List ℕ) (j : ℕ) (h : j < length left) where
   elsewhere x d = ap (λ (w : ℕ). bit_of w (x % 64)) (get_or-set_other left j (x / 64) (bit_xor (get_or left j 0) (shared s left j)) 0 d)
 
   -- and in this one
-  left-bit : (k : ℕ) → k < 64 → bit_at (without s left j) (j * 64 + k) ≡ differ (bit_at left (j * 64 + k)) (min (bit_at s (j * 64 + k)) (bit_at left (j * 64 + k)))
-  left-bit k l =
+  left_bit : (k : ℕ) → k < 64 → bit_at (without s left j) (j * 64 + k) ≡ differ (bit_at left (j * 64 + k)) (min (bit_at s (j * 64 + k)) (bit_at left (j * 64 + k)))
+  left_bit k l =
       word_bit (without s left j) j k l
       ∙ ap (λ (w : ℕ). bit_of w k) (get_or-set_same left j (bit_xor (get_or left j 0) (shared s left j)) 0 h)
       ∙ bit_of_xor (get_or left j 0) (shared s left j) k
@@ -246,7 +246,7 @@ module _ (s left : List ℕ) (j : ℕ) (h : j < length left) where
   here : (x : ℕ) → x / 64 ≡ j → bit_at (without s left j) x ≡ differ (bit_at left x) (min (bit_at s x) (bit_at left x))
   here x e =
       let p : j * 64 + x % 64 ≡ x = omega arith in
-      subst (λ (i : ℕ). bit_at (without s left j) i ≡ differ (bit_at left i) (min (bit_at s i) (bit_at left i))) p (left-bit (x % 64) (mod-lt x (zero-lt-suc 63)))
+      subst (λ (i : ℕ). bit_at (without s left j) i ≡ differ (bit_at left i) (min (bit_at s i) (bit_at left i))) p (left_bit (x % 64) (mod-lt x (zero-lt-suc 63)))
 
   -- taken out if in the set, and else left
   here_in : (x : ℕ) → x / 64 ≡ j → bit_at s x ≡ 1 → bit_at (without s left j) x ≡ 0
@@ -259,8 +259,8 @@ module _ (s left : List ℕ) (j : ℕ) (h : j < length left) where
       let q : min (bit_at s x) (bit_at left x) ≡ 0 = omega arith in
       here x e ∙ ap (differ (bit_at left x)) q ∙ differ_none (bit_at left x)
 
-  without-le : (x : ℕ) → bit_at (without s left j) x ≤ bit_at left x
-  without-le x = pick (ℕ_discrete (x / 64) j) (ℕ_discrete (bit_at s x) 1)
+  without_le : (x : ℕ) → bit_at (without s left j) x ≤ bit_at left x
+  without_le x = pick (ℕ_discrete (x / 64) j) (ℕ_discrete (bit_at s x) 1)
     where
       pick : Dec (x / 64 ≡ j) → Dec (bit_at s x ≡ 1) → bit_at (without s left j) x ≤ bit_at left x
       pick (yes e) (yes p) = omega (arith, here_in x e p)
@@ -268,8 +268,8 @@ module _ (s left : List ℕ) (j : ℕ) (h : j < length left) where
       pick (no d) p = omega (arith, elsewhere x d)
 
   -- a number that is out was out before, or is one of both words
-  was-out : (x : ℕ) → bit_at (without s left j) x ≡ 0 → (bit_at left x ≡ 0) ⊎ ((x / 64 ≡ j) × (bit_at s x ≡ 1) × (bit_at left x ≡ 1))
-  was-out x q = pick (ℕ_discrete (bit_at left x) 0) (ℕ_discrete (x / 64) j) (ℕ_discrete (bit_at s x) 1)
+  was_out : (x : ℕ) → bit_at (without s left j) x ≡ 0 → (bit_at left x ≡ 0) ⊎ ((x / 64 ≡ j) × (bit_at s x ≡ 1) × (bit_at left x ≡ 1))
+  was_out x q = pick (ℕ_discrete (bit_at left x) 0) (ℕ_discrete (x / 64) j) (ℕ_discrete (bit_at s x) 1)
     where
       pick : Dec (bit_at left x ≡ 0) → Dec (x / 64 ≡ j) → Dec (bit_at s x ≡ 1) → (bit_at left x ≡ 0) ⊎ ((x / 64 ≡ j) × (bit_at s x ≡ 1) × (bit_at left x ≡ 1))
       pick (yes z) e o = inl z
@@ -325,26 +325,26 @@ module _ (table left₀ : List ℕ) (u : ℕ) (s left : List ℕ) (w : ℕ) (now
   low : w / 64 < length left
   low = omega (arith, now.left_size)
 
-  pub growing-falls : sum 512 (bit_at (without s left (w / 64))) < sum 512 (bit_at left)
-  growing-falls =
-      sum_less 512 (bit_at left) (bit_at (without s left (w / 64))) w h (λ v l. without-le s left (w / 64) low v)
+  pub growing_falls : sum 512 (bit_at (without s left (w / 64))) < sum 512 (bit_at left)
+  growing_falls =
+      sum_less 512 (bit_at left) (bit_at (without s left (w / 64))) w h (λ v l. without_le s left (w / 64) low v)
       (omega (arith, (now.next h).0, here_in s left (w / 64) low w refl (now.next h).1))
 
   module _ (s' : List ℕ) (w' : ℕ) (all : JoinedAll table (shared s left (w / 64)) (w / 64 * 64) s s') (first : FirstCommon s' (without s left (w / 64)) w') where
-    pub growing-on : Growing table left₀ u s' (without s left (w / 64)) w'
-    growing-on = record {
+    pub growing_on : Growing table left₀ u s' (without s left (w / 64)) w'
+    growing_on = record {
       left_size = length-set left j (bit_xor (get_or left j 0) (shared s left j)) ∙ now.left_size;
       size = all.size;
       start = λ v l c. all.keeps v l (now.start v l c);
       most = first.within;
       next = λ q. (omega (arith, first.found q, bit_at_lt left' w'), omega (arith, first.found q, bit_at_lt s' w'));
-      sub = λ x. omega (arith, without-le s left j low x, now.sub x);
-      out = λ x l p q. ⊎_elim (λ z. all.keeps x l (now.out x l p z)) (λ o. all.keeps x l o.1) (was-out s left j low x q);
-      done = λ x v l m p q r. ⊎_elim (λ z. all.keeps v m (now.done x v l m p z r)) (λ o. added x v m o.0 o.1 o.2 r) (was-out s left j low x q);
+      sub = λ x. omega (arith, without_le s left j low x, now.sub x);
+      out = λ x l p q. ⊎_elim (λ z. all.keeps x l (now.out x l p z)) (λ o. all.keeps x l o.1) (was_out s left j low x q);
+      done = λ x v l m p q r. ⊎_elim (λ z. all.keeps v m (now.done x v l m p z r)) (λ o. added x v m o.0 o.1 o.2 r) (was_out s left j low x q);
       least = λ f t step.
           all.least f (now.least f t step)
           (λ k v a b e c.
-          let o = shared-bit s left j low k a e in
+          let o = shared_bit s left j low k a e in
           let x : ℕ = j * 64 + k in
           let i : x < 512 = omega (arith, h, a) in
           step x v i b (now.least f t step x i o.0) (omega (arith, o.1, now.sub x, bit_at_lt left₀ x)) c);
@@ -376,8 +376,8 @@ module _ (table left₀ : List ℕ) (u : ℕ) (s left : List ℕ) (w : ℕ) (now
   but_other : (v : ℕ) → (v ≡ u → ⊥) → but v ≡ bit_at left₀ v
   but_other v d = bit_at_clear_other left₀ u v d
 
-  but-u : but u ≡ 0
-  but-u = bitAt-clear-same left₀ u (let q : u / 64 < length left₀ = omega arith in q)
+  but_u : but u ≡ 0
+  but_u = bit_at_clear_same left₀ u (let q : u / 64 < length left₀ = omega arith in q)
 
   rest' : (v : ℕ) → v < 512 → (v ≡ u → ⊥) → bit_at left v ≡ min (bit_at left₀ v) (1 - bit_at s v)
   rest' v q d = pick (ℕ_discrete (bit_at left v) 0) (ℕ_discrete (but v) 1)
@@ -387,13 +387,13 @@ module _ (table left₀ : List ℕ) (u : ℕ) (s left : List ℕ) (w : ℕ) (now
       pick (yes z) (no o) = omega (arith, bit_at_lt left₀ v, but_other v d)
       pick (no z) e = omega (arith, but_other v d, bit_at_lt left₀ v, bit_at_lt left v, now.sub v, now.before v (omega (arith, q, last)))
 
-  pub growing-end : Collected table left₀ u left s
-  growing-end = record {
+  pub growing_end : Collected table left₀ u left s
+  growing_end = record {
     size = now.size;
     start = now.start;
     closed = λ x v q m p o c. closed_at x v q m p o c (ℕ_discrete x u);
     least = λ f given step. now.least f given (λ x v q m t o c. step x v q m t (was x o (ℕ_discrete x u)) c);
-    gone = omega (arith, now.sub u, but-u);
+    gone = omega (arith, now.sub u, but_u);
     rest = rest';
   }
     where
@@ -402,5 +402,5 @@ module _ (table left₀ : List ℕ) (u : ℕ) (s left : List ℕ) (w : ℕ) (now
       closed_at x v q m p o c (no d) = now.done x v q m (but_other x d ∙ o) (omega (arith, now.before x (omega (arith, q, last)), bit_at_lt left x)) c
 
       was : (x : ℕ) → but x ≡ 1 → Dec (x ≡ u) → bit_at left₀ x ≡ 1
-      was x o (yes e) = absurd (omega (arith, o, but-u, ap but e))
+      was x o (yes e) = absurd (omega (arith, o, but_u, ap but e))
       was x o (no d) = sym (but_other x d) ∙ o

@@ -3,8 +3,8 @@
 --     bit_of_and, bit_of_or, bit_of_xor      an operation on words works bit by bit; bit_of_none: 0 has no bit set
 --     differ_self, differ_none            a bit's `xor` with itself and with 0
 --     bit_of_first, bit_of_half             bit 0 is the lowest digit; the other bits are those of the half
---     bitAt-set-same, bit_at_set_other     the words with bit i set
---     bitAt-clear-same, bit_at_clear_other the words with bit i cleared
+--     bit_at_set_same, bit_at_set_other     the words with bit i set
+--     bit_at_clear_same, bit_at_clear_other the words with bit i cleared
 --     shl_one                             how the code makes 2 ^ k; stored_with, stored_without: how it sets and clears bit i
 --     ones_sum, ones_and                  the ones of a word, and of the `and` of two
 --     word_bit, cell_word                 a bit by its word
@@ -37,9 +37,9 @@ module _ (op f : ℕ → ℕ → ℕ)
     (step : (a b : ℕ) → op a b ≡ op (a / 2) (b / 2) * 2 + f (a % 2) (b % 2))
     (shr : (a b k : ℕ) → op a b / 2 ^ k ≡ op (a / 2 ^ k) (b / 2 ^ k))
     (small : (x y : ℕ) → x < 2 → y < 2 → f x y < 2) where
-  pub op-bit : (a b k : ℕ) → bit_of (op a b) k ≡ f (bit_of a k) (bit_of b k)
+  pub op_bit : (a b k : ℕ) → bit_of (op a b) k ≡ f (bit_of a k) (bit_of b k)
   unfolding bit_of
-  op-bit a b k =
+  op_bit a b k =
       ap (λ (x : ℕ). x % 2) (shr a b k) ∙ ap (λ (x : ℕ). x % 2) (step (a / 2 ^ k) (b / 2 ^ k))
       ∙ digits_mod (op (a / 2 ^ k / 2) (b / 2 ^ k / 2)) (small (a / 2 ^ k % 2) (b / 2 ^ k % 2) (mod-lt (a / 2 ^ k) two_pos) (mod-lt (b / 2 ^ k) two_pos))
 
@@ -48,10 +48,10 @@ unfolding bit_of
 bit_of_none k = ap (λ (x : ℕ). x % 2) (zero-div (2 ^ k))
 
 pub bit_of_and : (a b k : ℕ) → bit_of (bit_and a b) k ≡ min (bit_of a k) (bit_of b k)
-bit_of_and = op-bit bit_and min and_step and_shr (λ x y h l. omega (arith, min-le_left x y))
+bit_of_and = op_bit bit_and min and_step and_shr (λ x y h l. omega (arith, min-le_left x y))
 
 pub bit_of_or : (a b k : ℕ) → bit_of (bit_or a b) k ≡ max (bit_of a k) (bit_of b k)
-bit_of_or = op-bit bit_or max or_step or_shr (λ x y h l. lt_of_le_of_lt (max-le {k = 1} (le_of_suc-le-suc h) (le_of_suc-le-suc l)) (le_refl 2))
+bit_of_or = op_bit bit_or max or_step or_shr (λ x y h l. lt_of_le_of_lt (max-le {k = 1} (le_of_suc-le-suc h) (le_of_suc-le-suc l)) (le_refl 2))
 
 -- ---- the bits of a power of two
 pub bit_of_pow_same : (k : ℕ) → bit_of (2 ^ k) k ≡ 1
@@ -89,7 +89,7 @@ differ_small (suc zero) (suc (suc y)) h l = absurd (omega arith)
 differ_small (suc (suc x)) (suc y) h l = absurd (omega arith)
 
 pub bit_of_xor : (a b k : ℕ) → bit_of (bit_xor a b) k ≡ differ (bit_of a k) (bit_of b k)
-bit_of_xor = op-bit bit_xor differ xor_step xor_shr differ_small
+bit_of_xor = op_bit bit_xor differ xor_step xor_shr differ_small
 
 -- a bit differs not from itself, and from 0 if it is 1
 pub differ_self : (x : ℕ) → x < 2 → differ x x ≡ 0
@@ -119,17 +119,17 @@ module _ (m : List ℕ) (i : ℕ) (h : i / 64 < length m) where
   unfolding with_bit
   word = get_or-set_same m (i / 64) (bit_or (get_or m (i / 64) 0) (2 ^ (i % 64))) 0 h
 
-  pub bitAt-set-same : bit_at (with_bit m i) i ≡ 1
+  pub bit_at_set_same : bit_at (with_bit m i) i ≡ 1
   unfolding bit_at
-  bitAt-set-same = ap (λ (w : ℕ). bit_of w (i % 64)) word ∙ bit_of_set_same (get_or m (i / 64) 0) (i % 64)
+  bit_at_set_same = ap (λ (w : ℕ). bit_of w (i % 64)) word ∙ bit_of_set_same (get_or m (i / 64) 0) (i % 64)
 
   word_without : get_or (without_bit m i) (i / 64) 0 ≡ bit_xor (get_or m (i / 64) 0) (bit_and (get_or m (i / 64) 0) (2 ^ (i % 64)))
   unfolding without_bit
   word_without = get_or-set_same m (i / 64) (bit_xor (get_or m (i / 64) 0) (bit_and (get_or m (i / 64) 0) (2 ^ (i % 64)))) 0 h
 
-  pub bitAt-clear-same : bit_at (without_bit m i) i ≡ 0
+  pub bit_at_clear_same : bit_at (without_bit m i) i ≡ 0
   unfolding bit_at
-  bitAt-clear-same = ap (λ (w : ℕ). bit_of w (i % 64)) word_without ∙ bit_of_clear_same (get_or m (i / 64) 0) (i % 64)
+  bit_at_clear_same = ap (λ (w : ℕ). bit_of w (i % 64)) word_without ∙ bit_of_clear_same (get_or m (i / 64) 0) (i % 64)
 
 -- another bit is as it was, wherever it stands: in the same word, or in another
 other_bit : (m : List ℕ) (i w : ℕ) → ((j : ℕ) → (j ≡ i % 64 → ⊥) → bit_of w j ≡ bit_of (get_or m (i / 64) 0) j)

@@ -269,13 +269,13 @@ count_below zero k h = omega arith
 count_below (suc b) k h =
     let top : k < suc (suc b) = omega arith in
     ⊎_elim
-    (λ e. let l : T (ltb b k) = lt→ltb b k (omega arith) in omega (arith, bit_true (ltb b k) l, count_cong b (λ i. ltb i k) (λ i. true) (λ i q. T_true (ltb i k) (lt→ltb i k (omega arith))), count-all b))
+    (λ e. let l : T (ltb b k) = lt→ltb b k (omega arith) in omega (arith, bit_true (ltb b k) l, count_cong b (λ i. ltb i k) (λ i. true) (λ i q. T_true (ltb i k) (lt→ltb i k (omega arith))), count_all b))
     (λ l. omega (arith, bit_false (ltb b k) (not_T (ltb b k) (λ t. omega (arith, ltb→lt b k t))), count_below b k (omega arith)))
     (below top)
   where
-    count-all : (n : ℕ) → count n (λ i. true) ≡ n
-    count-all zero = refl
-    count-all (suc n) = omega (arith, count-all n)
+    count_all : (n : ℕ) → count n (λ i. true) ≡ n
+    count_all zero = refl
+    count_all (suc n) = omega (arith, count_all n)
 
 sum_by_level : (n b : ℕ) (f : ℕ → ℕ) → ((v : ℕ) → v < n → f v ≤ b) → sum n f ≡ sum b (λ i. count n (λ v. ltb i (f v)))
 sum_by_level n b f h =

@@ -5,10 +5,10 @@
 --     multiplicity_append   in two lists, one after the other
 --     counted_to l i v       how often v stands among the first i entries
 --     counted_none          before the first entry the table holds 0 everywhere
---     counted-more          one more entry counted
---     counted-past          one more entry that has no place in the table
---     counted-room          a count of fewer than 65,535 entries has room for one more
---     counted-all           all counted
+--     counted_more          one more entry counted
+--     counted_past          one more entry that has no place in the table
+--     counted_room          a count of fewer than 65,535 entries has room for one more
+--     counted_all           all counted
 use Prim.Native.Nat.{ℕ, ◌+◌, ◌≤◌, ◌<◌, min}
 use native.Mathlib.Omega.{arith}
 use native.Mathlib.Decide.{ℕ_discrete}
@@ -49,9 +49,9 @@ pub counted_none : (l : List ℕ) (v : ℕ) → v < 512 → get_or (zeros 512) v
 counted_none l v h = get_or-replicate 512 v 0 0 h ∙ sym (count_none _)
 
 module _ (l table : List ℕ) (i : ℕ) (held : (v : ℕ) → v < 512 → get_or table v 0 ≡ counted_to l i v) where
-  pub counted-more : length table ≡ 512 → get_or l i 0 < 512 → (v : ℕ) → v < 512
+  pub counted_more : length table ≡ 512 → get_or l i 0 < 512 → (v : ℕ) → v < 512
       → get_or (set table (get_or l i 0) (get_or table (get_or l i 0) 0 + 1)) v 0 ≡ counted_to l (i + 1) v
-  counted-more size at v h = pick (ℕ_discrete v (get_or l i 0))
+  counted_more size at v h = pick (ℕ_discrete v (get_or l i 0))
     where
       pick : Dec (v ≡ get_or l i 0) → get_or (set table (get_or l i 0) (get_or table (get_or l i 0) 0 + 1)) v 0 ≡ counted_to l (i + 1) v
       pick (yes d) =
@@ -60,15 +60,15 @@ module _ (l table : List ℕ) (i : ℕ) (held : (v : ℕ) → v < 512 → get_or
       pick (no d) =
           get_or-set_other table (get_or l i 0) v (get_or table (get_or l i 0) 0 + 1) 0 d ∙ held v h ∙ sym (count_no i (λ j. eqb v (get_or l j 0)) (eqb_not v (get_or l i 0) d))
 
-  pub counted-past : 512 ≤ get_or l i 0 → (v : ℕ) → v < 512 → get_or table v 0 ≡ counted_to l (i + 1) v
-  counted-past past v h = held v h ∙ sym (count_no i (λ j. eqb v (get_or l j 0)) (eqb_not v (get_or l i 0) (λ e. omega arith)))
+  pub counted_past : 512 ≤ get_or l i 0 → (v : ℕ) → v < 512 → get_or table v 0 ≡ counted_to l (i + 1) v
+  counted_past past v h = held v h ∙ sym (count_no i (λ j. eqb v (get_or l j 0)) (eqb_not v (get_or l i 0) (λ e. omega arith)))
 
-  pub counted-room : i < 65535 → (v : ℕ) → v < 512 → get_or table v 0 < 65535
-  counted-room few v h = omega (arith, held v h, count_le i (λ j. eqb v (get_or l j 0)))
+  pub counted_room : i < 65535 → (v : ℕ) → v < 512 → get_or table v 0 < 65535
+  counted_room few v h = omega (arith, held v h, count_le i (λ j. eqb v (get_or l j 0)))
 
-  pub counted-all : length table ≡ 512 → i ≡ min (length l) 65535 → EntriesCounted l table
+  pub counted_all : length table ≡ 512 → i ≡ min (length l) 65535 → EntriesCounted l table
   unfolding multiplicity
-  counted-all size e = record {
+  counted_all size e = record {
     size = size;
     counts = λ v h.
         held v h

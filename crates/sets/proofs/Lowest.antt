@@ -3,7 +3,7 @@
 --     Lowest w t     t is the place of the lowest set bit of w
 --     lowest         the number of trailing zeros of a word that is not 0 is that place
 --     cleared w      w with its lowest set bit cleared, as the code makes it
---     cleared_lt, cleared_le, cleared-same, cleared-other, cleared-falls     it fits, has no other bit than w, not the lowest, and one bit less
+--     cleared_lt, cleared_le, cleared_same, cleared_other, cleared_falls     it fits, has no other bit than w, not the lowest, and one bit less
 use Prim.Native.Nat.{ℕ, zero, suc, ◌-◌, ◌/◌, ◌%◌, ◌^◌, ◌≤◌, ◌<◌, min}
 use mathlib.Core.Path.{◌≡◌, refl, sym, ap, ◌∙◌, subst}
 use native.Mathlib.Omega.{arith}
@@ -76,11 +76,11 @@ pub cleared_le : (w k : ℕ) → bit_of (cleared w) k ≤ bit_of w k
 cleared_le w k = omega (arith, bit_of_and w (w - 1) k)
 
 module _ (w t : ℕ) (l : Lowest w t) where
-  pub cleared-same : bit_of (cleared w) t ≡ 0
-  cleared-same = omega (arith, bit_of_and w (w - 1) t, bit_of_less t w l)
+  pub cleared_same : bit_of (cleared w) t ≡ 0
+  cleared_same = omega (arith, bit_of_and w (w - 1) t, bit_of_less t w l)
 
-  pub cleared-other : (k : ℕ) → (k ≡ t → ⊥) → bit_of (cleared w) k ≡ bit_of w k
-  cleared-other k d = bit_of_and w (w - 1) k ∙ bit_of_keeps t w k l d
+  pub cleared_other : (k : ℕ) → (k ≡ t → ⊥) → bit_of (cleared w) k ≡ bit_of w k
+  cleared_other k d = bit_of_and w (w - 1) k ∙ bit_of_keeps t w k l d
 
-  pub cleared-falls : t < 64 → sum 64 (bit_of (cleared w)) < sum 64 (bit_of w)
-  cleared-falls h = omega (arith, sum_drop (bit_of w) (bit_of (cleared w)) t 64 h l.here cleared-same cleared-other)
+  pub cleared_falls : t < 64 → sum 64 (bit_of (cleared w)) < sum 64 (bit_of w)
+  cleared_falls h = omega (arith, sum_drop (bit_of w) (bit_of (cleared w)) t 64 h l.here cleared_same cleared_other)

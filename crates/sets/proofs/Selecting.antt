@@ -75,10 +75,10 @@ select_mem (suc n) f v m =
     (decide (f n))
 
 module _ {A : Type 0} where
-  pub mem-at : (l : List A) (d v : A) → Memᴰ v l → (k : ℕ) × (k < length l) × (get_or l k d ≡ v)
-  mem-at [] d v m = absurd (Memᴰ.not-nil m)
-  mem-at (x ∷ l) d v m =
-      ⊎_elim (λ e. (0, omega arith, sym e)) (λ y. let r = mem-at l d v y in (suc r.0, omega arith, r.2)) (Memᴰ.cases_cons m)
+  pub mem_at : (l : List A) (d v : A) → Memᴰ v l → (k : ℕ) × (k < length l) × (get_or l k d ≡ v)
+  mem_at [] d v m = absurd (Memᴰ.not-nil m)
+  mem_at (x ∷ l) d v m =
+      ⊎_elim (λ e. (0, omega arith, sym e)) (λ y. let r = mem_at l d v y in (suc r.0, omega arith, r.2)) (Memᴰ.cases_cons m)
 
   pub at_mem : (l : List A) (d : A) (k : ℕ) → k < length l → Memᴰ (get_or l k d) l
   at_mem [] d k h = absurd (omega arith)

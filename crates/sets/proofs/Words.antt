@@ -14,7 +14,7 @@ use lib.Bits.{bit_xor, xor_lt, differ}
 use lib.Pow.{shr_lt, pow-lt}
 use Rattle.sets.specs.Bits.{bit_of, cell}
 use Rattle.sets.proofs.Bits.{bit_of_lt, bit_of_first, bit_of_half, bit_of_xor, bit_of_pow_same, bit_of_pow_other, differ_self, cell_word}
-use Rattle.sets.proofs.Lowest.{Lowest, cleared, cleared_lt, cleared-same, cleared-other}
+use Rattle.sets.proofs.Lowest.{Lowest, cleared, cleared_lt, cleared_same, cleared_other}
 
 half_lt : (n y : ℕ) → y < 2 ^ suc n → y / 2 < 2 ^ n
 half_lt n y b = shr_lt n 1 (subst (λ (z : ℕ). y < 2 ^ z) (sym (add-one n)) b)
@@ -35,5 +35,5 @@ lowest_alone w t h q l =
     word_one 64 (bit_xor w (cleared w)) (2 ^ t) (xor_lt 64 w (cleared w) h (cleared_lt w h)) (pow-lt q) (λ k p. bit_of_xor w (cleared w) k ∙ pick k (ℕ_discrete k t))
   where
     pick : (k : ℕ) → Dec (k ≡ t) → differ (bit_of w k) (bit_of (cleared w) k) ≡ bit_of (2 ^ t) k
-    pick k (yes e) = rw e (ap₂ differ l.here (cleared-same w t l) ∙ sym (bit_of_pow_same t))
-    pick k (no d) = ap (differ (bit_of w k)) (cleared-other w t l k d) ∙ differ_self (bit_of w k) (bit_of_lt w k) ∙ sym (bit_of_pow_other t k d)
+    pick k (yes e) = rw e (ap₂ differ l.here (cleared_same w t l) ∙ sym (bit_of_pow_same t))
+    pick k (no d) = ap (differ (bit_of w k)) (cleared_other w t l k d) ∙ differ_self (bit_of w k) (bit_of_lt w k) ∙ sym (bit_of_pow_other t k d)

@@ -8,7 +8,7 @@
 --     sum_cleared, sum_done          the sum by the bits of a word, one by one, the lowest first
 --     summed_none, summed_more       the sums of the first rows, and of one row more
 --     taken_none, taken_more         the edges inside taken out of the ends of the first groups, and of one group more
---     ends-summed                    the degrees of the handsets that pass f, summed: two for each edge with both ends among them, one for each with just one
+--     ends_summed                    the degrees of the handsets that pass f, summed: two for each edge with both ends among them, one for each with just one
 use Prim.Native.Nat.{ℕ, zero, suc, ◌+◌, ◌*◌, ◌-◌, ◌≤◌, ◌<◌}
 use native.Mathlib.Omega.{arith}
 use native.Mathlib.Decide.{ℕ_discrete, dec_lt}
@@ -26,7 +26,7 @@ use Rattle.sets.specs.Below.{bit, count, sum}
 use Rattle.sets.specs.Bits.{bit_at}
 use Rattle.sets.proofs.Tests.{below}
 use Rattle.sets.proofs.Counting.{bit_le, count_sum, sum_add, sum_cong, sum_const, sum_le, sum_swap, sum_zero}
-use Rattle.sets.proofs.Lowest.{Lowest, cleared, cleared-same}
+use Rattle.sets.proofs.Lowest.{Lowest, cleared, cleared_same}
 use Rattle.limits.specs.Limits.{edges_most}
 use Rattle.image.specs.Image.{end_a, end_b}
 use Rattle.community.specs.Network.{contains}
@@ -131,7 +131,7 @@ sum_cleared ds base w t h low room =
     let i : ℕ = base + t in
     sum_one 512 (λ v. bit_for base w v * get_or ds v 0) (λ v. bit_for base (cleared w) v * get_or ds v 0) i (get_or ds i 0) room
     (let on : bit_for base w i ≡ 1 = bit_for_of base w i t h refl ∙ low.here in
-    let off : bit_for base (cleared w) i ≡ 0 = bit_for_of base (cleared w) i t h refl ∙ cleared-same w t low in
+    let off : bit_for base (cleared w) i ≡ 0 = bit_for_of base (cleared w) i t h refl ∙ cleared_same w t low in
     ap (λ (b : ℕ). b * get_or ds i 0) on ∙ (let e : 1 * get_or ds i 0 ≡ 0 * get_or ds i 0 + get_or ds i 0 = omega arith in e)
     ∙ sym (ap (λ (b : ℕ). b * get_or ds i 0 + get_or ds i 0) off))
     (λ j n. ap (λ (b : ℕ). b * get_or ds j 0) (sym (bit_for_cleared base w t j low n)))
@@ -177,23 +177,23 @@ module _ (records : List ℕ) (test : ℕ → Bool) (m : ℕ) (ds : List ℕ) (h
   abbrev one : ℕ → Bool
   one e = test e && just_one (f (end_a records e)) (f (end_b records e))
 
-  of-edge : (e : ℕ) (t : Bool) → sum 512 (λ v. bit (f v) * cond t (bit (eqb (end_a records e) v) + bit (eqb (end_b records e) v)) 0)
+  of_edge : (e : ℕ) (t : Bool) → sum 512 (λ v. bit (f v) * cond t (bit (eqb (end_a records e) v) + bit (eqb (end_b records e) v)) 0)
       ≡ bit (t && (f (end_a records e) && f (end_b records e))) * 2 + bit (t && just_one (f (end_a records e)) (f (end_b records e)))
-  of-edge e true =
+  of_edge e true =
       let a : ℕ = end_a records e in
       let b : ℕ = end_b records e in
       sum_cong 512 (λ v. bit (f v) * (bit (eqb a v) + bit (eqb b v))) (λ v. bit (f v) * bit (eqb a v) + bit (f v) * bit (eqb b v)) (λ v h. mul-add (bit (f v)) (bit (eqb a v)) (bit (eqb b v)))
       ∙ sum_add 512 (λ v. bit (f v) * bit (eqb a v)) (λ v. bit (f v) * bit (eqb b v))
       ∙ ap₂ ◌+◌ (end_of a) (end_of b) ∙ two_and_one (f a) (f b)
-  of-edge e false = sum_cong 512 (λ v. bit (f v) * 0) (λ v. 0) (λ v h. omega arith) ∙ sum_zero 512
+  of_edge e false = sum_cong 512 (λ v. bit (f v) * 0) (λ v. 0) (λ v h. omega arith) ∙ sum_zero 512
 
-  pub ends-summed : degree_sum (λ v. bit (f v)) ds ≡ count m both * 2 + count m one
+  pub ends_summed : degree_sum (λ v. bit (f v)) ds ≡ count m both * 2 + count m one
   unfolding degree_sum
-  ends-summed =
+  ends_summed =
       sum_cong 512 (λ v. bit (f v) * get_or ds v 0) (λ v. sum m (λ e. bit (f v) * ends_at records test v e))
       (λ v h. ap (λ (x : ℕ). bit (f v) * x) (held.degrees v h) ∙ sum_times m (bit (f v)) (ends_at records test v))
       ∙ sum_swap 512 m (λ v e. bit (f v) * ends_at records test v e)
-      ∙ sum_cong m (λ e. sum 512 (λ v. bit (f v) * ends_at records test v e)) (λ e. bit (both e) * 2 + bit (one e)) (λ e h. of-edge e (test e))
+      ∙ sum_cong m (λ e. sum 512 (λ v. bit (f v) * ends_at records test v e)) (λ e. bit (both e) * 2 + bit (one e)) (λ e h. of_edge e (test e))
       ∙ sum_add m (λ e. bit (both e) * 2) (λ e. bit (one e))
       ∙ ap₂ ◌+◌ (twice m) (sym (count_sum m one))
     where

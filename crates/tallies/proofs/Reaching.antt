@@ -6,8 +6,8 @@
 --     reaches_none, reaches_more         the first edges: none, and one more
 --     reach_step                         the reaches, 64 groups more
 --     progress_none, progress_chunk      the counts and the reaches: of no groups, and of 64 more; progress_first: the next groups have none yet
---     inside-fits                        when all groups are counted, the ends among a group's members are at least twice the edges inside it
---     groups-counted, groups-reach       of all
+--     inside_fits                        when all groups are counted, the ends among a group's members are at least twice the edges inside it
+--     groups_counted, groups_reach       of all
 --     member_listed                      the members of a group, by the list of the rows: what a caller that knows the rows to be communities cites
 use Prim.Native.Nat.{ℕ, zero, suc, ◌+◌, ◌*◌, ◌-◌, ◌≤◌, ◌<◌, min, max}
 use native.Mathlib.Omega.{arith}
@@ -23,7 +23,7 @@ use lib.Seq.{get_or-set_same, get_or-set_other}
 use borrow.Author.Tests.{lt-ltb, le-ltb, ne_eqb}
 use Rattle.sets.specs.Below.{bit, count}
 use Rattle.sets.specs.Bits.{bit_of}
-use Rattle.sets.proofs.Lowest.{Lowest, cleared, cleared-same}
+use Rattle.sets.proofs.Lowest.{Lowest, cleared, cleared_same}
 use Rattle.sets.proofs.Counting.{count_cong, count_false, count_at, count_le}
 use Rattle.limits.specs.Limits.{limit_most}
 use Rattle.image.specs.Image.{end_a, end_b}
@@ -39,7 +39,7 @@ use Rattle.rows.proofs.Listing.{rows_at}
 use Rattle.tallies.specs.Tallies.{edges_in, is_member, is_inside, is_leaving, reach_entry, GroupsCounted, GroupsReach}
 use Rattle.tallies.specs.ForProofs.{DegreesHold, bit_for, WordsHold, RowsSummed, RaisedTo, inside_word, highest, EdgesCounted, EdgesRaised, ends_in, Progress, InsideFits, InsideTaken}
 use Rattle.tallies.proofs.Words.{where_is, bit_for_of, bit_for_before, bit_for_past, bit_for_cleared, raised_done, in_rows}
-use Rattle.tallies.proofs.Tallying.{member_none, inside-bit, joined-chunk, ends-chunk}
+use Rattle.tallies.proofs.Tallying.{member_none, inside_bit, joined_chunk, ends_chunk}
 
 -- ---- a table that is raised
 
@@ -54,7 +54,7 @@ raised_to_more rs base w t x h low room i = pick (ℕ_discrete i (base + t))
     pick (yes e) =
         let here : get_or (set rs (base + t) new) i 0 ≡ max (get_or rs i 0) x =
         ap (λ (k : ℕ). get_or (set rs (base + t) new) k 0) e ∙ get_or-set_same rs (base + t) new 0 room ∙ ap (λ (k : ℕ). max (get_or rs k 0) x) (sym e) in
-        let off : bit_for base (cleared w) i ≡ 0 = bit_for_of base (cleared w) i t h e ∙ cleared-same w t low in
+        let off : bit_for base (cleared w) i ≡ 0 = bit_for_of base (cleared w) i t h e ∙ cleared_same w t low in
         let on : bit_for base w i ≡ 1 = bit_for_of base w i t h e ∙ low.here in
         ap₂ max here (ap (λ (b : ℕ). x * b) off) ∙ omega arith ∙ sym (ap (λ (b : ℕ). max (get_or rs i 0) (x * b)) on)
     pick (no n) = ap₂ max (get_or-set_other rs (base + t) i new 0 n) (ap (λ (b : ℕ). x * b) (bit_for_cleared base w t i low n))
@@ -181,12 +181,12 @@ pub progress_chunk : (handsets records : List ℕ) (m limit : ℕ) (rows : List 
 progress_chunk handsets records m limit rows all first ws ds ts ts₁ rs ts₂ rs₂ held before low degrees summed p c r = record {
   ts_size = c.size ∙ summed.size;
   rs_size = r.size ∙ p.rs_size;
-  joined = λ k h. joined-chunk records rows m all first ws ds ts ts₁ ts₂ held before low degrees summed c k h (p.joined k h);
-  ends = λ k h. ends-chunk records rows m all first ws ds ts ts₁ ts₂ held before low degrees summed c k h (p.ends k h);
+  joined = λ k h. joined_chunk records rows m all first ws ds ts ts₁ ts₂ held before low degrees summed c k h (p.joined k h);
+  ends = λ k h. ends_chunk records rows m all first ws ds ts ts₁ ts₂ held before low degrees summed c k h (p.ends k h);
   reaches = λ k h.
       reach_step first k (get_or rs k 0) (get_or rs₂ k 0) m (inside_word ws records) (is_inside records rows all k) (λ e. ends_proximity handsets (end_a records e) (end_b records e) limit)
       _ refl (p.reaches k h) (r.entries k)
-      (λ i l q e. inside-bit rows all first ws held before records e i l ∙ ap (λ (x : ℕ). bit (is_inside records rows all x e)) (sym q));
+      (λ i l q e. inside_bit rows all first ws held before records e i l ∙ ap (λ (x : ℕ). bit (is_inside records rows all x e)) (sym q));
 }
 
 -- ---- all groups
@@ -203,8 +203,8 @@ module _ (handsets records : List ℕ) (m most limit : ℕ) (rows : List ℕ) (g
   inside_is : (k e : ℕ) → k < 512 → is_inside records rows all k e ≡ is_inside records rows groups k e
   inside_is k e h = ap₂ (λ (a b : Bool). a && b) (member_is k (end_a records e) h) (member_is k (end_b records e) h)
 
-  leaving-is : (k e : ℕ) → k < 512 → is_leaving records rows all k e ≡ is_leaving records rows groups k e
-  leaving-is k e h = ap₂ just_one (member_is k (end_a records e) h) (member_is k (end_b records e) h)
+  leaving_is : (k e : ℕ) → k < 512 → is_leaving records rows all k e ≡ is_leaving records rows groups k e
+  leaving_is k e h = ap₂ just_one (member_is k (end_a records e) h) (member_is k (end_b records e) h)
 
   -- past the first groups the counts are 0 too
   due : (k : ℕ) (x : ℕ) → (first ≤ k → x ≡ 0) → cond (ltb k first) x 0 ≡ x
@@ -217,64 +217,64 @@ module _ (handsets records : List ℕ) (m most limit : ℕ) (rows : List ℕ) (g
   none : (k : ℕ) → first ≤ k → (v : ℕ) → is_member rows all k v ≡ false
   none k h v = member_none rows all k v (omega (arith, past, h))
 
-  inside-none : (k : ℕ) → first ≤ k → count m (is_inside records rows all k) ≡ 0
-  inside-none k h =
+  inside_none : (k : ℕ) → first ≤ k → count m (is_inside records rows all k) ≡ 0
+  inside_none k h =
       count_cong m (is_inside records rows all k) (λ e. false) (λ e q. ap (λ (b : Bool). b && is_member rows all k (end_b records e)) (none k h (end_a records e))) ∙ count_false m
 
-  leaving-none : (k : ℕ) → first ≤ k → count m (is_leaving records rows all k) ≡ 0
-  leaving-none k h =
+  leaving_none : (k : ℕ) → first ≤ k → count m (is_leaving records rows all k) ≡ 0
+  leaving_none k h =
       count_cong m (is_leaving records rows all k) (λ e. false) (λ e q. ap₂ just_one (none k h (end_a records e)) (none k h (end_b records e))) ∙ count_false m
 
   joined_is : (k : ℕ) → k < 512 → get_or ts k 0 ≡ count m (is_inside records rows all k)
-  joined_is k h = p.joined k h ∙ due k (count m (is_inside records rows all k)) (inside-none k)
+  joined_is k h = p.joined k h ∙ due k (count m (is_inside records rows all k)) (inside_none k)
 
   ends_is : (k : ℕ) → k < 512 → get_or ts (512 + k) 0 ≡ ends_in records rows m all k
-  ends_is k h = p.ends k h ∙ due k (ends_in records rows m all k) (λ l. omega (arith, inside-none k l, leaving-none k l))
+  ends_is k h = p.ends k h ∙ due k (ends_in records rows m all k) (λ l. omega (arith, inside_none k l, leaving_none k l))
 
   -- where the edges inside are taken out
-  pub inside-fits : InsideFits all ts
-  inside-fits = record {
+  pub inside_fits : InsideFits all ts
+  inside_fits = record {
     size = p.ts_size;
     few = λ k h. omega (arith, joined_is k (omega (arith, h, few)), count_le m (is_inside records rows all k), edges);
     enough = λ k h. omega (arith, joined_is k (omega (arith, h, few)), ends_is k (omega (arith, h, few)));
   }
 
-  leaving-left : (ts' : List ℕ) → InsideTaken all ts ts' → (k : ℕ) → k < 512 → Dec (k < all) → get_or ts' (512 + k) 0 ≡ count m (is_leaving records rows all k)
-  leaving-left ts' t k h (yes l) = omega (arith, t.taken k l, joined_is k h, ends_is k h)
-  leaving-left ts' t k h (no l) =
+  leaving_left : (ts' : List ℕ) → InsideTaken all ts ts' → (k : ℕ) → k < 512 → Dec (k < all) → get_or ts' (512 + k) 0 ≡ count m (is_leaving records rows all k)
+  leaving_left ts' t k h (yes l) = omega (arith, t.taken k l, joined_is k h, ends_is k h)
+  leaving_left ts' t k h (no l) =
       let q : count m (is_inside records rows all k) ≡ 0 =
       count_cong m (is_inside records rows all k) (λ e. false) (λ e d. ap (λ (b : Bool). b && is_member rows all k (end_b records e)) (member_none rows all k (end_a records e) (omega (arith, l)))) ∙ count_false m in
       omega (arith, t.others (512 + k) (λ i d e. omega (arith, d, e, l)), ends_is k h, q)
 
-  pub groups-counted : (ts' : List ℕ) → InsideTaken all ts ts' → GroupsCounted records rows groups ts'
-  groups-counted ts' t = record {
+  pub groups_counted : (ts' : List ℕ) → InsideTaken all ts ts' → GroupsCounted records rows groups ts'
+  groups_counted ts' t = record {
     size = t.size ∙ p.ts_size;
     joined = λ k h.
         t.others k (λ i d e. omega (arith, h, e)) ∙ joined_is k h
         ∙ count_cong m (is_inside records rows all k) (is_inside records rows groups k) (λ e q. inside_is k e h) ∙ count_at m (edges_in records) _ edges;
     leaving = λ k h.
-        leaving-left ts' t k h (dec_lt k all)
-        ∙ count_cong m (is_leaving records rows all k) (is_leaving records rows groups k) (λ e q. leaving-is k e h) ∙ count_at m (edges_in records) _ edges;
+        leaving_left ts' t k h (dec_lt k all)
+        ∙ count_cong m (is_leaving records rows all k) (is_leaving records rows groups k) (λ e q. leaving_is k e h) ∙ count_at m (edges_in records) _ edges;
   }
 
   abbrev share : ℕ → ℕ → Proximity
   share k e = cond (is_inside records rows all k e) (ends_proximity handsets (end_a records e) (end_b records e) most) NotNear
 
-  no-reach : (n : ℕ) → farthest n (λ e. NotNear) ≡ NotNear
+  no_reach : (n : ℕ) → farthest n (λ e. NotNear) ≡ NotNear
   unfolding farthest farther
-  no-reach zero = refl
-  no-reach (suc n) = ap (λ (x : Proximity). farther x NotNear) (no-reach n)
+  no_reach zero = refl
+  no_reach (suc n) = ap (λ (x : Proximity). farther x NotNear) (no_reach n)
 
-  reach-none : (k : ℕ) → first ≤ k → reach_entry (farthest m (share k)) ≡ 0
-  reach-none k h =
+  reach_none : (k : ℕ) → first ≤ k → reach_entry (farthest m (share k)) ≡ 0
+  reach_none k h =
       ap reach_entry (farthest_cong m (share k) (λ e. NotNear)
-      (λ e q. ap (λ (b : Bool). cond (b && is_member rows all k (end_b records e)) (ends_proximity handsets (end_a records e) (end_b records e) most) NotNear) (none k h (end_a records e))) ∙ no-reach m)
+      (λ e q. ap (λ (b : Bool). cond (b && is_member rows all k (end_b records e)) (ends_proximity handsets (end_a records e) (end_b records e) most) NotNear) (none k h (end_a records e))) ∙ no_reach m)
 
-  pub groups-reach : GroupsReach handsets records limit rows groups rs
-  groups-reach = record {
+  pub groups_reach : GroupsReach handsets records limit rows groups rs
+  groups_reach = record {
     size = p.rs_size;
     reaches = λ k h.
-        p.reaches k h ∙ due k (reach_entry (farthest m (share k))) (reach-none k)
+        p.reaches k h ∙ due k (reach_entry (farthest m (share k))) (reach_none k)
         ∙ ap reach_entry (farthest_cong m (share k) _
         (λ e q. ap₂ (λ (b : Bool) (x : ℕ). cond b (ends_proximity handsets (end_a records e) (end_b records e) x) NotNear) (inside_is k e h) bounded)
         ∙ ap (λ (n : ℕ). farthest n (λ e. cond (is_inside records rows groups k e) (ends_proximity handsets (end_a records e) (end_b records e) (min limit limit_most)) NotNear)) edges);

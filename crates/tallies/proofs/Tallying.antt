@@ -2,8 +2,8 @@
 -- of every edge's word, so that the sum over the edges is the count. In the place of the edges that leave a group stand the ends that the edges have among its members.
 --
 --     edges_none, edges_more, edges_room     the first edges, one more; the next has room
---     member-bit, inside-bit     what the bits of the words say of the groups
---     joined-chunk, ends-chunk   the counts, 64 groups more
+--     member_bit, inside_bit     what the bits of the words say of the groups
+--     joined_chunk, ends_chunk   the counts, 64 groups more
 use Prim.Native.Nat.{ℕ, zero, suc, ◌+◌, ◌*◌, ◌-◌, ◌≤◌, ◌<◌, min}
 use native.Mathlib.Omega.{arith}
 use native.Mathlib.Decide.{dec_lt}
@@ -28,7 +28,7 @@ use Rattle.rows.proofs.Rows.{contains_past}
 use Rattle.tallies.specs.Tallies.{is_member, is_inside, is_leaving}
 use Rattle.tallies.specs.ForProofs.{DegreesHold, degree_sum, bit_for, WordsHold, RowsSummed, Raised, inside_word, EdgesCounted, ends_in}
 use Rattle.tallies.proofs.Words.{where_is, bit_for_before, bit_for_past, bit_for_of, bit_for_le, in_rows}
-use Rattle.tallies.proofs.Degrees.{degree_sum_cong, degree_sum_none, ends-summed}
+use Rattle.tallies.proofs.Degrees.{degree_sum_cong, degree_sum_none, ends_summed}
 
 -- ---- the edges inside
 sum_next : (n : ℕ) (f : ℕ → ℕ) → sum (n + 1) f ≡ f n + sum n f
@@ -76,9 +76,9 @@ unfolding is_member
 member_past rows all k v h = ap (λ (b : Bool). ltb k all && b) (contains_past rows k v h) ∙ and-false (ltb k all)
 
 module _ (rows : List ℕ) (all first : ℕ) (ws : List ℕ) (held : WordsHold (in_rows rows first (min (all - first) 64)) ws) (before : first < all) where
-  pub member-bit : (v i : ℕ) → i < 64 → bit_of (get_or ws v 0) i ≡ bit (is_member rows all (first + i) v)
+  pub member_bit : (v i : ℕ) → i < 64 → bit_of (get_or ws v 0) i ≡ bit (is_member rows all (first + i) v)
   unfolding is_member
-  member-bit v i h = pick (dec_lt v 512)
+  member_bit v i h = pick (dec_lt v 512)
     where
       same : Dec (first + i < all) → ltb i (min (all - first) 64) ≡ ltb (first + i) all
       same (yes l) = lt-ltb i (min (all - first) 64) (omega (arith, h, l)) ∙ sym (lt-ltb (first + i) all l)
@@ -92,9 +92,9 @@ module _ (rows : List ℕ) (all first : ℕ) (ws : List ℕ) (held : WordsHold (
           ap (λ (x : ℕ). bit_of x i) (get_or-eq_default ws 0 (omega (arith, held.size, l))) ∙ bit_of_none i
           ∙ sym (ap bit (ap (λ (b : Bool). ltb (first + i) all && b) (contains_past rows (first + i) v (omega (arith, l))) ∙ and-false (ltb (first + i) all)))
 
-  pub inside-bit : (records : List ℕ) (e i : ℕ) → i < 64 → bit_of (inside_word ws records e) i ≡ bit (is_inside records rows all (first + i) e)
-  inside-bit records e i h =
-      bit_of_and (get_or ws (end_a records e) 0) (get_or ws (end_b records e) 0) i ∙ ap₂ min (member-bit (end_a records e) i h) (member-bit (end_b records e) i h)
+  pub inside_bit : (records : List ℕ) (e i : ℕ) → i < 64 → bit_of (inside_word ws records e) i ≡ bit (is_inside records rows all (first + i) e)
+  inside_bit records e i h =
+      bit_of_and (get_or ws (end_a records e) 0) (get_or ws (end_b records e) 0) i ∙ ap₂ min (member_bit (end_a records e) i h) (member_bit (end_b records e) i h)
       ∙ both_bits (is_member rows all (first + i) (end_a records e)) (is_member rows all (first + i) (end_b records e))
 
 -- a count that is due below first is due below first + 64, with the bits of the words between
@@ -120,32 +120,32 @@ count_step first k x y m w f p q bits =
 
 module _ (records rows : List ℕ) (m all first : ℕ) (ws ds ts ts₁ ts₂ : List ℕ) (held : WordsHold (in_rows rows first (min (all - first) 64)) ws) (before : first < all)
     (low : first ≤ 448) (degrees : DegreesHold records every_edge m ds) (summed : RowsSummed rows first (min (all - first) 64) ds ts ts₁) (counted : EdgesCounted ws records m first ts₁ ts₂) where
-  pub joined-chunk : (k : ℕ) → k < 512 → get_or ts k 0 ≡ cond (ltb k first) (count m (is_inside records rows all k)) 0 → get_or ts₂ k 0 ≡ cond (ltb k (first + 64)) (count m (is_inside records rows all k)) 0
-  joined-chunk k h p =
+  pub joined_chunk : (k : ℕ) → k < 512 → get_or ts k 0 ≡ cond (ltb k first) (count m (is_inside records rows all k)) 0 → get_or ts₂ k 0 ≡ cond (ltb k (first + 64)) (count m (is_inside records rows all k)) 0
+  joined_chunk k h p =
       count_step first k (get_or ts₁ k 0) (get_or ts₂ k 0) m (inside_word ws records) (is_inside records rows all k) (summed.others k (λ i l e. omega (arith, h, e)) ∙ p) (counted.counts k)
-      (λ i l q e. inside-bit rows all first ws held before records e i l ∙ ap (λ (x : ℕ). bit (is_inside records rows all x e)) (sym q))
+      (λ i l q e. inside_bit rows all first ws held before records e i l ∙ ap (λ (x : ℕ). bit (is_inside records rows all x e)) (sym q))
 
   -- no edge is counted in the second half of the table
-  second-half : (k : ℕ) → get_or ts₂ (512 + k) 0 ≡ get_or ts₁ (512 + k) 0
-  second-half k =
+  second_half : (k : ℕ) → get_or ts₂ (512 + k) 0 ≡ get_or ts₁ (512 + k) 0
+  second_half k =
       let f : ℕ → ℕ = λ e. bit_for first (inside_word ws records e) (512 + k) in
       omega (arith, counted.counts (512 + k), sum_cong m f (λ e. 0) (λ e l. bit_for_past first (inside_word ws records e) (512 + k) (omega (arith, low))), sum_zero m)
 
-  members-ends : (k : ℕ) → degree_sum (λ v. bit (is_member rows all k v)) ds ≡ ends_in records rows m all k
-  members-ends k = ends-summed records every_edge m ds degrees (is_member rows all k) (λ v h. member_past rows all k v h)
+  members_ends : (k : ℕ) → degree_sum (λ v. bit (is_member rows all k v)) ds ≡ ends_in records rows m all k
+  members_ends k = ends_summed records every_edge m ds degrees (is_member rows all k) (λ v h. member_past rows all k v h)
 
   row_ends : (i : ℕ) → i < 64 → Dec (i < min (all - first) 64) → get_or ts (512 + (first + i)) 0 ≡ 0 → get_or ts₁ (512 + (first + i)) 0 ≡ ends_in records rows m all (first + i)
   row_ends i h (yes l) z =
       summed.sums i l
       ∙ degree_sum_cong (λ v. bit (contains v (row_members rows (first + i)))) (λ v. bit (is_member rows all (first + i) v)) ds (λ v q. ap bit (sym (member_some rows all (first + i) v (omega (arith, l)))))
-      ∙ members-ends (first + i)
+      ∙ members_ends (first + i)
   row_ends i h (no l) z =
       summed.others (512 + (first + i)) (λ j q e. omega (arith, q, e, l)) ∙ z
-      ∙ sym (sym (members-ends (first + i)) ∙ degree_sum_cong (λ v. bit (is_member rows all (first + i) v)) (λ v. 0) ds (λ v q. ap bit (member_none rows all (first + i) v (omega (arith, h, l)))) ∙ degree_sum_none ds)
+      ∙ sym (sym (members_ends (first + i)) ∙ degree_sum_cong (λ v. bit (is_member rows all (first + i) v)) (λ v. 0) ds (λ v q. ap bit (member_none rows all (first + i) v (omega (arith, h, l)))) ∙ degree_sum_none ds)
 
-  pub ends-chunk : (k : ℕ) → k < 512 → get_or ts (512 + k) 0 ≡ cond (ltb k first) (ends_in records rows m all k) 0 → get_or ts₂ (512 + k) 0 ≡ cond (ltb k (first + 64)) (ends_in records rows m all k) 0
-  ends-chunk k h p =
-      second-half k
+  pub ends_chunk : (k : ℕ) → k < 512 → get_or ts (512 + k) 0 ≡ cond (ltb k first) (ends_in records rows m all k) 0 → get_or ts₂ (512 + k) 0 ≡ cond (ltb k (first + 64)) (ends_in records rows m all k) 0
+  ends_chunk k h p =
+      second_half k
       ∙ ⊎_elim
       (λ l.
       summed.others (512 + k) (λ i q e. omega (arith, l, e)) ∙ p ∙ ap (λ (b : Bool). cond b (ends_in records rows m all k) 0) (lt-ltb k first l)

@@ -21,8 +21,8 @@ use lib.Seq.{get_or-set_same, get_or-set_other, get_or-take, get_or-drop}
 use borrow.Author.Tests.{lt-ltb, le-ltb, le-leb, lt-leb, eq-eqb, ne_eqb}
 use Rattle.sets.specs.Below.{bit}
 use Rattle.sets.specs.Bits.{bit_of, bit_at, cell, with_bit}
-use Rattle.sets.proofs.Bits.{bit_of_none, bit_of_lt, bit_at_lt, bitAt-set-same, bit_at_set_other, bit_at_past, bit_at_zeros, word_bit}
-use Rattle.sets.proofs.Lowest.{Lowest, cleared, cleared-same, cleared-other}
+use Rattle.sets.proofs.Bits.{bit_of_none, bit_of_lt, bit_at_lt, bit_at_set_same, bit_at_set_other, bit_at_past, bit_at_zeros, word_bit}
+use Rattle.sets.proofs.Lowest.{Lowest, cleared, cleared_same, cleared_other}
 use Rattle.sets.proofs.Counting.{bit_le, test_bit}
 use Rattle.sets.proofs.Tests.{three}
 use Rattle.community.specs.Network.{contains}
@@ -70,7 +70,7 @@ pub bit_for_cleared : (base w t i : ℕ) → Lowest w t → (i ≡ base + t → 
 bit_for_cleared base w t i low n =
     ⊎_elim (λ l. bit_for_before base (cleared w) i l ∙ sym (bit_for_before base w i l))
     (⊎_elim
-    (λ p. bit_for_of base (cleared w) i p.0 p.1 p.2 ∙ cleared-other w t low p.0 (λ e. n (omega (arith, p.2))) ∙ sym (bit_for_of base w i p.0 p.1 p.2))
+    (λ p. bit_for_of base (cleared w) i p.0 p.1 p.2 ∙ cleared_other w t low p.0 (λ e. n (omega (arith, p.2))) ∙ sym (bit_for_of base w i p.0 p.1 p.2))
     (λ l. bit_for_past base (cleared w) i l ∙ sym (bit_for_past base w i l)))
     (where_is base i)
 
@@ -83,7 +83,7 @@ raised_more ts base w t h low room i = pick (ℕ_discrete i (base + t))
         let set_here : get_or (set ts (base + t) (get_or ts (base + t) 0 + 1)) i 0 ≡ get_or ts i 0 + 1 =
         ap (λ (x : ℕ). get_or (set ts (base + t) (get_or ts (base + t) 0 + 1)) x 0) e ∙ get_or-set_same ts (base + t) (get_or ts (base + t) 0 + 1) 0 room
         ∙ ap (λ (x : ℕ). get_or ts x 0 + 1) (sym e) in
-        omega (arith, set_here, bit_for_of base (cleared w) i t h e, cleared-same w t low, bit_for_of base w i t h e, low.here)
+        omega (arith, set_here, bit_for_of base (cleared w) i t h e, cleared_same w t low, bit_for_of base w i t h e, low.here)
     pick (no n) = ap₂ ◌+◌ (get_or-set_other ts (base + t) i (get_or ts (base + t) 0 + 1) 0 n) (bit_for_cleared base w t i low n)
 
 pub raised_done : (base i : ℕ) → bit_for base 0 i ≡ 0
@@ -105,9 +105,9 @@ marked_more ws base w t i h low q room v j l = pick (ℕ_discrete v (base + t)) 
         → max (bit_at (with_bit ws ((base + t) * 64 + i)) (v * 64 + j)) (bit (eqb j i) * bit_for base (cleared w) v) ≡ max (bit_at ws (v * 64 + j)) (bit (eqb j i) * bit_for base w v)
     pick (yes d) (yes e) =
         let new : bit_at (with_bit ws ((base + t) * 64 + i)) (v * 64 + j) ≡ 1 =
-        ap (bit_at (with_bit ws ((base + t) * 64 + i))) (let p : v * 64 + j ≡ (base + t) * 64 + i = omega (arith, d, e) in p) ∙ bitAt-set-same ws ((base + t) * 64 + i) (omega (arith, room, q)) in
+        ap (bit_at (with_bit ws ((base + t) * 64 + i))) (let p : v * 64 + j ≡ (base + t) * 64 + i = omega (arith, d, e) in p) ∙ bit_at_set_same ws ((base + t) * 64 + i) (omega (arith, room, q)) in
         let one : bit (eqb j i) ≡ 1 = ap bit (eq-eqb j i e) in
-        let off : bit_for base (cleared w) v ≡ 0 = bit_for_of base (cleared w) v t h d ∙ cleared-same w t low in
+        let off : bit_for base (cleared w) v ≡ 0 = bit_for_of base (cleared w) v t h d ∙ cleared_same w t low in
         let on : bit_for base w v ≡ 1 = bit_for_of base w v t h d ∙ low.here in
         ap₂ max new (ap₂ ◌*◌ one off) ∙ (let z : max 1 (1 * 0) ≡ max (bit_at ws (v * 64 + j)) (1 * 1) = omega (arith, bit_at_lt ws (v * 64 + j)) in z)
         ∙ sym (ap (max (bit_at ws (v * 64 + j))) (ap₂ ◌*◌ one on))

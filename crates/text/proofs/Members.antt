@@ -2,10 +2,10 @@
 --
 --     WordLeft ws j w b     the word w is what is left of word j: its bits from the number b on
 --     left_all, left_next   at first all of it; after a turn the bits past the lowest
---     lowest-next           the lowest bit that is left is the next member
+--     lowest_next           the lowest bit that is left is the next member
 --     members_next          the members written, with the next one
 --     members_skip          where no member stands between, those below a bound are those below another
---     members-done          where nothing is left of the word, all its members are written
+--     members_done          where nothing is left of the word, all its members are written
 --     members_word          the members below a word, and those of the word
 --     elements_are          the members in the words that there are, at most eight, are all below 512
 use Prim.Native.Nat.{ℕ, ◌+◌, ◌*◌, ◌-◌, ◌^◌, ◌≤◌, ◌<◌, min}
@@ -20,7 +20,7 @@ use Rattle.sets.specs.Bits.{bit_of, bit_at}
 use Rattle.sets.proofs.Tests.{eqb_of}
 use Rattle.sets.proofs.Selecting.{select_same}
 use Rattle.sets.proofs.Bits.{bit_of_none, bit_at_past, word_bit}
-use Rattle.sets.proofs.Lowest.{Lowest, cleared, cleared_lt, cleared-same, cleared-other}
+use Rattle.sets.proofs.Lowest.{Lowest, cleared, cleared_lt, cleared_same, cleared_other}
 use Rattle.text.specs.Text.{Wrote, decimal, numbers, elements_of}
 use Rattle.text.specs.ForProofs.{is_member, MembersWritten}
 use Rattle.text.proofs.Writing.{chain, members_yes}
@@ -61,8 +61,8 @@ members_next {ws} {a = a} v small e m w = record {
 
 module _ {ws : List ℕ} {j w b : ℕ} (left : WordLeft ws j w b) where
   -- a number of word j by its bit
-  bit-left : (v : ℕ) → b ≤ v → v < j * 64 + 64 → bit_at ws v ≡ bit_of w (v - j * 64)
-  bit-left v l h =
+  bit_left : (v : ℕ) → b ≤ v → v < j * 64 + 64 → bit_at ws v ≡ bit_of w (v - j * 64)
+  bit_left v l h =
       let e : v ≡ j * 64 + (v - j * 64) = omega (arith, left.low) in
       ap (bit_at ws) e ∙ sym (left.same (v - j * 64) (omega (arith, left.low)) (omega (arith, left.low)))
 
@@ -74,27 +74,27 @@ module _ {ws : List ℕ} {j w b : ℕ} (left : WordLeft ws j w b) where
         pick (yes k) = absurd (omega (arith, left.none t k, lowest.here))
         pick (no k) = omega arith
 
-    pub lowest-member : bit_at ws (j * 64 + t) ≡ 1
-    lowest-member = sym (left.same t few later) ∙ lowest.here
+    pub lowest_member : bit_at ws (j * 64 + t) ≡ 1
+    lowest_member = sym (left.same t few later) ∙ lowest.here
 
-    pub lowest-next : {l l' : List ℕ} {a at r : ℕ} → MembersWritten ws a b l at l' r → MembersWritten ws a (j * 64 + t) l at l' r
-    lowest-next m = members_skip later (λ v l h. bit-left v l (omega arith) ∙ lowest.lower (v - j * 64) (omega (arith, left.low))) m
+    pub lowest_next : {l l' : List ℕ} {a at r : ℕ} → MembersWritten ws a b l at l' r → MembersWritten ws a (j * 64 + t) l at l' r
+    lowest_next m = members_skip later (λ v l h. bit_left v l (omega arith) ∙ lowest.lower (v - j * 64) (omega (arith, left.low))) m
 
     pub left_next : WordLeft ws j (cleared w) (j * 64 + t + 1)
     left_next = record {
       low = omega arith;
       high = omega arith;
       fits = cleared_lt w left.fits;
-      same = λ k h l. cleared-other w t lowest k (λ e. omega arith) ∙ left.same k h (omega (arith, later));
+      same = λ k h l. cleared_other w t lowest k (λ e. omega arith) ∙ left.same k h (omega (arith, later));
       none = λ k l. gone k (dec_lt k t) (omega arith);
     }
       where
         gone : (k : ℕ) → Dec (k < t) → k ≤ t → bit_of (cleared w) k ≡ 0
-        gone k (yes q) l = cleared-other w t lowest k (λ e. omega arith) ∙ lowest.lower k q
-        gone k (no q) l = let e : k ≡ t = omega arith in ap (bit_of (cleared w)) e ∙ cleared-same w t lowest
+        gone k (yes q) l = cleared_other w t lowest k (λ e. omega arith) ∙ lowest.lower k q
+        gone k (no q) l = let e : k ≡ t = omega arith in ap (bit_of (cleared w)) e ∙ cleared_same w t lowest
 
-  pub members-done : {l l' : List ℕ} {a at r : ℕ} → w ≡ 0 → MembersWritten ws a b l at l' r → MembersWritten ws a (j * 64 + 64) l at l' r
-  members-done e m = members_skip left.high (λ v l h. bit-left v l h ∙ ap (λ (x : ℕ). bit_of x (v - j * 64)) e ∙ bit_of_none (v - j * 64)) m
+  pub members_done : {l l' : List ℕ} {a at r : ℕ} → w ≡ 0 → MembersWritten ws a b l at l' r → MembersWritten ws a (j * 64 + 64) l at l' r
+  members_done e m = members_skip left.high (λ v l h. bit_left v l h ∙ ap (λ (x : ℕ). bit_of x (v - j * 64)) e ∙ bit_of_none (v - j * 64)) m
 
 pub members_word : {ws l l₁ l₂ : List ℕ} {at r₁ r₂ : ℕ} (j : ℕ) → length l ≤ 9223372036854775808 → Wrote l at (numbers (select (j * 64) (is_member ws))) l₁ r₁
     → MembersWritten ws (j * 64) (j * 64 + 64) l₁ r₁ l₂ r₂ → Wrote l at (numbers (select ((j + 1) * 64) (is_member ws))) l₂ r₂

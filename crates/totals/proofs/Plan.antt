@@ -1,7 +1,7 @@
 -- By the rows of a network's communities and the set of its cores, the roles are those of the network.
 --
---     plan-totals       the totals are the network's
---     plan-outliers     the set holds the network's outliers
+--     plan_totals       the totals are the network's
+--     plan_outliers     the set holds the network's outliers
 use Prim.Native.Nat.{ℕ, ◌≤◌, ◌<◌, min}
 use native.Mathlib.Omega.{arith}
 use native.Mathlib.Decide.{dec_lt}
@@ -24,29 +24,29 @@ use Rattle.totals.proofs.Adding.{totals_same}
 
 module _ (g : Network) (cores rows : List ℕ) (k : ℕ) (few : g.n ≤ 512) (listed : rows_of rows k ≡ communities g)
     (held : SetOf cores (λ v. ltb v g.n && is_core g v)) where
-  role-held : (v : ℕ) → v < g.n → role_for cores rows k v ≡ role g v
+  role_held : (v : ℕ) → v < g.n → role_for cores rows k v ≡ role g v
   unfolding role_for role
-  role-held v h =
+  role_held v h =
       let core : eqb (bit_at cores v) 1 ≡ is_core g v =
       ap (λ (b : ℕ). eqb b 1) (held.bits v (omega arith)) ∙ bit_test (ltb v g.n && is_core g v) ∙ ap (λ (b : Bool). b && is_core g v) (lt-ltb v g.n h) in
       ap₂ (λ (gs : List (List ℕ)) (b : Bool). role_among gs b v) listed core
 
   module _ {t : Totals} {outliers : List ℕ} (counted : RolesCounted cores rows k g.n t outliers) where
-    pub plan-totals : t ≡ totals g
+    pub plan_totals : t ≡ totals g
     unfolding totals
-    plan-totals =
+    plan_totals =
         counted.numbers ∙ ap (λ (m : ℕ). totals_of m (role_for cores rows k)) (let e : min g.n 512 ≡ g.n = omega arith in e)
         ∙ totals_same g.n (role_for cores rows k) (role g)
         (λ v h. record {
-          core = ap is_core_role (role-held v h);
-          border = ap is_border (role-held v h);
-          outlier = ap is_outlier (role-held v h);
-          multiple = ap is_multiple (role-held v h);
+          core = ap is_core_role (role_held v h);
+          border = ap is_border (role_held v h);
+          outlier = ap is_outlier (role_held v h);
+          multiple = ap is_multiple (role_held v h);
         })
 
-    pub plan-outliers : (v : ℕ) → v < 512 → bit_at outliers v ≡ bit (ltb v g.n && is_outlier (role g v))
-    plan-outliers v h = counted.marked.bits v h ∙ pick (dec_lt v g.n)
+    pub plan_outliers : (v : ℕ) → v < 512 → bit_at outliers v ≡ bit (ltb v g.n && is_outlier (role g v))
+    plan_outliers v h = counted.marked.bits v h ∙ pick (dec_lt v g.n)
       where
         pick : Dec (v < g.n) → bit (ltb v g.n && is_outlier (role_for cores rows k v)) ≡ bit (ltb v g.n && is_outlier (role g v))
-        pick (yes l) = ap (λ (r : Role). bit (ltb v g.n && is_outlier r)) (role-held v l)
+        pick (yes l) = ap (λ (r : Role). bit (ltb v g.n && is_outlier r)) (role_held v l)
         pick (no l) = rw (le-ltb v g.n (omega arith))

@@ -3,12 +3,12 @@
 --     none_below, all_below, some_below    the word of the handsets below a bound
 --     test ..                              the test of a role, for the handsets below n
 --     WordOf ..                            a word has the handsets of 64 that pass a test
---     word-core, word-border, word-outlier, word-multiple     the four words of a turn
+--     word_core, word_border, word_outlier, word_multiple     the four words of a turn
 --     SumsTo ..                            the totals of the words passed
 --     sums_none, sums_turn, sums_small     of no words; of one word more; none is above 512
 --     sums_all                             of all eight
 --     marked_more                          the set of outliers, one word more
---     counted-rows                         by the handsets in one row or more and in two or more, the roles are those by the rows
+--     counted_rows                         by the handsets in one row or more and in two or more, the roles are those by the rows
 use Prim.Native.Nat.{ℕ, zero, suc, ◌+◌, ◌-◌, ◌*◌, ◌/◌, ◌%◌, ◌^◌, ◌≤◌, ◌<◌, min}
 use native.Mathlib.Omega.{arith}
 use native.Mathlib.Decide.{ℕ_discrete, dec_lt}
@@ -143,36 +143,36 @@ module _ (once twice cores : List ℕ) (n j a : ℕ) (below : BitsBelow n j a) (
   abbrev roles : ℕ → Role
   roles = set_role once twice cores
 
-  abbrev isIn : List ℕ → ℕ → Bool
-  isIn ws v = eqb (bit_at ws v) 1
+  abbrev is_in : List ℕ → ℕ → Bool
+  is_in ws v = eqb (bit_at ws v) 1
 
   all : WordOf j (λ v. ltb v n) a
   all = record { fits = fits; bits = below.bits }
 
-  cores-of : WordOf j (λ v. ltb v n && isIn cores v) core
-  cores-of = word_and j (λ v. ltb v n) (isIn cores) a (get_or cores j 0) all (word_set j cores)
+  cores_of : WordOf j (λ v. ltb v n && is_in cores v) core
+  cores_of = word_and j (λ v. ltb v n) (is_in cores) a (get_or cores j 0) all (word_set j cores)
 
-  others-of : WordOf j (λ v. ltb v n && not (isIn cores v)) other
-  others-of = word_without j (λ v. ltb v n) (isIn cores) a core all cores-of
+  others_of : WordOf j (λ v. ltb v n && not (is_in cores v)) other
+  others_of = word_without j (λ v. ltb v n) (is_in cores) a core all cores_of
 
-  borders-of : WordOf j (λ v. (ltb v n && not (isIn cores v)) && isIn once v) border
-  borders-of = word_and j (λ v. ltb v n && not (isIn cores v)) (isIn once) other (get_or once j 0) others-of (word_set j once)
+  borders_of : WordOf j (λ v. (ltb v n && not (is_in cores v)) && is_in once v) border
+  borders_of = word_and j (λ v. ltb v n && not (is_in cores v)) (is_in once) other (get_or once j 0) others_of (word_set j once)
 
-  word-core : WordOf j (test is_core_role roles n) core
-  word-core = word_cong j _ (test is_core_role roles n) core (λ v. role_core (ltb v n) (isIn cores v) (isIn once v) (isIn twice v)) cores-of
+  word_core : WordOf j (test is_core_role roles n) core
+  word_core = word_cong j _ (test is_core_role roles n) core (λ v. role_core (ltb v n) (is_in cores v) (is_in once v) (is_in twice v)) cores_of
 
-  word-border : WordOf j (test is_border roles n) border
-  word-border = word_cong j _ (test is_border roles n) _ (λ v. role_border (ltb v n) (isIn cores v) (isIn once v) (isIn twice v)) borders-of
+  word_border : WordOf j (test is_border roles n) border
+  word_border = word_cong j _ (test is_border roles n) _ (λ v. role_border (ltb v n) (is_in cores v) (is_in once v) (is_in twice v)) borders_of
 
-  pub word-outlier : WordOf j (test is_outlier roles n) (bit_xor other border)
-  word-outlier =
-      word_cong j _ (test is_outlier roles n) _ (λ v. role_outlier (ltb v n) (isIn cores v) (isIn once v) (isIn twice v))
-      (word_without j (λ v. ltb v n && not (isIn cores v)) (isIn once) other _ others-of borders-of)
+  pub word_outlier : WordOf j (test is_outlier roles n) (bit_xor other border)
+  word_outlier =
+      word_cong j _ (test is_outlier roles n) _ (λ v. role_outlier (ltb v n) (is_in cores v) (is_in once v) (is_in twice v))
+      (word_without j (λ v. ltb v n && not (is_in cores v)) (is_in once) other _ others_of borders_of)
 
-  word-multiple : WordOf j (test is_multiple roles n) (bit_and border (get_or twice j 0))
-  word-multiple =
-      word_cong j _ (test is_multiple roles n) _ (λ v. role_multiple (ltb v n) (isIn cores v) (isIn once v) (isIn twice v))
-      (word_and j (λ v. (ltb v n && not (isIn cores v)) && isIn once v) (isIn twice) border (get_or twice j 0) borders-of (word_set j twice))
+  word_multiple : WordOf j (test is_multiple roles n) (bit_and border (get_or twice j 0))
+  word_multiple =
+      word_cong j _ (test is_multiple roles n) _ (λ v. role_multiple (ltb v n) (is_in cores v) (is_in once v) (is_in twice v))
+      (word_and j (λ v. (ltb v n && not (is_in cores v)) && is_in once v) (is_in twice) border (get_or twice j 0) borders_of (word_set j twice))
 
 -- ---- the totals of the words passed
 abbrev passed : (ℕ → Bool) → ℕ → ℕ
@@ -233,8 +233,8 @@ pub sums_turn : (once twice cores : List ℕ) (n j a : ℕ) (below : BitsBelow n
     ≡ SumsTo (set_role once twice cores) n (j + 1)
 sums_turn once twice cores n j a below fits t e =
     rw e
-    (sums_more (set_role once twice cores) n j _ _ _ _ (word-core once twice cores n j a below fits) (word-border once twice cores n j a below fits)
-    (word-outlier once twice cores n j a below fits) (word-multiple once twice cores n j a below fits))
+    (sums_more (set_role once twice cores) n j _ _ _ _ (word_core once twice cores n j a below fits) (word_border once twice cores n j a below fits)
+    (word_outlier once twice cores n j a below fits) (word_multiple once twice cores n j a below fits))
 
 pub sums_all : (r : ℕ → Role) (n : ℕ) → SumsTo r n 8 ≡ totals_of (min n 512) r
 unfolding totals_of
@@ -277,8 +277,8 @@ module _ (rows cores once twice : List ℕ) (k : ℕ) (found : MembersFound (row
       let two : eqb (bit_at twice v) 1 ≡ leb 2 (membership_count v (rows_of rows k)) = ap (λ (b : ℕ). eqb b 1) (found.in_two.bits v h) ∙ bit_test _ in
       rw (one, two) (same_roles (eqb (bit_at cores v) 1) (rows_of rows k) v)
 
-  pub counted-rows : (n : ℕ) (t : Totals) (outliers : List ℕ) → WordsCounted once twice cores n t outliers → RolesCounted cores rows k n t outliers
-  counted-rows n t outliers s = record {
+  pub counted_rows : (n : ℕ) (t : Totals) (outliers : List ℕ) → WordsCounted once twice cores n t outliers → RolesCounted cores rows k n t outliers
+  counted_rows n t outliers s = record {
     numbers = s.numbers ∙ totals_same (min n 512) (set_role once twice cores) (role_for cores rows k) (λ v h. role_same v (omega arith));
     marked = record { size = s.marked.size; bits = λ v h. s.marked.bits v h ∙ ap (λ (b : Bool). bit (ltb v n && b)) (role_same v h).outlier };
   }

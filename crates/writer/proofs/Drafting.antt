@@ -1,12 +1,12 @@
 -- Laws for the writer's code: its questions one by one, the draft that it puts 7 to 10 to, and the call's outcome.
 --
---     no-3, no-5, no-6     the answer where a question gets a no and those before it a yes
---     by-reader            where all three get a yes, it is the reader's answer to the image
---     Asked                questions 3, 5 and 6 got a yes (layout/proofs/Reading); writes-asked: then the image is written where there is room
---     put-within           what is written is no longer than the draft; draft-image: and the slice of it that is handed to the reader is the image
---     tables-site          a header as answer: the three questions got a yes, and it is that of the image
---     encoded-by           the call's answer, by the answer to the tables; encoded-either: what holds of both answers to the tables holds of it
---     call-no, -short, -yes    so the call's outcome is as the definition has it
+--     no_3, no_5, no_6     the answer where a question gets a no and those before it a yes
+--     by_reader            where all three get a yes, it is the reader's answer to the image
+--     Asked                questions 3, 5 and 6 got a yes (layout/proofs/Reading); writes_asked: then the image is written where there is room
+--     put_within           what is written is no longer than the draft; draft_image: and the slice of it that is handed to the reader is the image
+--     tables_site          a header as answer: the three questions got a yes, and it is that of the image
+--     encoded_by           the call's answer, by the answer to the tables; encoded_either: what holds of both answers to the tables holds of it
+--     call_no, -short, -yes    so the call's outcome is as the definition has it
 use Prim.Native.Nat.{ℕ, ◌-◌, ◌≤◌, ◌<◌}
 use native.Mathlib.Omega.{arith}
 use native.Mathlib.Nat.{sub-zero}
@@ -32,7 +32,7 @@ use Rattle.image.proofs.Acceptance.{pass, go_on, refuse, records_header, fits}
 use Rattle.layout.specs.Layout.{header_for, handset_table, edge_table, image_of, lengths_fit, writes, Put}
 use Rattle.layout.specs.ForProofs.{image_most}
 use Rattle.layout.specs.declared.Parameters.{Parameters}
-use Rattle.layout.proofs.Reading.{Asked, tables_fit_lem, asked-length, open-image}
+use Rattle.layout.proofs.Reading.{Asked, tables_fit_lem, asked_length, open_image}
 use Rattle.writer.specs.Writer.{tables_answer, ask_buffer, encoded_of, buffer_for, buffer_after, encoded_answer, WriteCall}
 use Rattle.writer.specs.declared.Encoded.{Encoded}
 use Rattle.writer.specs.declared.Encoded.TheVariants as E
@@ -49,25 +49,25 @@ module _ (x : Parameters) (coords : List ℤ) (ends : List ℕ) where
 
   -- ---- the questions
 
-  pub no-3 : q3 ≡ false → tables_answer x coords ends ≡ O.Refused (refusal 3)
+  pub no_3 : q3 ≡ false → tables_answer x coords ends ≡ O.Refused (refusal 3)
   unfolding tables_answer
-  no-3 e = refuse q3 3 0 _ e
+  no_3 e = refuse q3 3 0 _ e
 
-  pub no-5 : T q3 → q5 ≡ false → tables_answer x coords ends ≡ O.Refused (refusal 5)
+  pub no_5 : T q3 → q5 ≡ false → tables_answer x coords ends ≡ O.Refused (refusal 5)
   unfolding tables_answer
-  no-5 a e = go_on q3 3 0 _ a ∙ refuse q5 5 0 _ e
+  no_5 a e = go_on q3 3 0 _ a ∙ refuse q5 5 0 _ e
 
-  pub no-6 : T q3 → T q5 → q6 ≡ false → tables_answer x coords ends ≡ O.Refused (refusal 6)
+  pub no_6 : T q3 → T q5 → q6 ≡ false → tables_answer x coords ends ≡ O.Refused (refusal 6)
   unfolding tables_answer
-  no-6 a b e = go_on q3 3 0 _ a ∙ go_on q5 5 0 _ b ∙ refuse q6 6 0 _ e
+  no_6 a b e = go_on q3 3 0 _ a ∙ go_on q5 5 0 _ b ∙ refuse q6 6 0 _ e
 
-  pub by-reader : Asked x coords ends → tables_answer x coords ends ≡ open_of (image_of x coords ends)
+  pub by_reader : Asked x coords ends → tables_answer x coords ends ≡ open_of (image_of x coords ends)
   unfolding tables_answer
-  by-reader ok = go_on q3 3 0 _ ok.q3 ∙ go_on q5 5 0 _ ok.q5 ∙ go_on q6 6 0 _ ok.q6 ∙ sym (open-image x coords ends ok)
+  by_reader ok = go_on q3 3 0 _ ok.q3 ∙ go_on q5 5 0 _ ok.q5 ∙ go_on q6 6 0 _ ok.q6 ∙ sym (open_image x coords ends ok)
 
-  pub tables-site : (h : Header) → tables_answer x coords ends ≡ O.Site h → Asked x coords ends × (h ≡ header_for x)
+  pub tables_site : (h : Header) → tables_answer x coords ends ≡ O.Site h → Asked x coords ends × (h ≡ header_for x)
   unfolding tables_answer
-  tables-site h e =
+  tables_site h e =
       let a3 = pass q3 _ _ _ e in
       let a5 = pass q5 _ _ _ a3.1 in
       let a6 = pass q6 _ _ _ a5.1 in
@@ -75,23 +75,23 @@ module _ (x : Parameters) (coords : List ℤ) (ends : List ℕ) where
 
   -- ---- the draft
 
-  writes-asked : Asked x coords ends → (room : ℕ) → (header_for x).len ≤ room → writes x (length coords) (length ends) room ≡ true
-  writes-asked ok room h = rw (T_true q3 ok.q3, T_true q6 ok.q6, le-leb (header_for x).len room h) refl
+  writes_asked : Asked x coords ends → (room : ℕ) → (header_for x).len ≤ room → writes x (length coords) (length ends) room ≡ true
+  writes_asked ok room h = rw (T_true q3 ok.q3, T_true q6 ok.q6, le-leb (header_for x).len room h) refl
 
   -- where there is room, what is written is the image
-  put-there : Asked x coords ends → (s : List ℕ) (r : ℕ) (s' : List ℕ) → (header_for x).len ≤ length s → Put x coords ends s r s'
+  put_there : Asked x coords ends → (s : List ℕ) (r : ℕ) (s' : List ℕ) → (header_for x).len ≤ length s → Put x coords ends s r s'
       → (s' ≡ image_of x coords ends ++ drop (header_for x).len s) × (r ≡ (header_for x).len)
-  put-there ok s r s' h p =
-      let e = writes-asked ok (length s) h in
+  put_there ok s r s' h p =
+      let e = writes_asked ok (length s) h in
       let image : List ℕ = image_of x coords ends in
-      let long : length image ≡ (header_for x).len = asked-length x coords ends ok in (
+      let long : length image ≡ (header_for x).len = asked_length x coords ends ok in (
         p.buffer ∙ ap (λ (b : Bool). cond b (sets s 0 image) s) e ∙ sets_front s image (omega arith) ∙ ap (λ (k : ℕ). image ++ drop k s) long,
         p.size ∙ ap (λ (b : Bool). cond b (header_for x).len 0) e,
       )
 
   -- in any case what is written is no longer than the list
-  pub put-within : (s : List ℕ) (r : ℕ) (s' : List ℕ) → Put x coords ends s r s' → r ≤ length s'
-  put-within s r s' p = go (writes x (length coords) (length ends) (length s)) refl
+  pub put_within : (s : List ℕ) (r : ℕ) (s' : List ℕ) → Put x coords ends s r s' → r ≤ length s'
+  put_within s r s' p = go (writes x (length coords) (length ends) (length s)) refl
     where
       go : (b : Bool) → writes x (length coords) (length ends) (length s) ≡ b → r ≤ length s'
       go true e =
@@ -102,13 +102,13 @@ module _ (x : Parameters) (coords : List ℤ) (ends : List ℕ) where
           omega (arith, ap length list, length-sets s 0 (image_of x coords ends))
       go false e = let none : r ≡ 0 = p.size ∙ ap (λ (b : Bool). cond b (header_for x).len 0) e in omega arith
 
-  pub draft-image : Asked x coords ends → (r : ℕ) (s' : List ℕ) → Put x coords ends (zeros image_most) r s' → take (r - 0) (drop 0 s') ≡ image_of x coords ends
-  draft-image ok r s' p =
+  pub draft_image : Asked x coords ends → (r : ℕ) (s' : List ℕ) → Put x coords ends (zeros image_most) r s' → take (r - 0) (drop 0 s') ≡ image_of x coords ends
+  draft_image ok r s' p =
       let f = fits (header_for x) ok.q3 ok.q5 (tables_fit_lem x) in
       let room : (header_for x).len ≤ length (zeros image_most) = omega (arith, f.n_limit, f.m_limit, length-replicate {A = ℕ} image_most 0) in
-      let there = put-there ok (zeros image_most) r s' room p in
+      let there = put_there ok (zeros image_most) r s' room p in
       ap (λ (k : ℕ). take k s') (sub-zero r) ∙ ap₂ (λ (k : ℕ) (l : List ℕ). take k l) there.1 there.0
-      ∙ take_at (image_of x coords ends) (drop (header_for x).len (zeros image_most)) (header_for x).len (asked-length x coords ends ok)
+      ∙ take_at (image_of x coords ends) (drop (header_for x).len (zeros image_most)) (header_for x).len (asked_length x coords ends ok)
 
   -- ---- the call's outcome, by the answer to the tables
 
@@ -116,36 +116,36 @@ module _ (x : Parameters) (coords : List ℤ) (ends : List ℕ) where
   unfolding buffer_after
   outcome l a l' e d = record { answer = ap encoded_answer (sym e); buffer = d ∙ sym (ap (λ (b : Encoded). buffer_for b (image_of x coords ends) l) e) }
 
-  pub encoded-by : (room : ℕ) (o : Opened) → tables_answer x coords ends ≡ o → encoded_of x coords ends room ≡ by_answer o (ask_buffer room) E.Refused
+  pub encoded_by : (room : ℕ) (o : Opened) → tables_answer x coords ends ≡ o → encoded_of x coords ends room ≡ by_answer o (ask_buffer room) E.Refused
   unfolding encoded_of
-  encoded-by room o e = ap (λ (a : Opened). by_answer a (ask_buffer room) E.Refused) e
+  encoded_by room o e = ap (λ (a : Opened). by_answer a (ask_buffer room) E.Refused) e
 
-  pub encoded-either : (room : ℕ) (P : Encoded → Type 0) → (Asked x coords ends → tables_answer x coords ends ≡ O.Site (header_for x) → P (ask_buffer room (header_for x)))
+  pub encoded_either : (room : ℕ) (P : Encoded → Type 0) → (Asked x coords ends → tables_answer x coords ends ≡ O.Site (header_for x) → P (ask_buffer room (header_for x)))
       → ((q : Refusal) → tables_answer x coords ends ≡ O.Refused q → P (E.Refused q)) → P (encoded_of x coords ends room)
-  encoded-either room P f g = go (tables_answer x coords ends) refl
+  encoded_either room P f g = go (tables_answer x coords ends) refl
     where
       go : (o : Opened) → tables_answer x coords ends ≡ o → P (encoded_of x coords ends room)
       go (O.Site h) e =
-          let a = tables-site h e in
+          let a = tables_site h e in
           let s : tables_answer x coords ends ≡ O.Site (header_for x) = e ∙ ap O.Site a.1 in
-          subst P (sym (encoded-by room (O.Site (header_for x)) s)) (f a.0 s)
-      go (O.Refused q) e = subst P (sym (encoded-by room (O.Refused q) e)) (g q e)
+          subst P (sym (encoded_by room (O.Site (header_for x)) s)) (f a.0 s)
+      go (O.Refused q) e = subst P (sym (encoded_by room (O.Refused q) e)) (g q e)
 
-  pub call-no : (l : List ℕ) (q : Refusal) → tables_answer x coords ends ≡ O.Refused q → WriteCall x coords ends l (E.Refused q) l
-  call-no l q e = outcome l (E.Refused q) l (encoded-by (length l) (O.Refused q) e) refl
+  pub call_no : (l : List ℕ) (q : Refusal) → tables_answer x coords ends ≡ O.Refused q → WriteCall x coords ends l (E.Refused q) l
+  call_no l q e = outcome l (E.Refused q) l (encoded_by (length l) (O.Refused q) e) refl
 
   -- of a header, question 20
-  asked-room : (h : Header) (room : ℕ) (b : Bool) → tables_answer x coords ends ≡ O.Site h → leb h.len room ≡ b
+  asked_room : (h : Header) (room : ℕ) (b : Bool) → tables_answer x coords ends ≡ O.Site h → leb h.len room ≡ b
       → encoded_of x coords ends room ≡ cond b (E.Length h.len) (E.Refused (refusal 20))
-  asked-room h room b e d = encoded-by room (O.Site h) e ∙ ap (λ (c : Bool). cond c (E.Length h.len) (E.Refused (refusal 20))) d
+  asked_room h room b e d = encoded_by room (O.Site h) e ∙ ap (λ (c : Bool). cond c (E.Length h.len) (E.Refused (refusal 20))) d
 
-  pub call-short : (l : List ℕ) (h : Header) → tables_answer x coords ends ≡ O.Site h → length l < h.len → WriteCall x coords ends l (E.Refused (refusal 20)) l
-  call-short l h e s = outcome l (E.Refused (refusal 20)) l (asked-room h (length l) false e (lt-leb h.len (length l) s)) refl
+  pub call_short : (l : List ℕ) (h : Header) → tables_answer x coords ends ≡ O.Site h → length l < h.len → WriteCall x coords ends l (E.Refused (refusal 20)) l
+  call_short l h e s = outcome l (E.Refused (refusal 20)) l (asked_room h (length l) false e (lt-leb h.len (length l) s)) refl
 
-  pub call-yes : (l : List ℕ) (h : Header) (r : ℕ) (l' : List ℕ) → tables_answer x coords ends ≡ O.Site h → h.len ≤ length l → Put x coords ends l r l'
+  pub call_yes : (l : List ℕ) (h : Header) (r : ℕ) (l' : List ℕ) → tables_answer x coords ends ≡ O.Site h → h.len ≤ length l → Put x coords ends l r l'
       → WriteCall x coords ends l (E.Length h.len) l'
-  call-yes l h r l' e s p =
-      let a = tables-site h e in
+  call_yes l h r l' e s p =
+      let a = tables_site h e in
       let len : h.len ≡ (header_for x).len = ap (λ (g : Header). g.len) a.1 in
-      outcome l (E.Length h.len) l' (asked-room h (length l) true e (le-leb h.len (length l) s))
-      ((put-there a.0 l r l' (omega arith) p).0 ∙ ap (λ (k : ℕ). image_of x coords ends ++ drop k l) (sym len))
+      outcome l (E.Length h.len) l' (asked_room h (length l) true e (le-leb h.len (length l) s))
+      ((put_there a.0 l r l' (omega arith) p).0 ∙ ap (λ (k : ℕ). image_of x coords ends ++ drop k l) (sym len))

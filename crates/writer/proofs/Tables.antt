@@ -4,14 +4,14 @@
 --     every_entry                              what holds of each number of a list, and of what stands for one past its end, holds of all that is read
 --     edges_below                              every number of the edge records is a byte
 --     EndTable records m ends                  the ends of m edge records stand in a table
---     ends_low, ends-are                       each is a number of 16 bits, and the records are the table in bytes
---     handsets-are, edges_are                  the records of an image that holds two tables are the tables in bytes
+--     ends_low, ends_are                       each is a number of 16 bits, and the records are the table in bytes
+--     handsets_are, edges_are                  the records of an image that holds two tables are the tables in bytes
 --     asked_by                                 tables of a header's counts pass the writer's 3, 5 and 6 where the header's counts and thresholds fit
 --     image_holds                              the image of two tables holds them
 --     tabulated k f                            the list of f 0 to f (k - 1)
 --     ends_in records m, ends_in_lem                the table of the ends of m edge records
---     coordinates_by n f                        the table of coordinates f v i of n handsets; coordinates-length, coordinate-at: its length, and what stands in it
---     tables-of                                the tables that an image has
+--     coordinates_by n f                        the table of coordinates f v i of n handsets; coordinates_length, coordinate_at: its length, and what stands in it
+--     tables_of                                the tables that an image has
 use Prim.Native.Nat.{ℕ, zero, suc, ◌+◌, ◌*◌, ◌/◌, ◌%◌, ◌<◌}
 use native.Mathlib.Omega.{arith}
 use mathlib.Core.Path.{◌≡◌, refl, sym, ap, ap₂, ◌∙◌, subst}
@@ -30,13 +30,13 @@ use Rattle.image.specs.Image.{header_of, handset_count, edge_count, handset_reco
 use Rattle.image.specs.Signed.{signed32, signed_coordinate}
 use Rattle.image.specs.Questions.{HeaderAccepted}
 use Rattle.image.specs.declared.Header.{Header}
-use Rattle.image.proofs.Acceptance.{handsets-length, edges-length}
-use Rattle.image.proofs.Signed.{handsets_below, coordinate-small}
+use Rattle.image.proofs.Acceptance.{handsets_length, edges_length}
+use Rattle.image.proofs.Signed.{handsets_below, coordinate_small}
 use Rattle.layout.specs.Layout.{word32, handset_table, edge_table, image_of, Signed32}
 use Rattle.layout.specs.declared.Parameters.{Parameters}
-use Rattle.layout.proofs.Numbers.{signed_word, word_signed, coordinate-place, first-place, second-place, coordinate_written, end_written}
+use Rattle.layout.proofs.Numbers.{signed_word, word_signed, coordinate_place, first_place, second_place, coordinate_written, end_written}
 use Rattle.layout.proofs.Storing.{get_or_word}
-use Rattle.layout.proofs.Reading.{Asked, coords-length, ends-length, header_read, handsets-read, edges-read}
+use Rattle.layout.proofs.Reading.{Asked, coords_length, ends_length, header_read, handsets_read, edges_read}
 use Rattle.writer.specs.Holds.{parameters_of, Holds}
 
 pub every_entry : {A : Type 0} (P : A → Type 0) (l : List A) (d : A) → P d → ((j : ℕ) → j < length l → P (get_or l j d)) → (j : ℕ) → P (get_or l j d)
@@ -66,15 +66,15 @@ module _ (records : List ℕ) (m : ℕ) (ends : List ℕ) (small : Below 256 rec
       let edge : k < m = omega (arith, held.end_count_lem) in
       let at : ℕ → ℕ = λ y. number end_bytes records (end_bytes * y) in
       ⊎_elim
-      (λ e. ap at e ∙ sym (first-place records k) ∙ held.first_ends k edge ∙ ap (λ (y : ℕ). get_or ends y 0) (sym e))
-      (λ e. ap at e ∙ sym (second-place records k) ∙ held.second_ends k edge ∙ ap (λ (y : ℕ). get_or ends y 0) (sym e))
+      (λ e. ap at e ∙ sym (first_place records k) ∙ held.first_ends k edge ∙ ap (λ (y : ℕ). get_or ends y 0) (sym e))
+      (λ e. ap at e ∙ sym (second_place records k) ∙ held.second_ends k edge ∙ ap (λ (y : ℕ). get_or ends y 0) (sym e))
       (which_end j)
 
   pub ends_low : Below 65536 ends
   ends_low = every_entry (λ y. y < 65536) ends 0 (omega arith) (λ j h. omega (arith, end_is j h, number_below end_bytes records (end_bytes * j) small))
 
-  pub ends-are : length records ≡ edge_bytes * m → records ≡ edge_table ends
-  ends-are long = sym (table_bytes_is end_bytes ends records small (omega (arith, held.end_count_lem)) end_is)
+  pub ends_are : length records ≡ edge_bytes * m → records ≡ edge_table ends
+  ends_are long = sym (table_bytes_is end_bytes ends records small (omega (arith, held.end_count_lem)) end_is)
 
 -- ---- the records of an image
 
@@ -86,27 +86,27 @@ module _ (s : List ℕ) (x : Parameters) (coords : List ℤ) (ends : List ℕ) (
   m_is : edge_count s ≡ x.m
   m_is = ap (λ (y : Parameters). y.m) held.parameters
 
-  coordinate-is : (j : ℕ) → j < length coords → number coordinate_bytes (handset_records s) (coordinate_bytes * j) ≡ word32 (get_or coords j (pos 0))
+  coordinate_is : (j : ℕ) → j < length coords → number coordinate_bytes (handset_records s) (coordinate_bytes * j) ≡ word32 (get_or coords j (pos 0))
   unfolding signed_coordinate
-  coordinate-is j h =
+  coordinate_is j h =
       let v : ℕ = j / coordinate_count in
       let i : ℕ = j % coordinate_count in
       let at : ℕ → ℕ = λ y. number coordinate_bytes (handset_records s) (coordinate_bytes * y) in
       let place : j ≡ coordinate_count * v + i = omega arith in
       sym (word_signed (at j) (number_below coordinate_bytes (handset_records s) (coordinate_bytes * j) (handsets_below s small)))
-      ∙ ap (λ (y : ℕ). word32 (signed32 y)) (ap at place ∙ sym (coordinate-place (handset_records s) v i (omega arith)))
+      ∙ ap (λ (y : ℕ). word32 (signed32 y)) (ap at place ∙ sym (coordinate_place (handset_records s) v i (omega arith)))
       ∙ ap word32 (held.coordinates v i (omega (arith, held.coordinate_count_lem)) (omega arith) ∙ ap (λ (y : ℕ). get_or coords y (pos 0)) (sym place))
 
-  pub handsets-are : handset_records s ≡ handset_table coords
-  handsets-are =
+  pub handsets_are : handset_records s ≡ handset_table coords
+  handsets_are =
       sym (table_bytes_is coordinate_bytes (map word32 coords) (handset_records s) (handsets_below s small)
-      (omega (arith, handsets-length s ok, n_is, held.coordinate_count_lem, length-map coords word32))
-      (λ j h. coordinate-is j (omega (arith, length-map coords word32)) ∙ get_or_word coords j))
+      (omega (arith, handsets_length s ok, n_is, held.coordinate_count_lem, length-map coords word32))
+      (λ j h. coordinate_is j (omega (arith, length-map coords word32)) ∙ get_or_word coords j))
 
   pub edges_are : edge_records s ≡ edge_table ends
   edges_are =
-      ends-are (edge_records s) x.m ends (edges_below s small)
-      (record { end_count_lem = held.end_count_lem; first_ends = held.first_ends; second_ends = held.second_ends }) (omega (arith, edges-length s ok, m_is))
+      ends_are (edge_records s) x.m ends (edges_below s small)
+      (record { end_count_lem = held.end_count_lem; first_ends = held.first_ends; second_ends = held.second_ends }) (omega (arith, edges_length s ok, m_is))
 
 -- ---- the image of two tables
 
@@ -123,27 +123,27 @@ module _ (x : Parameters) (coords : List ℤ) (ends : List ℕ) (signed : Signed
   abbrev image : List ℕ
   image = image_of x coords ends
 
-  coordinate-read : (j : ℕ) → j < length coords
+  coordinate_read : (j : ℕ) → j < length coords
       → signed32 (number coordinate_bytes (handset_records image) (coordinate_bytes * j)) ≡ get_or coords j (pos 0)
-  coordinate-read j h =
+  coordinate_read j h =
       ap signed32
-      (ap (λ (records : List ℕ). number coordinate_bytes records (coordinate_bytes * j)) (handsets-read x coords ends ok) ∙ coordinate_written coords signed j h)
+      (ap (λ (records : List ℕ). number coordinate_bytes records (coordinate_bytes * j)) (handsets_read x coords ends ok) ∙ coordinate_written coords signed j h)
       ∙ signed_word (get_or coords j (pos 0)) (signed j)
 
   end_read : (j : ℕ) → j < length ends → number end_bytes (edge_records image) (end_bytes * j) ≡ get_or ends j 0
-  end_read j h = ap (λ (records : List ℕ). number end_bytes records (end_bytes * j)) (edges-read x coords ends ok) ∙ end_written ends low j h
+  end_read j h = ap (λ (records : List ℕ). number end_bytes records (end_bytes * j)) (edges_read x coords ends ok) ∙ end_written ends low j h
 
   pub image_holds : Holds image x coords ends
   unfolding signed_coordinate
   image_holds = record {
     parameters = ap parameters_of (header_read x coords ends ok);
-    coordinate_count_lem = coords-length x coords ends ok;
-    end_count_lem = ends-length x coords ends ok;
+    coordinate_count_lem = coords_length x coords ends ok;
+    end_count_lem = ends_length x coords ends ok;
     coordinates = λ v i h l.
-        ap signed32 (coordinate-place (handset_records image) v i l)
-        ∙ coordinate-read (coordinate_count * v + i) (omega (arith, coords-length x coords ends ok));
-    first_ends = λ k h. first-place (edge_records image) k ∙ end_read (end_count * k) (omega (arith, ends-length x coords ends ok));
-    second_ends = λ k h. second-place (edge_records image) k ∙ end_read (end_count * k + 1) (omega (arith, ends-length x coords ends ok));
+        ap signed32 (coordinate_place (handset_records image) v i l)
+        ∙ coordinate_read (coordinate_count * v + i) (omega (arith, coords_length x coords ends ok));
+    first_ends = λ k h. first_place (edge_records image) k ∙ end_read (end_count * k) (omega (arith, ends_length x coords ends ok));
+    second_ends = λ k h. second_place (edge_records image) k ∙ end_read (end_count * k + 1) (omega (arith, ends_length x coords ends ok));
   }
 
 -- ---- the tables of an image
@@ -167,8 +167,8 @@ ends_in records m = tabulated (end_count * m) (λ j. number end_bytes records (e
 pub ends_in_lem : (records : List ℕ) (m : ℕ) → EndTable records m (ends_in records m)
 ends_in_lem records m = record {
   end_count_lem = length_tabulated (end_count * m) _;
-  first_ends = λ k h. first-place records k ∙ at (end_count * k) (omega arith);
-  second_ends = λ k h. second-place records k ∙ at (end_count * k + 1) (omega arith);
+  first_ends = λ k h. first_place records k ∙ at (end_count * k) (omega arith);
+  second_ends = λ k h. second_place records k ∙ at (end_count * k + 1) (omega arith);
 }
   where
     at : (j : ℕ) → j < end_count * m → number end_bytes records (end_bytes * j) ≡ get_or (ends_in records m) j 0
@@ -178,11 +178,11 @@ abbrev pub coordinates_by : ℕ → (ℕ → ℕ → ℤ) → List ℤ
 coordinates_by n f = tabulated (coordinate_count * n) (λ j. f (j / coordinate_count) (j % coordinate_count))
 
 module _ (n : ℕ) (f : ℕ → ℕ → ℤ) where
-  pub coordinates-length : length (coordinates_by n f) ≡ coordinate_count * n
-  coordinates-length = length_tabulated (coordinate_count * n) _
+  pub coordinates_length : length (coordinates_by n f) ≡ coordinate_count * n
+  coordinates_length = length_tabulated (coordinate_count * n) _
 
-  pub coordinate-at : (v i : ℕ) → v < n → i < coordinate_count → get_or (coordinates_by n f) (coordinate_count * v + i) (pos 0) ≡ f v i
-  coordinate-at v i h l =
+  pub coordinate_at : (v i : ℕ) → v < n → i < coordinate_count → get_or (coordinates_by n f) (coordinate_count * v + i) (pos 0) ≡ f v i
+  coordinate_at v i h l =
       let j : ℕ = coordinate_count * v + i in
       let handset : j / coordinate_count ≡ v = omega arith in
       let coordinate : j % coordinate_count ≡ i = omega arith in
@@ -198,26 +198,26 @@ module _ (s : List ℕ) (small : Below 256 s) where
   abbrev ends : List ℕ
   ends = ends_in (edge_records s) x.m
 
-  coords-small : Signed32 coords
-  coords-small =
+  coords_small : Signed32 coords
+  coords_small =
       every_entry (λ z. mag z < 2147483648) coords (pos 0) (omega arith)
       (λ j h.
       subst (λ (z : ℤ). mag z < 2147483648)
-      (sym (get_or_tabulated (coordinate_count * x.n) _ j (pos 0) (omega (arith, coordinates-length x.n (signed_coordinate s)))))
-      (coordinate-small s small (j / coordinate_count) (j % coordinate_count)))
+      (sym (get_or_tabulated (coordinate_count * x.n) _ j (pos 0) (omega (arith, coordinates_length x.n (signed_coordinate s)))))
+      (coordinate_small s small (j / coordinate_count) (j % coordinate_count)))
 
-  pub tables-of : (coords : List ℤ) × (ends : List ℕ) × Signed32 coords × Below 65536 ends × Holds s x coords ends
-  tables-of =
+  pub tables_of : (coords : List ℤ) × (ends : List ℕ) × Signed32 coords × Below 65536 ends × Holds s x coords ends
+  tables_of =
       let table : EndTable (edge_records s) x.m ends = ends_in_lem (edge_records s) x.m in (
         coords,
         ends,
-        coords-small,
+        coords_small,
         ends_low (edge_records s) x.m ends (edges_below s small) table,
         record {
           parameters = refl;
-          coordinate_count_lem = coordinates-length x.n (signed_coordinate s);
+          coordinate_count_lem = coordinates_length x.n (signed_coordinate s);
           end_count_lem = table.end_count_lem;
-          coordinates = λ v i h l. sym (coordinate-at x.n (signed_coordinate s) v i h l);
+          coordinates = λ v i h l. sym (coordinate_at x.n (signed_coordinate s) v i h l);
           first_ends = table.first_ends;
           second_ends = table.second_ends;
         },

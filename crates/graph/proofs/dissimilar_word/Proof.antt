@@ -11,11 +11,11 @@ use lib.Count.{count_trailing_zeros}
 use Rattle.sets.specs.Below.{sum, bit}
 use Rattle.sets.specs.Bits.{bit_of}
 use Rattle.sets.proofs.Bits.{bit_of_lt, shl_one}
-use Rattle.sets.proofs.Lowest.{Lowest, lowest, cleared-falls}
+use Rattle.sets.proofs.Lowest.{Lowest, lowest, cleared_falls}
 use Rattle.sets.proofs.Words.{lowest_alone}
 use Rattle.limits.specs.Limits.{edges_most}
 use Rattle.graph.specs.ForProofs.{HasEnds, enough, enough_at}
-use Rattle.graph.proofs.Words.{Filtering, filtering-start, filtering-on, filtering-end}
+use Rattle.graph.proofs.Words.{Filtering, filtering_start, filtering_on, filtering_end}
 use Rattle.graph.proofs.Counts.{bits_most, cleared_one, none_left}
 use Rattle.graph.proofs.Edges.{word_in_at}
 use Rattle.graph.proofs.dissimilar_word.Statement.{statement}
@@ -44,7 +44,7 @@ test c k =
     not (enough_at a.table.now a.sizes.now a.p a.q a.edges.now (a.base + k))
 
 loop-holds : tie.Need-loop-init invariant-loop decreases-loop
-loop-holds c = let s = c.before.before.before in (filtering-start s.args.word _ s.ranges.word.fits, refl)
+loop-holds c = let s = c.before.before.before in (filtering_start s.args.word _ s.ranges.word.fits, refl)
 
 -- ---- the edge of the lowest set bit
 abbrev low : tie.In-loop invariant-loop decreases-loop → ℕ
@@ -102,13 +102,13 @@ told c =
 loop-less : tie.Need-loop-smaller invariant-loop decreases-loop
 loop-less c =
     let i = turn c.before in
-    cleared-falls i.before.loop.w (low i) (first i).1 (first i).0
+    cleared_falls i.before.loop.w (low i) (first i).1 (first i).0
 
 loop-again : tie.Need-loop-preserved invariant-loop decreases-loop
 loop-again c =
     let i = turn c.before in
     let w : ℕ = i.before.loop.w in (
-      filtering-on (start i.before).args.word (test i.before) (low i) c.before.if1.one (first i).0 (first i).1 (told c.before)
+      filtering_on (start i.before).args.word (test i.before) (low i) c.before.if1.one (first i).0 (first i).1 (told c.before)
           i.before.loop.inv.0,
       omega (arith, c.before.before.test-similarity.ensures.1, i.before.loop.inv.1, cleared_one w (low i) (first i).1 (first i).0),
     )
@@ -116,7 +116,7 @@ loop-again c =
 returns : tie.Need-returns invariant-loop decreases-loop
 returns c =
     let z : c.before.loop.w ≡ 0 = omega (arith, c.loop-test.false) in (
-      filtering-end (start c.before).args.word (test c.before) z c.before.loop.invariant.0,
+      filtering_end (start c.before).args.word (test c.before) z c.before.loop.invariant.0,
       omega (arith, c.before.loop.invariant.1, none_left c.before.loop.w z),
     )
 

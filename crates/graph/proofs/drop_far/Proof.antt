@@ -16,7 +16,7 @@ use Rattle.image.specs.Rows.{Room}
 use Rattle.graph.specs.Graph.{edge_words, EdgeSet}
 use Rattle.graph.specs.ForProofs.{WordOf, passes_near, Dropped}
 use Rattle.graph.proofs.Words.{word_cong, first_word, others_word, filled_none, filled_more, filled_end}
-use Rattle.graph.proofs.Edges.{word-passes, dropped_start, dropped-word, dropped_end}
+use Rattle.graph.proofs.Edges.{word_passes, dropped_start, dropped_word, dropped_end}
 use Rattle.graph.proofs.drop_far.Statement.{statement}
 use Rattle.graph.proofs.drop_far.Tie as tie
 
@@ -147,7 +147,7 @@ drop-edges-requires c κs =
       l.loop.inv.3,
       l.loop.inv.4,
       λ k t.
-          let p = word-passes (far m) l.loop.j f (far-word m).0 (far-word m).1 k t in
+          let p = word_passes (far m) l.loop.j f (far-word m).0 (far-word m).1 k t in
           let e = s.pre.5 k (ltb→lt k s.args.m (and_left (ltb k s.args.m) (not (test l k)) p.2)) in
           (e.0, e.1, omega (arith, e.2, s.pre.1), omega (arith, e.3, s.pre.1)),
     )
@@ -174,7 +174,7 @@ loop-again c =
     let j : ℕ = l.loop.j in (
       omega (arith, low (counted m).before),
       filled_more l.loop.near m.before.near_word.result (λ k. ltb k a.m && test l k) j (low (counted m).before) (near_word m) i.1,
-      dropped-word (far m) j (λ k. ltb k a.m && not (test l k)) (far-word m).0 (far-word m).1 i.2 d.drop-edges.ensures.0,
+      dropped_word (far m) j (λ k. ltb k a.m && not (test l k)) (far-word m).0 (far-word m).1 i.2 d.drop-edges.ensures.0,
       (d.drop-edges.kept.1.1.1.0 ∙ i.3.0, d.drop-edges.kept.1.1.1.1.0 ∙ i.3.1),
       d.drop-edges.ensures.1,
     )

@@ -15,8 +15,8 @@ use Rattle.sets.proofs.Bits.{bit_of_lt, bit_at_lt, word_bit}
 use Rattle.image.specs.Rows.{Room}
 use Rattle.graph.specs.Graph.{EdgeSet}
 use Rattle.graph.specs.ForProofs.{WordOf, both_within, Dropped}
-use Rattle.graph.proofs.Words.{bit_of_lem, word_cong, others_word, partly, partly-start, partly-at, partly-on, partly-end}
-use Rattle.graph.proofs.Edges.{word-passes, dropped_start, dropped-word, dropped_end}
+use Rattle.graph.proofs.Words.{bit_of_lem, word_cong, others_word, partly, partly_start, partly_at, partly_on, partly_end}
+use Rattle.graph.proofs.Edges.{word_passes, dropped_start, dropped_word, dropped_end}
 use Rattle.graph.proofs.drop_outside.Statement.{statement}
 use Rattle.graph.proofs.drop_outside.Tie as tie
 
@@ -59,7 +59,7 @@ loop-holds c =
     let s = c.before.before.before.before.before in
     let a = s.args in (
       omega arith,
-      partly-start a.near.now _ s.requires.1,
+      partly_start a.near.now _ s.requires.1,
       dropped_start a.edges.now a.table.now (λ k. eqb (bit_at a.near.now k) 1 && not (both_within a.within.now a.edges.now k)),
       s.requires.2,
       s.requires.3,
@@ -93,7 +93,7 @@ all-bits c i h =
     let j : ℕ = l.j in
     let p : j * 64 + i ≡ 64 * j + i = omega arith in
     sym (word_bit l.near j i h) ∙ ap (bit_at l.near) p
-    ∙ partly-at (start (loop c)).args.near.now (test (loop c)) j (64 * j + i) l.inv.1 (omega (arith, low c.before, h)) (omega arith)
+    ∙ partly_at (start (loop c)).args.near.now (test (loop c)) j (64 * j + i) l.inv.1 (omega (arith, low c.before, h)) (omega arith)
 
 all-word : (c : tie.After-slice-known4 invariant-loop decreases-loop) → WordOf (all c) (λ i. eqb (first (loop c) (64 * (loop c).loop.j + i)) 1)
 all-word c = record { bits = λ i h. all-bits c i h ∙ bit_of_lem _ (bit_at_lt (start (loop c)).args.near.now (64 * (loop c).loop.j + i)) }
@@ -102,7 +102,7 @@ within-word-requires : tie.Need-within-word-requires invariant-loop decreases-lo
 within-word-requires c κs =
     let l = loop c in (
       omega (arith, low c.before),
-      λ k t. ((start l).pre.4 k (eqb→eq (first l k) 1 (word-passes (all c) l.loop.j (λ i. eqb (first l i) 1) (all-fits c) (all-word c) k t).2)).1,
+      λ k t. ((start l).pre.4 k (eqb→eq (first l k) 1 (word_passes (all c) l.loop.j (λ i. eqb (first l i) 1) (all-fits c) (all-word c) k t).2)).1,
     )
 
 mul-drop-edges : tie.Need-overflow-mul-drop-edges invariant-loop decreases-loop
@@ -132,7 +132,7 @@ drop-edges-requires c κs =
       l.loop.inv.3,
       l.loop.inv.4,
       λ k t.
-          let p = word-passes (others m) l.loop.j (gone l) (others-fit m) (others-are m) k t in
+          let p = word_passes (others m) l.loop.j (gone l) (others-fit m) (others-are m) k t in
           ((start l).pre.4 k (eqb→eq (first l k) 1 (and_left (eqb (first l k) 1) (not (test l k)) p.2))).1,
     )
 
@@ -156,8 +156,8 @@ loop-again c =
     let i = l.loop.inv in
     let j : ℕ = l.loop.j in (
       omega (arith, low m.before.before),
-      partly-on (start l).args.near.now (test l) j m.Within-word.result (low m.before.before) i.1 m.Within-word.ensures,
-      dropped-word (others m) j (gone l) (others-fit m) (others-are m) i.2 d.drop-edges.ensures.0,
+      partly_on (start l).args.near.now (test l) j m.Within-word.result (low m.before.before) i.1 m.Within-word.ensures,
+      dropped_word (others m) j (gone l) (others-fit m) (others-are m) i.2 d.drop-edges.ensures.0,
       (d.drop-edges.kept.1.1.1.0 ∙ i.3.0, d.drop-edges.kept.1.1.1.1.0 ∙ i.3.1),
       d.drop-edges.ensures.1,
     )
@@ -179,7 +179,7 @@ returns c =
     let i = l.loop.invariant in
     let below : (k : ℕ) → T (gone l k) → k < b =
     λ k t. omega (arith, c.loop-test.false, (s.pre.4 k (eqb→eq (first l k) 1 (and_left (eqb (first l k) 1) (not (test l k)) t))).0) in
-    let kept = partly-end s.args.near.now (test l) s.args.m l.loop.j (omega (arith, c.loop-test.false)) (λ k e. (s.pre.4 k e).0) i.1 in
+    let kept = partly_end s.args.near.now (test l) s.args.m l.loop.j (omega (arith, c.loop-test.false)) (λ k e. (s.pre.4 k e).0) i.1 in
     (kept, (dropped_end (gone l) b below i.2, i.4))
 
 pub drop-outside-spec : {M : Type 1} → statement M

@@ -3,7 +3,7 @@
 use native.Mathlib.Omega.{arith}
 use mathlib.Core.Path.{◌∙◌}
 use borrow.Author.Rules.{rules}
-use Rattle.graph.proofs.GraphLaws.{Read, header_is, near-ready, dissimilar-ready, surveyed, found_in}
+use Rattle.graph.proofs.GraphLaws.{Read, header_is, near_ready, dissimilar_ready, surveyed, found_in}
 use Rattle.graph.proofs.find_groups.Statement.{statement}
 use Rattle.graph.proofs.find_groups.Tie as tie
 
@@ -56,7 +56,7 @@ keep-dissimilar-requires c κs =
       y.near_size,
       s.pre.1,
       y.counted,
-      near-ready s.args.image.now s.args.h y.accepted y.header y,
+      near_ready s.args.image.now s.args.h y.accepted y.header y,
     )
 
 drop-set-requires : tie.Need-drop-set-requires
@@ -68,7 +68,7 @@ drop-set-requires c κs =
       m.keep-dissimilar.ensures.0.size,
       s.pre.1,
       y.counted,
-      dissimilar-ready s.args.image.now s.args.h y.accepted y.header y m.keep-dissimilar.ensures.0,
+      dissimilar_ready s.args.image.now s.args.h y.accepted y.header y m.keep-dissimilar.ensures.0,
     )
 
 cast-mark-cores : tie.Need-overflow-cast-mark-cores

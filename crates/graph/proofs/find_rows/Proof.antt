@@ -5,7 +5,7 @@ use Rattle.image.specs.Image.{header_of}
 use Rattle.image.specs.Questions.{Accepted}
 use Rattle.image.proofs.Acceptance.{accepted}
 use Rattle.community.specs.Site.{network}
-use Rattle.graph.proofs.GraphLaws.{edges_most, neighbours-drawn, neighbours-hold, near_count, site_no, site_yes, groups_are}
+use Rattle.graph.proofs.GraphLaws.{edges_most, neighbours_drawn, neighbours_hold, near_count, site_no, site_yes, groups_are}
 use Rattle.graph.proofs.find_rows.Statement.{statement}
 use Rattle.graph.proofs.find_rows.Tie as tie
 
@@ -51,7 +51,7 @@ find-groups-requires c κs =
     let s = (start (opened o)).args.image.now in
     let h = o.opened.given.0.0 in
     let r = (opened o).open-neighbours.ensures in
-    (neighbours-drawn s h (yes o).0 (yes o).1 (r.neighbours h o.opened.given.1), r.room, refl)
+    (neighbours_drawn s h (yes o).0 (yes o).1 (r.neighbours h o.opened.given.1), r.room, refl)
 
 returns-2 : tie.Need-returns-2
 returns-2 c =
@@ -66,7 +66,7 @@ returns-2 c =
       near = _;
       sizes = _;
       site = site_yes h (sym o.opened.given.1 ∙ r.answered) (d.find-groups.auto.1.1.1.1.0 ∙ r.room.0, r.room.1)
-          (groups_are (yes o).0 r.room.1 n (f.0.each (network s) (neighbours-hold s h (yes o).0 (yes o).1 n))
+          (groups_are (yes o).0 r.room.1 n (f.0.each (network s) (neighbours_hold s h (yes o).0 (yes o).1 n))
           (f.1 ∙ near_count s (network s) (edges_most s h (yes o).0 (yes o).1) n.near_set));
     }
 

@@ -14,9 +14,9 @@ use Rattle.sets.proofs.Tests.{and_left}
 use Rattle.limits.specs.Limits.{edges_most}
 use Rattle.graph.specs.Graph.{EdgeSet}
 use Rattle.graph.specs.ForProofs.{WordOf, enough_at}
-use Rattle.graph.proofs.Words.{word_at, partly, partly-start, partly-at, partly-on, partly-end}
+use Rattle.graph.proofs.Words.{word_at, partly, partly_start, partly_at, partly_on, partly_end}
 use Rattle.graph.proofs.Counts.{bits_most, sum_set}
-use Rattle.graph.proofs.Edges.{word-passes}
+use Rattle.graph.proofs.Edges.{word_passes}
 use Rattle.graph.proofs.keep_dissimilar.Statement.{statement}
 use Rattle.graph.proofs.keep_dissimilar.Tie as tie
 
@@ -41,7 +41,7 @@ test c k = let a = (start c).args in not (enough_at a.table.now a.sizes.now a.p 
 
 loop-holds : tie.Need-loop-init invariant-loop decreases-loop
 unfolding sum
-loop-holds c = let s = c.before.before.before.before in (omega arith, partly-start s.args.set.now _ s.requires.1, refl)
+loop-holds c = let s = c.before.before.before.before in (omega arith, partly_start s.args.set.now _ s.requires.1, refl)
 
 mul-loop : tie.Need-overflow-mul-loop invariant-loop decreases-loop
 mul-loop c = search rules
@@ -80,7 +80,7 @@ dissimilar-word-requires c κs =
       s.pre.3,
       λ k t.
           (s.pre.4 k (eqb→eq (bit_at set k) 1 (and_left (eqb (bit_at set k) 1) _
-          (word-passes (get_or l.set l.j 0) l.j (partly set (test (loop c)) l.j) (word c).0 (word c).1 k t).2))).1,
+          (word_passes (get_or l.set l.j 0) l.j (partly set (test (loop c)) l.j) (word c).0 (word c).1 k t).2))).1,
       omega (arith, l.inv.2, low c.before, bits_most (l.j * 64) (bit_at set) (λ k. bit_at_lt set k)),
     )
 
@@ -107,10 +107,10 @@ loop-again c =
     (λ k h.
     let p : j * 64 + k ≡ 64 * j + k = omega arith in
     let q : 64 * j + k ≡ j * 64 + k = omega arith in
-    ap (bit_at set) p ∙ sym (partly-at set (test m) j (64 * j + k) l.inv.1 (omega (arith, low c.before.before, h)) (omega arith))
+    ap (bit_at set) p ∙ sym (partly_at set (test m) j (64 * j + k) l.inv.1 (omega (arith, low c.before.before, h)) (omega arith))
     ∙ ap (bit_at l.set) q ∙ word_bit l.set j k h) in (
       omega (arith, low c.before.before),
-      partly-on set (test m) j c.dissimilar-word.result.word (low c.before.before) l.inv.1 c.dissimilar-word.ensures.0,
+      partly_on set (test m) j c.dissimilar-word.result.word (low c.before.before) l.inv.1 c.dissimilar-word.ensures.0,
       omega (arith, c.dissimilar-word.ensures.1, l.inv.2, more, ones_sum 64 (get_or l.set j 0) (word c.before).0),
     )
 
@@ -122,7 +122,7 @@ returns c =
     let s = start c.before in
     let set = s.args.set.now in
     let l = c.before.loop in (
-      partly-end set (test c.before) s.args.m l.j (omega (arith, c.loop-test.false)) (λ k e. (s.pre.4 k e).0) l.invariant.1,
+      partly_end set (test c.before) s.args.m l.j (omega (arith, c.loop-test.false)) (λ k e. (s.pre.4 k e).0) l.invariant.1,
       l.invariant.2 ∙ sum_set set s.args.m (l.j * 64) edges_most (omega (arith, c.loop-test.false)) (omega (arith, l.invariant.0)) (λ k e. (s.pre.4 k e).0),
     )
 

@@ -3,8 +3,8 @@
 use native.Mathlib.Omega.{arith}
 use mathlib.Core.Path.{◌∙◌}
 use borrow.Author.Rules.{rules}
-use Rattle.graph.proofs.GraphLaws.{Read, header_is, near-ready}
-use Rattle.graph.proofs.Within.{drawn-within, held-within}
+use Rattle.graph.proofs.GraphLaws.{Read, header_is, near_ready}
+use Rattle.graph.proofs.Within.{drawn_within, held_within}
 use Rattle.graph.proofs.keep_within.Statement.{statement}
 use Rattle.graph.proofs.keep_within.Tie as tie
 
@@ -49,7 +49,7 @@ drop-outside-requires : tie.Need-drop-outside-requires
 drop-outside-requires c κs =
     let s = start c in
     let y = s.pre.0 in
-    ((facts s).fits.m_limit, y.near_size, s.pre.1, y.counted, near-ready s.args.image.now s.args.h y.accepted y.header y)
+    ((facts s).fits.m_limit, y.near_size, s.pre.1, y.counted, near_ready s.args.image.now s.args.h y.accepted y.header y)
 
 cast-take-outside : tie.Need-overflow-cast-take-outside
 cast-take-outside c = search rules
@@ -78,8 +78,8 @@ returns c =
     let y = s.pre.0 in
     let a = s.args in
     let e = d.drop-outside.ensures in (
-      drawn-within a.image.now a.h y.accepted y.header a.within.now _ _ e.0 y t.take-outside.ensures.1,
-      held-within a.image.now a.h y.accepted y.header a.within.now _ _ e.0 e.1.0 t.take-outside.ensures.0,
+      drawn_within a.image.now a.h y.accepted y.header a.within.now _ _ e.0 y t.take-outside.ensures.1,
+      held_within a.image.now a.h y.accepted y.header a.within.now _ _ e.0 e.1.0 t.take-outside.ensures.0,
     )
 
 pub keep-within-spec : {M : Type 1} → statement M

@@ -5,7 +5,7 @@ use mathlib.Core.Path.{◌≡◌, refl, ◌∙◌}
 use borrow.Author.Rules.{rules}
 use Rattle.image.specs.Image.{header_of}
 use Rattle.image.specs.Questions.{Accepted}
-use Rattle.graph.proofs.GraphLaws.{Read, header_is, told_yes, read_no, read-yes, edges-ready, handsetSlice-length, neighbours-kept}
+use Rattle.graph.proofs.GraphLaws.{Read, header_is, told_yes, read_no, read_yes, edges_ready, handset_slice_length, neighbours_kept}
 use Rattle.graph.proofs.open_neighbours.Statement.{statement}
 use Rattle.graph.proofs.open_neighbours.Tie as tie
 
@@ -93,11 +93,11 @@ drop-far-requires c κs =
     let h = o.opened.given.0.0 in
     let r = (opened o).open-rows.ensures in (
       (facts o).fits.m_limit,
-      omega (arith, handsetSlice-length s h (yes o).0 (yes o).1, (facts o).n_is, (facts o).fits.n_limit),
+      omega (arith, handset_slice_length s h (yes o).0 (yes o).1, (facts o).n_is, (facts o).fits.n_limit),
       refl,
       r.room,
       r.held.counted h o.opened.given.1,
-      λ k l. edges-ready s h (yes o).0 (yes o).1 _ k (omega (arith, handsetSlice-length s h (yes o).0 (yes o).1)) l,
+      λ k l. edges_ready s h (yes o).0 (yes o).1 _ k (omega (arith, handset_slice_length s h (yes o).0 (yes o).1)) l,
     )
 
 returns-2 : tie.Need-returns-2
@@ -109,8 +109,8 @@ returns-2 c =
     let r = (opened o).open-rows.ensures in
     let k = d.drop-far.auto in
     let e = d.drop-far.ensures in
-    read-yes r h o.opened.given.1 (k.1.1.1.1.1.0 ∙ r.room.0, k.1.1.1.1.1.1.0 ∙ r.room.1)
-    (neighbours-kept s h (yes o).0 (yes o).1 (r.held.table h o.opened.given.1) e.0 e.1.0 e.1.1)
+    read_yes r h o.opened.given.1 (k.1.1.1.1.1.0 ∙ r.room.0, k.1.1.1.1.1.1.0 ∙ r.room.1)
+    (neighbours_kept s h (yes o).0 (yes o).1 (r.held.table h o.opened.given.1) e.0 e.1.0 e.1.1)
 
 pub open-neighbours-spec : {M : Type 1} → statement M
 open-neighbours-spec =

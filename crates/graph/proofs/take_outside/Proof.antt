@@ -11,7 +11,7 @@ use borrow.Author.Rules.{rules}
 use Rattle.sets.specs.Rows.{Counted}
 use Rattle.image.specs.Rows.{Room}
 use Rattle.graph.specs.ForProofs.{SelfTaken}
-use Rattle.graph.proofs.Within.{self_start, self_in, self-out}
+use Rattle.graph.proofs.Within.{self_start, self_in, self_out}
 use Rattle.graph.proofs.take_outside.Statement.{statement}
 use Rattle.graph.proofs.take_outside.Tie as tie
 
@@ -67,7 +67,7 @@ loop-again c =
     let e = w.3.ensures in
     let k = w.3.kept in (
       omega (arith, h.before.loop-test.true),
-      rw w.8 (rw e.0 (self-out a.within.now l.loop.v (low h) i.1 (start l).pre.1.0 (subst (λ (b : Bool). T (not b)) h.has.ensures (is_true w.0.taken)))),
+      rw w.8 (rw e.0 (self_out a.within.now l.loop.v (low h) i.1 (start l).pre.1.0 (subst (λ (b : Bool). T (not b)) h.has.ensures (is_true w.0.taken)))),
       (ap length w.8 ∙ k.0 ∙ i.2.0, ap length w.9 ∙ k.1.0 ∙ i.2.1),
       rw (w.8, w.9) e.1,
     ))

@@ -11,10 +11,10 @@ use lib.Count.{count_trailing_zeros}
 use Rattle.sets.specs.Below.{sum, bit}
 use Rattle.sets.specs.Bits.{bit_of}
 use Rattle.sets.proofs.Bits.{bit_of_lt, shl_one}
-use Rattle.sets.proofs.Lowest.{Lowest, lowest, cleared-falls}
+use Rattle.sets.proofs.Lowest.{Lowest, lowest, cleared_falls}
 use Rattle.sets.proofs.Words.{lowest_alone}
 use Rattle.graph.specs.ForProofs.{HasEnds, in_set, both_within}
-use Rattle.graph.proofs.Words.{Filtering, filtering-start, filtering-on, filtering-end}
+use Rattle.graph.proofs.Words.{Filtering, filtering_start, filtering_on, filtering_end}
 use Rattle.graph.proofs.Edges.{word_in_at}
 use Rattle.graph.proofs.within_word.Statement.{statement}
 use Rattle.graph.proofs.within_word.Tie as tie
@@ -40,7 +40,7 @@ test c k =
     both_within a.within.now a.edges.now (a.base + k)
 
 loop-holds : tie.Need-loop-init invariant-loop decreases-loop
-loop-holds c = let s = c.before.before in filtering-start s.args.word _ s.ranges.word.fits
+loop-holds c = let s = c.before.before in filtering_start s.args.word _ s.ranges.word.fits
 
 -- ---- the edge of the lowest set bit
 abbrev low : tie.In-loop invariant-loop decreases-loop → ℕ
@@ -92,15 +92,15 @@ told c =
 loop-less : tie.Need-loop-smaller invariant-loop decreases-loop
 loop-less c =
     let i = turn c.before in
-    cleared-falls i.before.loop.w (low i) (first i).1 (first i).0
+    cleared_falls i.before.loop.w (low i) (first i).1 (first i).0
 
 loop-again : tie.Need-loop-preserved invariant-loop decreases-loop
 loop-again c =
     let i = turn c.before in
-    filtering-on (start i.before).args.word (test i.before) (low i) c.before.if1.one (first i).0 (first i).1 (told c.before) i.before.loop.inv
+    filtering_on (start i.before).args.word (test i.before) (low i) c.before.if1.one (first i).0 (first i).1 (told c.before) i.before.loop.inv
 
 returns : tie.Need-returns invariant-loop decreases-loop
-returns c = filtering-end (start c.before).args.word (test c.before) (omega (arith, c.loop-test.false)) c.before.loop.invariant
+returns c = filtering_end (start c.before).args.word (test c.before) (omega (arith, c.loop-test.false)) c.before.loop.invariant
 
 pub within-word-spec : {M : Type 1} → statement M
 within-word-spec =

@@ -8,7 +8,7 @@ use native.Mathlib.Omega.{arith}
 use borrow.Author.Rules.{rules}
 use Rattle.sets.specs.Bits.{with_bit}
 use Rattle.sets.proofs.Bits.{shl_one}
-use Rattle.image.proofs.Rows.{row_most, counted-add}
+use Rattle.image.proofs.Rows.{row_most, counted_add}
 use Rattle.image.proofs.add.Statement.{statement}
 use Rattle.image.proofs.add.Tie as tie
 
@@ -63,7 +63,7 @@ returns c =
     let i : ℕ = a.u * 512 + a.v in
     let e : set t (i / 64) (bit_or (get_or t (i / 64) 0) (1 * 2 ^ (i % 64) % 2 ^ 64)) ≡ with_bit t i =
     ap (λ (x : ℕ). set t (i / 64) (bit_or (get_or t (i / 64) 0) x)) (shl_one (i % 64) (mod-lt i (zero-lt-suc 63))) in
-    (e, rw e (counted-add t a.sizes.now a.u a.v s.requires.0 s.requires.1 s.requires.2 s.requires.3 s.requires.4))
+    (e, rw e (counted_add t a.sizes.now a.u a.v s.requires.0 s.requires.1 s.requires.2 s.requires.3 s.requires.4))
 
 pub add_spec : {M : Type 1} → statement M
 add_spec =

@@ -18,7 +18,7 @@ use Rattle.image.specs.ForProofs.{linked, faulty}
 use Rattle.image.proofs.Acceptance.{good_ends}
 use Rattle.image.proofs.Scanning.{scan_none, scan_more}
 use Rattle.image.proofs.Rows.{zero_is, table_has}
-use Rattle.image.proofs.Edges.{linked_none, linked-more, second-new, end-told, fault-end, fault-linked, added-no, added-yes}
+use Rattle.image.proofs.Edges.{linked_none, linked_more, second_new, end_told, fault_end, fault_linked, added_no, added_yes}
 use Rattle.image.proofs.add_edges.Statement.{statement}
 use Rattle.image.proofs.add_edges.Tie as tie
 
@@ -76,7 +76,7 @@ v-is c = ap (λ (e : Ends). e.b) c.ends_at.ensures
 good-end : (c : tie.Else1 invariant-loop decreases-loop) → bad_end (edges (read c)) (count (read c)) (loop (read c)).loop.k ≡ false
 good-end c =
     let d = read c in
-    end-told (count d) (edges d) (loop d).loop.k (u-of d) (v-of d) false (u-is d) (v-is d) c.if1.false
+    end_told (count d) (edges d) (loop d).loop.k (u-of d) (v-of d) false (u-is d) (v-is d) c.if1.false
 
 below : (c : tie.Else1 invariant-loop decreases-loop) → (u-of (read c) < count (read c)) × (v-of (read c) < count (read c))
 below c =
@@ -94,7 +94,7 @@ told c =
     let g = c.before.before in
     let d = read g in
     let l = (loop d).loop in
-    fault-linked (count d) (edges d) l.k (good-end g) (omega (arith, (below g).0, u-is d))
+    fault_linked (count d) (edges d) l.k (good-end g) (omega (arith, (below g).0, u-is d))
     ∙ sym (c.row_has.ensures ∙ table_has (linked (count d) (edges d) l.k) l.inv.3 (u-of d) (v-of d) (small g).0 (small g).1 ∙ ap₂ (linked (count d) (edges d) l.k) (u-is d) (v-is d))
 
 -- and where it is not, the cell is empty
@@ -118,8 +118,8 @@ returns : tie.Need-returns invariant-loop decreases-loop
 returns c =
     let d = c.before.before.before in
     let l = (loop d).loop in
-    added-no (edges d) (count d) (start (loop d)).args.m l.k l.inv.1 _ _ d.before.loop-test.true
-    (fault-end (count d) (edges d) l.k (end-told (count d) (edges d) l.k (u-of d) (v-of d) true (u-is d) (v-is d) c.if1.true))
+    added_no (edges d) (count d) (start (loop d)).args.m l.k l.inv.1 _ _ d.before.loop-test.true
+    (fault_end (count d) (edges d) l.k (end_told (count d) (edges d) l.k (u-of d) (v-of d) true (u-is d) (v-is d) c.if1.true))
 
 row-has-requires : tie.Need-row-has-requires invariant-loop decreases-loop
 row-has-requires c κs = let g = c.before in ((small g).0, (small g).1, (loop (read g)).loop.inv.2.0)
@@ -134,7 +134,7 @@ returns-2 : tie.Need-returns-2 invariant-loop decreases-loop
 returns-2 c =
     let d = read c.before.before.before in
     let l = (loop d).loop in
-    added-no (edges d) (count d) (start (loop d)).args.m l.k l.inv.1 _ _ d.before.loop-test.taken (told c.before ∙ c.if2.true)
+    added_no (edges d) (count d) (start (loop d)).args.m l.k l.inv.1 _ _ d.before.loop-test.taken (told c.before ∙ c.if2.true)
 
 add-requires : tie.Need-add-requires invariant-loop decreases-loop
 add-requires c κs =
@@ -153,7 +153,7 @@ add-requires-2 c κs =
       (small g).0,
       (a.add.auto.0 ∙ l.inv.2.0, a.add.auto.1.0 ∙ l.inv.2.1),
       a.add.ensures.1,
-      rw a.add.ensures.0 (second-new (count d) (edges d) l.k l.inv.3 (u-of d) (v-of d) (below g).0 (small g).0 (small g).1 (empty (new a))),
+      rw a.add.ensures.0 (second_new (count d) (edges d) l.k l.inv.3 (u-of d) (v-of d) (below g).0 (small g).0 (small g).1 (empty (new a))),
     )
 
 add-k : tie.Need-overflow-add-k invariant-loop decreases-loop
@@ -177,7 +177,7 @@ loop-again c =
       (b.kept.0 ∙ a.kept.0 ∙ l.inv.2.0, b.kept.1.0 ∙ a.kept.1.0 ∙ l.inv.2.1),
       subst (λ (ws : List ℕ). Table ws (linked (count d) (edges d) (l.k + 1)))
           (sym (b.ensures.0 ∙ ap (λ (ws : List ℕ). with_bit ws (v-of d * 512 + u-of d)) a.ensures.0 ∙ ap₂ (λ (x y : ℕ). with_bit (with_bit l.rows (x * 512 + y)) (y * 512 + x)) p q))
-          (linked-more (count d) (edges d) l.k (omega (arith, (small g).0, p)) (omega (arith, (small g).1, q)) l.inv.2.0 l.inv.3),
+          (linked_more (count d) (edges d) l.k (omega (arith, (small g).0, p)) (omega (arith, (small g).1, q)) l.inv.2.0 l.inv.3),
       b.ensures.1,
     )
 
@@ -191,7 +191,7 @@ returns-3 : tie.Need-returns-3 invariant-loop decreases-loop
 returns-3 c =
     let l = c.before.loop in
     let a = (start c.before).args in
-    added-yes a.records.now a.n a.m l.k l.invariant.1 (omega arith) l.invariant.3 l.invariant.4
+    added_yes a.records.now a.n a.m l.k l.invariant.1 (omega arith) l.invariant.3 l.invariant.4
 
 pub add-edges-spec : {M : Type 1} → statement M
 add-edges-spec =

@@ -7,8 +7,8 @@ use Rattle.sets.specs.Below.{find}
 use Rattle.image.specs.Questions.{ask_each, ask_edges, bad_end, is_loop}
 use Rattle.image.specs.declared.Opened.{Opened}
 use Rattle.image.proofs.Rows.{cleared_room}
-use Rattle.image.proofs.Scanning.{end_found, loop-found, each-no, each-yes, each-passed}
-use Rattle.image.proofs.Faults.{edges-yes, edges-repeat, held_no, held_yes}
+use Rattle.image.proofs.Scanning.{end_found, loop_found, each_no, each_yes, each_passed}
+use Rattle.image.proofs.Faults.{edges_yes, edges_repeat, held_no, held_yes}
 use Rattle.image.proofs.ask_edges.Statement.{statement}
 use Rattle.image.proofs.ask_edges.Tie as tie
 
@@ -40,11 +40,11 @@ found8 : (c : tie.After-first-bad) → (let s = (start (selves (fault (asked8 c)
 found8 c = let s = (start (selves (fault (asked8 c)))).args in end_found s.records.now s.h.n s.h.m c.first-bad.result c.first-bad.ensures
 
 found9 : (c : tie.After-first-bad2) → (let s = (start (selves (fault (asked8 (asked9 c).before)))).args in c.first-bad2.result ≡ find s.h.m (is_loop s.records.now))
-found9 c = let s = (start (selves (fault (asked8 (asked9 c).before)))).args in loop-found s.records.now s.h.n s.h.m c.first-bad2.result c.first-bad2.ensures
+found9 c = let s = (start (selves (fault (asked8 (asked9 c).before)))).args in loop_found s.records.now s.h.n s.h.m c.first-bad2.result c.first-bad2.ensures
 
 -- question 8 got a yes
 yes8 : (c : tie.Else2) (next : Opened) → (let s = (start (selves (fault (asked8 c.before)))).args in ask_each s.h.m (bad_end s.records.now s.h.n) 8 next ≡ next)
-yes8 c next = each-yes _ _ _ (found8 c.before) 8 next c.if2.false
+yes8 c next = each_yes _ _ _ (found8 c.before) 8 next c.if2.false
 
 cast-m : tie.Need-overflow-cast-m
 cast-m c = omega arith
@@ -77,7 +77,7 @@ returns c =
     let p = c.before.before.before.before.before in
     let s = (start (selves p)).args in
     let a = p.add-edges.ensures in
-    (sym (edges-yes s.records.now s.h p.add-edges.result a.first c.if1.true), held_yes a c.if1.true)
+    (sym (edges_yes s.records.now s.h p.add-edges.result a.first c.if1.true), held_yes a c.if1.true)
 
 cast-first-bad : tie.Need-overflow-cast-first-bad
 cast-first-bad c = omega arith
@@ -97,7 +97,7 @@ same-length-4 c = search rules
 returns-2 : tie.Need-returns-2
 unfolding ask_edges
 returns-2 c =
-    (c.refused.ensures ∙ sym (each-no _ _ _ (found8 c.before.before) 8 _ c.before.if2.true), held_no _ c.refused.ensures)
+    (c.refused.ensures ∙ sym (each_no _ _ _ (found8 c.before.before) 8 _ c.before.if2.true), held_no _ c.refused.ensures)
 
 cast-first-bad-2 : tie.Need-overflow-cast-first-bad-2
 cast-first-bad-2 c = omega arith
@@ -118,7 +118,7 @@ returns-3 : tie.Need-returns-3
 unfolding ask_edges
 returns-3 c =
     let l = c.before.before in
-    (c.refused2.ensures ∙ sym (yes8 (asked9 l) _ ∙ each-no _ _ _ (found9 l) 9 _ c.before.if3.true), held_no _ c.refused2.ensures)
+    (c.refused2.ensures ∙ sym (yes8 (asked9 l) _ ∙ each_no _ _ _ (found9 l) 9 _ c.before.if3.true), held_no _ c.refused2.ensures)
 
 refused-requires-3 : tie.Need-refused-requires-3
 refused-requires-3 c κs = tt
@@ -138,8 +138,8 @@ returns-4 c =
     let p = fault f in
     let s = (start (selves p)).args in (
       c.refused3.ensures
-          ∙ sym (edges-repeat s.records.now s.h p.add-edges.result p.add-edges.ensures.first f.if1.left
-          (each-passed _ _ _ (found8 b) (asked9 l).if2.false) (each-passed _ _ _ (found9 l) e.if3.false)),
+          ∙ sym (edges_repeat s.records.now s.h p.add-edges.result p.add-edges.ensures.first f.if1.left
+          (each_passed _ _ _ (found8 b) (asked9 l).if2.false) (each_passed _ _ _ (found9 l) e.if3.false)),
       held_no _ c.refused3.ensures,
     )
 

@@ -6,7 +6,7 @@ use Rattle.sets.specs.Below.{find}
 use Rattle.limits.specs.Limits.{out_of_limits}
 use Rattle.image.specs.Image.{handset_record}
 use Rattle.image.specs.Questions.{ask_records}
-use Rattle.image.proofs.Scanning.{handset-found, each-no, each-yes}
+use Rattle.image.proofs.Scanning.{handset_found, each_no, each_yes}
 use Rattle.image.proofs.Faults.{held_no}
 use Rattle.image.proofs.ask_records.Statement.{statement}
 use Rattle.image.proofs.ask_records.Tie as tie
@@ -17,7 +17,7 @@ start c = c.before.before.before.before.before.before.before
 
 found : (c : tie.After-first-bad)
     → (let a = (start c).args in c.first-bad.result ≡ find a.h.n (λ v. out_of_limits (handset_record a.handsets.now v)))
-found c = let a = (start c).args in handset-found a.handsets.now a.h.n a.h.n c.first-bad.result c.first-bad.ensures
+found c = let a = (start c).args in handset_found a.handsets.now a.h.n a.h.n c.first-bad.result c.first-bad.ensures
 
 cast-first-bad : tie.Need-overflow-cast-first-bad
 cast-first-bad c = omega arith
@@ -37,7 +37,7 @@ refused-requires c κs = tt
 returns : tie.Need-returns
 unfolding ask_records
 returns c =
-    (c.refused.ensures ∙ sym (each-no _ _ _ (found c.before.before.before) 7 _ c.before.if1.true), held_no _ c.refused.ensures)
+    (c.refused.ensures ∙ sym (each_no _ _ _ (found c.before.before.before) 7 _ c.before.if1.true), held_no _ c.refused.ensures)
 
 ask-edges-requires : tie.Need-ask-edges-requires
 ask-edges-requires c κs = search rules
@@ -53,7 +53,7 @@ unfolding ask_records
 returns-2 c =
     let a = c.before.before.before.before in
     let e = a.before.before.before in
-    (a.ask-edges.ensures.0 ∙ sym (each-yes _ _ _ (found e.before.before) 7 _ e.if1.false), a.ask-edges.ensures.1)
+    (a.ask-edges.ensures.0 ∙ sym (each_yes _ _ _ (found e.before.before) 7 _ e.if1.false), a.ask-edges.ensures.1)
 
 pub ask-records-spec : {M : Type 1} → statement M
 ask-records-spec =

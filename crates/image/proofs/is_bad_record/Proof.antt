@@ -11,7 +11,7 @@ use Rattle.fields.specs.declared.Ends.{Ends}
 use Rattle.limits.specs.Limits.{out_of_limits}
 use Rattle.image.specs.Questions.{bad_end, is_loop}
 use Rattle.image.proofs.Records.{handset_slice_lem}
-use Rattle.image.proofs.Scanning.{bad-handset, bad-end, bad-loop}
+use Rattle.image.proofs.Scanning.{bad_handset, bad_end_lem, bad_loop}
 use Rattle.image.proofs.is_bad_record.Statement.{statement}
 use Rattle.image.proofs.is_bad_record.Tie as tie
 
@@ -48,7 +48,7 @@ returns : tie.Need-returns
 returns c =
     let t = c.before.before in
     let a = (start t.before).args in
-    c.out_of_limits_lem.ensures ∙ ap out_of_limits (handset_slice_lem a.records.now a.k) ∙ sym (bad-handset a.question a.records.now a.n a.k t.if1.true)
+    c.out_of_limits_lem.ensures ∙ ap out_of_limits (handset_slice_lem a.records.now a.k) ∙ sym (bad_handset a.question a.records.now a.n a.k t.if1.true)
 
 ends-at-requires : tie.Need-ends-at-requires
 ends-at-requires c κs = (start c.before).requires.edges c.if1.false
@@ -59,7 +59,7 @@ returns-2 c =
     let t = c.before.before in
     let r = t.before in
     let a = (start (asked r)).args in
-    ap (λ (e : Ends). not (ltb e.a a.n && ltb e.b a.n)) r.ends_at.ensures ∙ sym (bad-end a.question a.records.now a.n a.k t.if2.true)
+    ap (λ (e : Ends). not (ltb e.a a.n && ltb e.b a.n)) r.ends_at.ensures ∙ sym (bad_end_lem a.question a.records.now a.n a.k t.if2.true)
 
 returns-3 : tie.Need-returns-3
 unfolding is_loop
@@ -67,7 +67,7 @@ returns-3 c =
     let t = c.before in
     let r = t.before in
     let a = (start (asked r)).args in
-    ap (λ (e : Ends). eqb e.a e.b) r.ends_at.ensures ∙ sym (bad-loop a.question a.records.now a.n a.k r.before.if1.false t.if2.false)
+    ap (λ (e : Ends). eqb e.a e.b) r.ends_at.ensures ∙ sym (bad_loop a.question a.records.now a.n a.k r.before.if1.false t.if2.false)
 
 pub is-bad-record-spec : {M : Type 1} → statement M
 is-bad-record-spec =

@@ -9,7 +9,7 @@ use lib.ListN.{length, take, length-map}
 use lib.Seq.{sets, length-sets}
 use mir.Facts.{to_z-of_z}
 use Rattle.little_endian.specs.Bytes.{table_bytes}
-use Rattle.little_endian.proofs.Writing.{table_none, table_more, table-all}
+use Rattle.little_endian.proofs.Writing.{table_none, table_more, table_all}
 use Rattle.fields.specs.Fields.{coordinate_bytes, header_bytes}
 use Rattle.layout.specs.Layout.{word32}
 use Rattle.layout.proofs.Storing.{get_or_word}
@@ -73,7 +73,7 @@ returns : tie.Need-returns invariant-loop decreases-loop
 returns c =
     let a = c.before.before.before.args in
     let l = c.before.loop in
-    table-all coordinate_bytes a.s.now header_bytes (map word32 a.coordinates.now) l.i l.s (omega (arith, length-map a.coordinates.now word32)) l.invariant.2
+    table_all coordinate_bytes a.s.now header_bytes (map word32 a.coordinates.now) l.i l.s (omega (arith, length-map a.coordinates.now word32)) l.invariant.2
 
 pub put-coordinates-spec : {M : Type 1} → statement M
 put-coordinates-spec =

@@ -7,7 +7,7 @@ use mathlib.Core.Path.{◌≡◌, refl, ap, ◌∙◌}
 use lib.ListN.{length, take}
 use lib.Seq.{sets, length-sets}
 use Rattle.little_endian.specs.Bytes.{table_bytes}
-use Rattle.little_endian.proofs.Writing.{table_none, table_more, table-all}
+use Rattle.little_endian.proofs.Writing.{table_none, table_more, table_all}
 use Rattle.fields.specs.Fields.{end_bytes}
 use Rattle.layout.proofs.put_ends.Statement.{statement}
 use Rattle.layout.proofs.put_ends.Tie as tie
@@ -61,7 +61,7 @@ returns : tie.Need-returns invariant-loop decreases-loop
 returns c =
     let a = c.before.before.before.before.args in
     let l = c.before.loop in
-    table-all end_bytes a.s.now a.from a.ends.now l.i l.s (omega arith) l.invariant.2
+    table_all end_bytes a.s.now a.from a.ends.now l.i l.s (omega arith) l.invariant.2
 
 pub put-ends-spec : {M : Type 1} → statement M
 put-ends-spec =

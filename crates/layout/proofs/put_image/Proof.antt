@@ -13,7 +13,7 @@ use Rattle.fields.specs.Fields.{coordinate_bytes, header_bytes}
 use Rattle.limits.specs.Limits.{counts_fit}
 use Rattle.image.proofs.Acceptance.{counts_limits}
 use Rattle.layout.specs.Layout.{header_for, edge_table, lengths_fit}
-use Rattle.layout.proofs.Storing.{parts, Fitting, fitting, writes-by, uncounted, writes-yes, writes-no}
+use Rattle.layout.proofs.Storing.{parts, Fitting, fitting, writes_by, uncounted, writes_yes, writes_no}
 use Rattle.layout.proofs.put_image.Statement.{statement}
 use Rattle.layout.proofs.put_image.Tie as tie
 
@@ -42,7 +42,7 @@ counts-fit-requires c κs = search rules
 returns : tie.Need-returns
 returns c =
     let a = c.before.before.before.before.args in
-    writes-no a.x a.coordinates.now a.ends.now a.s.now
+    writes_no a.x a.coordinates.now a.ends.now a.s.now
     (uncounted a.x a.coordinates.now a.ends.now a.s.now (sym c.before.counts-fit.ensures ∙ not-true _ c.if1.true))
 
 mul-edges : tie.Need-overflow-mul-edges
@@ -63,8 +63,8 @@ lengths-fit-requires c κs = search rules
 returns-2 : tie.Need-returns-2
 returns-2 c =
     let a = c.before.before.before.before.before.before.args in
-    writes-no a.x a.coordinates.now a.ends.now a.s.now
-    (writes-by a.x a.coordinates.now a.ends.now a.s.now false (counted c.before.before)
+    writes_no a.x a.coordinates.now a.ends.now a.s.now
+    (writes_by a.x a.coordinates.now a.ends.now a.s.now false (counted c.before.before)
     (ap (λ (b : Bool). b && leb (header_for a.x).len (length a.s.now)) (sym c.before.lengths-fit.ensures) ∙ not-true _ c.if2.true))
 
 put-counts-requires : tie.Need-put-counts-requires
@@ -106,8 +106,8 @@ returns-3 c =
     let a = test.before.before.before.before.before.before.args in
     let f = tested test in
     let at : (header_for a.x).edges ≡ header_bytes + coordinate_bytes * length a.coordinates.now = omega (arith, f.coordinates) in
-    writes-yes a.x a.coordinates.now a.ends.now a.s.now
-    (writes-by a.x a.coordinates.now a.ends.now a.s.now true (counted test.before.before) (whole test))
+    writes_yes a.x a.coordinates.now a.ends.now a.s.now
+    (writes_by a.x a.coordinates.now a.ends.now a.s.now true (counted test.before.before) (whole test))
     (parts a.x a.coordinates.now a.ends.now a.s.now _ _ _ _ w1.put-counts.ensures w2.put-thresholds.ensures w3.put-coordinates.ensures
     (w4.put-ends.ensures ∙ ap (λ (k : ℕ). sets w3.put-coordinates.new.0 k (edge_table a.ends.now)) at))
     refl

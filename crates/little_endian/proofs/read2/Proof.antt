@@ -2,7 +2,7 @@
 use mathlib.Core.Path.{sym, ◌∙◌}
 use borrow.Author.Rules.{rules}
 use borrow.Author.Tests.{leb-true}
-use Rattle.little_endian.proofs.Bytes.{number-there, number-none}
+use Rattle.little_endian.proofs.Bytes.{number_there, number_none}
 use Rattle.little_endian.proofs.read2.Statement.{statement}
 use Rattle.little_endian.proofs.read2.Tie as tie
 
@@ -16,10 +16,10 @@ cast-result : tie.Need-overflow-cast-result
 cast-result c = search rules
 
 returns : tie.Need-returns
-returns c = let t = c.before in c.two.ensures.0 ∙ sym (number-there 2 _ _ t.before.stands.ensures t.if1.true)
+returns c = let t = c.before in c.two.ensures.0 ∙ sym (number_there 2 _ _ t.before.stands.ensures t.if1.true)
 
 returns-2 : tie.Need-returns-2
-returns-2 c = sym (number-none 2 _ _ c.before.stands.ensures c.if1.false)
+returns-2 c = sym (number_none 2 _ _ c.before.stands.ensures c.if1.false)
 
 pub read2-spec : {M : Type 1} → statement M
 read2-spec = tie.close (tie.spec stands-requires two-requires cast-result returns returns-2)

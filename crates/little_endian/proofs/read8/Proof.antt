@@ -7,7 +7,7 @@ use borrow.Author.Rules.{rules}
 use borrow.Author.Tests.{leb-true}
 use mir.Syntax.{w64}
 use mir.Val.{Fits}
-use Rattle.little_endian.proofs.Bytes.{number_le, number-none, le_split}
+use Rattle.little_endian.proofs.Bytes.{number_le, number_none, le_split}
 use Rattle.little_endian.proofs.read8.Statement.{statement}
 use Rattle.little_endian.proofs.read8.Tie as tie
 
@@ -47,7 +47,7 @@ returns c =
     ∙ sym (number_le 8 a.s.now a.at (room c.before.before) ∙ le_split 4 4 a.s.now a.at)
 
 returns-2 : tie.Need-returns-2
-returns-2 c = sym (number-none 8 _ _ c.before.stands.ensures c.if1.false)
+returns-2 c = sym (number_none 8 _ _ c.before.stands.ensures c.if1.false)
 
 pub read8-spec : {M : Type 1} → statement M
 read8-spec =

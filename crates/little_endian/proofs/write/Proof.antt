@@ -9,7 +9,7 @@ use borrow.Author.Tests.{leb-true, not-true, not-false}
 use lib.ListN.{length}
 use lib.Seq.{sets, length-sets}
 use Rattle.little_endian.specs.Bytes.{le_bytes}
-use Rattle.little_endian.proofs.Writing.{write-none, write-more, stored_there, stored_none}
+use Rattle.little_endian.proofs.Writing.{write_none, write_more, stored_there, stored_none}
 use Rattle.little_endian.proofs.write.Statement.{statement}
 use Rattle.little_endian.proofs.write.Tie as tie
 
@@ -28,7 +28,7 @@ returns c = sym (stored_none _ _ _ _ (sym c.before.stands.ensures ∙ not-true _
 loop-holds : tie.Need-loop-init invariant-loop decreases-loop
 loop-holds c =
     let a = c.before.before.before.args in
-    let n = write-none a.s.now a.at a.v in
+    let n = write_none a.s.now a.at a.v in
     (omega arith, leb-true _ _ (sym c.before.stands.ensures ∙ not-false _ c.if1.false), n.0, n.1)
 
 cast-s : tie.Need-overflow-cast-s invariant-loop decreases-loop
@@ -53,7 +53,7 @@ loop-again : tie.Need-loop-preserved invariant-loop decreases-loop
 loop-again c =
     let a = c.before.before.before.before.before.args in
     let l = c.before.loop in
-    let m = write-more a.s.now a.at a.v l.i l.rest l.s l.invariant.2 l.invariant.3 in
+    let m = write_more a.s.now a.at a.v l.i l.rest l.s l.invariant.2 l.invariant.3 in
     rw (add-one l.i) (omega arith, l.invariant.1, m.0, m.1)
 
 same_length : tie.Need-same-length invariant-loop decreases-loop

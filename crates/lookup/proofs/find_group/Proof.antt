@@ -7,7 +7,7 @@ use Rattle.image.specs.Answers.{refusal}
 use Rattle.lookup.specs.Lookup.{looked_of}
 use Rattle.lookup.specs.Answers.{look_answer}
 use Rattle.lookup.specs.declared.Looked.TheVariants.{Found, Refused}
-use Rattle.lookup.proofs.Agreement.{looked-span}
+use Rattle.lookup.proofs.Agreement.{looked_span}
 use Rattle.lookup.proofs.find_group.Statement.{statement}
 use Rattle.lookup.proofs.find_group.Tie as tie
 
@@ -20,7 +20,7 @@ told c b e =
     let r = c.find-span.result in
     let f = c.find-span.ensures in
     ap (λ (x : Bool). cond x (Found (r.past - r.first)) (Refused (refusal 14))) (sym e)
-    ∙ sym (looked-span a.starts.now a.table.now a.k r f.0 f.1.1)
+    ∙ sym (looked_span a.starts.now a.table.now a.k r f.0 f.1.1)
 
 find-span-requires : tie.Need-find-span-requires
 find-span-requires c κs = tt

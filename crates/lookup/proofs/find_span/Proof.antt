@@ -38,28 +38,28 @@ cast-b c = omega (arith, c.shared-slice-known2.given ((start c).args.k + 1))
 returns : tie.Need-returns
 returns c =
     let a = (start c.before.before).args in
-    let e = cases.span-yes a.starts.now a.size a.k (cases.placed-yes a.starts.now a.size a.k (omega arith) (omega arith) (omega arith)) in
+    let e = cases.span_yes a.starts.now a.size a.k (cases.placed_yes a.starts.now a.size a.k (omega arith) (omega arith) (omega arith)) in
     (cc, omega arith)
 
 returns-2 : tie.Need-returns-2
 returns-2 c =
     let a = (start c.before.before).args in
-    (sym (cases.span-no a.starts.now a.size a.k (cases.placed-beyond a.starts.now a.size a.k (omega arith) (omega arith) (omega arith))), omega arith)
+    (sym (cases.span_no a.starts.now a.size a.k (cases.placed_beyond a.starts.now a.size a.k (omega arith) (omega arith) (omega arith))), omega arith)
 
 returns-3 : tie.Need-returns-3
 returns-3 c =
     let a = (start c.before).args in
-    (sym (cases.span-no a.starts.now a.size a.k (cases.placed-falling a.starts.now a.size a.k (omega arith) (omega arith))), omega arith)
+    (sym (cases.span_no a.starts.now a.size a.k (cases.placed_falling a.starts.now a.size a.k (omega arith) (omega arith))), omega arith)
 
 returns-4 : tie.Need-returns-4
 returns-4 c =
     let a = c.before.before.args in
-    (sym (cases.span-no a.starts.now a.size a.k (cases.placed-short a.starts.now a.size a.k (omega arith))), omega arith)
+    (sym (cases.span_no a.starts.now a.size a.k (cases.placed_short a.starts.now a.size a.k (omega arith))), omega arith)
 
 returns-5 : tie.Need-returns-5
 returns-5 c =
     let a = c.before.args in
-    (sym (cases.span-no a.starts.now a.size a.k (cases.placed-short a.starts.now a.size a.k (omega arith))), omega arith)
+    (sym (cases.span_no a.starts.now a.size a.k (cases.placed_short a.starts.now a.size a.k (omega arith))), omega arith)
 
 pub find-span-spec : {M : Type 1} → statement M
 find-span-spec =

@@ -1,5 +1,5 @@
 -- `lookup::members` meets its contract: the part is the one between the two places of the span that it found.
-use Rattle.lookup.proofs.Agreement.{members-span}
+use Rattle.lookup.proofs.Agreement.{members_span}
 use borrow.Author.Rules.{rules}
 use Rattle.lookup.proofs.members.Statement.{statement}
 use Rattle.lookup.proofs.members.Tie as tie
@@ -22,7 +22,7 @@ part-result-end c = search rules
 returns : tie.Need-returns
 returns c =
     let a = c.before.before.before.before.args in
-    rw (members-span a.starts.now a.table.now a.k, ← c.before.find-span.ensures.0)
+    rw (members_span a.starts.now a.table.now a.k, ← c.before.find-span.ensures.0)
 
 pub members-spec : {M : Type 1} → statement M
 members-spec =

@@ -16,8 +16,8 @@ pub record Left (total limit : ℕ) (fits : Bool) (room : ℕ) : Type 0 where
   pub answer : fits ≡ leb total limit
   pub rest : T fits → room + total ≡ limit
 
-left-none : (limit : ℕ) → Left 0 limit true limit
-left-none limit = record { answer = sym (T_true (leb 0 limit) (le→leb 0 limit (omega arith))); rest = λ t. omega arith }
+left_none : (limit : ℕ) → Left 0 limit true limit
+left_none limit = record { answer = sym (T_true (leb 0 limit) (le→leb 0 limit (omega arith))); rest = λ t. omega arith }
 
 -- d is the square that the code has, x the definition's
 left-more : (total limit room d x next : ℕ) (fits : Bool) → Left total limit fits room → d ≡ x → d < 2 ^ 64 → next < 2 ^ 64 → (next + d) % 2 ^ 64 ≡ room
@@ -62,7 +62,7 @@ square-is c = c.squared-gap-at.ensures
 
 loop-holds : tie.Need-loop-init invariant-loop decreases-loop
 unfolding sum
-loop-holds c = (omega arith, left-none _)
+loop-holds c = (omega arith, left_none _)
 
 mul_at : tie.Need-overflow-mul-at invariant-loop decreases-loop
 mul_at c = search rules

@@ -3,7 +3,7 @@ use Prim.Native.Nat.{ℕ, ◌-◌, ◌≤◌}
 use native.Mathlib.Omega.{arith}
 use mathlib.Core.Path.{◌≡◌, subst}
 use Rattle.nearest.specs.ForProofs.{wrapped, Closest}
-use Rattle.nearest.proofs.Taking.{passed, passed_none, closest-none, closest-word, closest-all}
+use Rattle.nearest.proofs.Taking.{passed, passed_none, closest_none, closest_word, closest_all}
 use borrow.Author.Rules.{rules}
 use Rattle.nearest.proofs.find_closest.Statement.{statement}
 use Rattle.nearest.proofs.find_closest.Tie as tie
@@ -26,7 +26,7 @@ loop-holds : tie.Need-loop-init invariant-loop decreases-loop
 loop-holds c =
     let a = c.before.before.before.args in
     let f : ℕ → ℕ = wrapped a.point.now a.handsets.now in
-    (omega arith, closest-none f (passed f a.set.now 0) (passed_none f a.set.now))
+    (omega arith, closest_none f (passed f a.set.now 0) (passed_none f a.set.now))
 
 mul-take-word : tie.Need-overflow-mul-take-word invariant-loop decreases-loop
 mul-take-word c = search rules
@@ -50,14 +50,14 @@ loop-again : tie.Need-loop-preserved invariant-loop decreases-loop
 loop-again c =
     let at = c.before.before.before.before in
     let a = (start at).args in
-    (omega arith, closest-word (far at) a.set.now at.loop.j at.loop.least at.loop.closest _ _ at.loop.invariant.1 c.take-word.ensures)
+    (omega arith, closest_word (far at) a.set.now at.loop.j at.loop.least at.loop.closest _ _ at.loop.invariant.1 c.take-word.ensures)
 
 returns : tie.Need-returns invariant-loop decreases-loop
 returns c =
     let l = c.before.loop in
     let a = (start c.before).args in
     let e : l.j ≡ 8 = omega arith in
-    closest-all (far c.before) a.set.now l.least l.closest
+    closest_all (far c.before) a.set.now l.least l.closest
     (subst (λ (j : ℕ). Closest (far c.before) (passed (far c.before) a.set.now j) l.least l.closest) e l.invariant.1)
 
 pub find-closest-spec : {M : Type 1} → statement M

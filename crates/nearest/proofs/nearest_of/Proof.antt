@@ -6,7 +6,7 @@ use mathlib.Core.List.{List}
 use Rattle.rows.specs.Rows.{rows_of, MembersFound, first_meeting}
 use Rattle.nearest.specs.ForProofs.{wrapped}
 use Rattle.nearest.specs.declared.Nearest.TheVariants.{Group}
-use Rattle.nearest.proofs.Rows.{rows-nearest, no_rows, wrapped_fits}
+use Rattle.nearest.proofs.Rows.{rows_nearest, no_rows, wrapped_fits}
 use borrow.Author.Rules.{rules}
 use Rattle.nearest.proofs.nearest_of.Statement.{statement}
 use Rattle.nearest.proofs.nearest_of.Tie as tie
@@ -38,7 +38,7 @@ returns-2 c =
     let twice : List ℕ = f.new.1.1.1.0 in
     let closest : List ℕ = k.find-closest.new.1.1.1.0 in
     ap (λ (g : ℕ). Group g k.find-closest.result) (c.first-meeting.ensures ∙ ap (λ (n : ℕ). first_meeting closest (rows_of a.rows.now n)) e)
-    ∙ rows-nearest (wrapped a.point.now a.handsets.now) a.rows.now a.groups s.requires once twice
+    ∙ rows_nearest (wrapped a.point.now a.handsets.now) a.rows.now a.groups s.requires once twice
     (subst (λ (n : ℕ). MembersFound (rows_of a.rows.now n) once twice) e f.ensures) k.find-closest.result closest k.find-closest.ensures
     (wrapped_fits a.point.now a.handsets.now) some
 

@@ -2,7 +2,7 @@
 use mathlib.Core.Path.{refl, ap, ◌∙◌}
 use mathlib.Core.List.{map}
 use Rattle.image.specs.Signed.{raised}
-use Rattle.image.proofs.Acceptance.{handsets-fit}
+use Rattle.image.proofs.Acceptance.{handsets_fit}
 use Rattle.points.proofs.Handed.{handed}
 use Rattle.nearest.proofs.Rows.{rows_filled, site_answer_lem}
 use borrow.Author.Rules.{rules}
@@ -31,7 +31,7 @@ part-nearest-of-start : tie.Need-slice-bounds-nearest-of-start
 part-nearest-of-start c = search rules
 
 part-nearest-of-end : tie.Need-slice-bounds-nearest-of-end
-part-nearest-of-end c = let s = c.before.before.before.before.before in handsets-fit s.args.image.now s.requires.0.accepted s.args.h s.requires.0.header
+part-nearest-of-end c = let s = c.before.before.before.before.before in handsets_fit s.args.image.now s.requires.0.accepted s.args.h s.requires.0.header
 
 nearest-of-requires : tie.Need-nearest-of-requires
 nearest-of-requires c κs =

@@ -4,7 +4,7 @@ use native.Mathlib.Omega.{arith}
 use mathlib.Core.Path.{◌≡◌, sym, subst₂}
 use mathlib.Core.List.{List}
 use Rattle.nearest.specs.ForProofs.{wrapped, Closest, also}
-use Rattle.nearest.proofs.Taking.{closest-far, closest_same, closest-nearer}
+use Rattle.nearest.proofs.Taking.{closest_far, closest_same, closest_nearer}
 use borrow.Author.Rules.{rules}
 use Rattle.nearest.proofs.take_closer.Statement.{statement}
 use Rattle.nearest.proofs.take_closer.Tie as tie
@@ -26,7 +26,7 @@ returns : tie.Need-returns
 returns c =
     let m = c.before in
     let a = (start m).args in
-    record { each = λ seen k. closest-far (far m) seen a.least a.closest.now a.v (start m).requires k (omega (arith, m.distance-to.ensures, c.if1.true)) }
+    record { each = λ seen k. closest_far (far m) seen a.least a.closest.now a.v (start m).requires k (omega (arith, m.distance-to.ensures, c.if1.true)) }
 
 mark-requires : tie.Need-mark-requires
 mark-requires c κs = search rules
@@ -37,7 +37,7 @@ returns-2 c =
     let a = (start m).args in
     record {
       each = λ seen k. subst₂ (λ (d : ℕ) (ws : List ℕ). Closest (far m) (also seen a.v) d ws) (sym m.distance-to.ensures) (sym c.mark.ensures)
-          (closest-nearer (far m) seen a.least a.closest.now a.v (start m).requires k (omega (arith, m.distance-to.ensures, c.before.before.before.if2.true)));
+          (closest_nearer (far m) seen a.least a.closest.now a.v (start m).requires k (omega (arith, m.distance-to.ensures, c.before.before.before.if2.true)));
     }
 
 mark-requires-2 : tie.Need-mark-requires-2

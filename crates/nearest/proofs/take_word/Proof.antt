@@ -6,9 +6,9 @@ use mathlib.Core.Path.{◌≡◌, subst}
 use lib.Count.{count_trailing_zeros}
 use Rattle.sets.specs.Below.{sum}
 use Rattle.sets.specs.Bits.{bit_of}
-use Rattle.sets.proofs.Lowest.{Lowest, lowest, cleared_lt, cleared-falls}
+use Rattle.sets.proofs.Lowest.{Lowest, lowest, cleared_lt, cleared_falls}
 use Rattle.nearest.specs.ForProofs.{wrapped}
-use Rattle.nearest.proofs.Taking.{WordTaken, word_none, word_more, word-done}
+use Rattle.nearest.proofs.Taking.{WordTaken, word_none, word_more, word_done}
 use borrow.Author.Rules.{rules}
 use Rattle.nearest.proofs.take_word.Statement.{statement}
 use Rattle.nearest.proofs.take_word.Tie as tie
@@ -46,7 +46,7 @@ sub-w : tie.Need-overflow-sub-w invariant-loop decreases-loop
 sub-w c = search rules
 
 loop-less : tie.Need-loop-smaller invariant-loop decreases-loop
-loop-less c = let t = c.before.before in let f = first t in cleared-falls t.before.loop.w (lowestOf t) f.1 f.0
+loop-less c = let t = c.before.before in let f = first t in cleared_falls t.before.loop.w (lowestOf t) f.1 f.0
 
 loop-again : tie.Need-loop-preserved invariant-loop decreases-loop
 loop-again c =
@@ -64,7 +64,7 @@ returns c =
     let l = c.before.loop in
     let a = (start c.before).args in
     let none : l.w ≡ 0 = omega arith in
-    word-done (wrapped a.point.now a.handsets.now) a.base a.word a.before a.closest.now l.least l.closest
+    word_done (wrapped a.point.now a.handsets.now) a.base a.word a.before a.closest.now l.least l.closest
     (subst (λ (w : ℕ). WordTaken (wrapped a.point.now a.handsets.now) a.base a.word w a.before a.closest.now l.least l.closest) none l.invariant.1)
 
 pub take-word-spec : {M : Type 1} → statement M

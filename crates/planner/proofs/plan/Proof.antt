@@ -1,7 +1,7 @@
 -- `planner::plan` meets its contract: a refused image ends the call with its refusal, and of an accepted one the rows that are written are its
 -- communities.
 use borrow.Author.Rules.{rules}
-use Rattle.planner.proofs.Calls.{told_yes, told_no, plan-refused, plan-found}
+use Rattle.planner.proofs.Calls.{told_yes, told_no, plan_refused, plan_found}
 use Rattle.planner.proofs.plan.Statement.{statement}
 use Rattle.planner.proofs.plan.Tie as tie
 
@@ -33,7 +33,7 @@ returns c =
     let told = c.before.enum-told2.given in
     let a = (start f).args in
     let e = told_no f.find-rows.ensures.site told.0.0 c.refusal-of.result told.1 c.refusal-of.ensures in
-    plan-refused a.image.now c.refusal-of.result e a.starts.now a.members.now
+    plan_refused a.image.now c.refusal-of.result e a.starts.now a.members.now
 
 write-plan-requires : tie.Need-write-plan-requires
 write-plan-requires c κs = search rules
@@ -51,7 +51,7 @@ returns-2 c =
     let a = (start (found o)).args in
     let told = o.enum_told.given in
     let r = (found o).find-rows.ensures.site in
-    plan-found a.image.now (told_yes r told.0.0 told.1).0 r a.starts.now a.members.now _ _ _ w.write-plan.ensures
+    plan_found a.image.now (told_yes r told.0.0 told.1).0 r a.starts.now a.members.now _ _ _ w.write-plan.ensures
 
 pub plan-spec : {M : Type 1} → statement M
 plan-spec =

@@ -8,7 +8,7 @@ use Rattle.image.specs.Image.{handset_count}
 use Rattle.image.specs.Questions.{Accepted}
 use Rattle.community.specs.Network.{role_values}
 use Rattle.planner.specs.Plan.{known_answer}
-use Rattle.planner.proofs.Calls.{told_yes, told_no, known-refused, handsets-most, known_past, role-found, known-found}
+use Rattle.planner.proofs.Calls.{told_yes, told_no, known_refused, handsets_most_lem, known_past, role_found, known_found}
 use Rattle.planner.proofs.role.Statement.{statement}
 use Rattle.planner.proofs.role.Tie as tie
 
@@ -50,7 +50,7 @@ returns c =
     let f = c.before.before.before in
     let told = c.before.enum_told.given in
     let a = (start f).args in
-    ap known_answer (known-refused a.image.now c.refusal-of.result
+    ap known_answer (known_refused a.image.now c.refusal-of.result
     (told_no f.find-site.ensures told.0.0 c.refusal-of.result told.1 c.refusal-of.ensures) a.v)
 
 cast-if1 : tie.Need-overflow-cast-if1
@@ -69,7 +69,7 @@ mul-t16 : tie.Need-overflow-mul-t16
 mul-t16 c = search rules
 
 array-read-t23 : tie.Need-array-read-t23
-array-read-t23 c = let e = asked c in omega (arith, below e, handsets-most (start (found (opened e.before))).args.image.now (yes (opened e.before)).0)
+array-read-t23 c = let e = asked c in omega (arith, below e, handsets_most_lem (start (found (opened e.before))).args.image.now (yes (opened e.before)).0)
 
 returns-3 : tie.Need-returns-3
 returns-3 c =
@@ -78,9 +78,9 @@ returns-3 c =
     let a = (start (found o)).args in
     let image = a.image.now in
     let r = (found o).find-site.ensures in
-    known-found image (yes o).0 a.v (below e) (record { neighbours = _; role = c.role-in.result })
+    known_found image (yes o).0 a.v (below e) (record { neighbours = _; role = c.role-in.result })
     ((r.found o.opened.given.0.0 o.opened.given.1).counts.each a.v (below e))
-    (c.role-in.ensures ∙ ap role_values (role-found image (yes o).0 r a.v (below e)))
+    (c.role-in.ensures ∙ ap role_values (role_found image (yes o).0 r a.v (below e)))
 
 pub role-spec : {M : Type 1} → statement M
 role-spec =

@@ -15,9 +15,9 @@ abbrev squares : List ℕ → List ℕ → ℕ → ℕ → ℕ
 squares point handsets v = gap_squared (λ i. get_or point i 0) (coordinate_of (handset_record handsets v))
 
 -- a coordinate read from the records is that of the handset's record
-coordinate-at : (records : List ℕ) (v i : ℕ) → i < coordinate_count → shifted (number coordinate_bytes records (handset_bytes * v + coordinate_bytes * i)) ≡ coordinate_of (handset_record records v) i
+coordinate_at : (records : List ℕ) (v i : ℕ) → i < coordinate_count → shifted (number coordinate_bytes records (handset_bytes * v + coordinate_bytes * i)) ≡ coordinate_of (handset_record records v) i
 unfolding coordinate_of handset_record
-coordinate-at records v i h =
+coordinate_at records v i h =
     ap shifted (sym (number_slice coordinate_bytes records (handset_bytes * v) handset_bytes (coordinate_bytes * i) (omega arith) (omega arith)))
 
 -- one square more
@@ -80,7 +80,7 @@ square-is c =
     let e = c.before.before.coordinate.ensures in
     let x : ℕ = get_or (start l).args.point.now l.loop.i 0 in
     c.squared-gap.ensures
-    ∙ ap (λ (y : ℕ). gap x y * gap x y) (e ∙ coordinate-at (start l).args.handsets.now (start l).args.v l.loop.i (omega (arith, c.before.before.before.loop-test.true)))
+    ∙ ap (λ (y : ℕ). gap x y * gap x y) (e ∙ coordinate_at (start l).args.handsets.now (start l).args.v l.loop.i (omega (arith, c.before.before.before.loop-test.true)))
 
 loop-again : tie.Need-loop-preserved invariant-loop decreases-loop
 unfolding sum

@@ -2,7 +2,7 @@
 use native.Mathlib.Omega.{arith}
 use Prim.Native.Nat.{◌<◌}
 use lib.ListN.{length}
-use Rattle.reporting.proofs.Answers.{program_long, program-written, program-refused}
+use Rattle.reporting.proofs.Answers.{program_long, program_written, program_refused}
 use borrow.Author.Rules.{rules}
 use Rattle.reporting.proofs.program_text.Statement.{statement}
 use Rattle.reporting.proofs.program_text.Tie as tie
@@ -46,7 +46,7 @@ returns-2 c =
     let called = c.before.before.before.before.before in
     let s = start called in
     let small : length s.args.out.now < 9223372036854775808 = omega (arith, s.good.1.0.1) in
-    program-written s.args.input.now s.args.out.now called.before.before.if1.false _ _ _ small c.before.reported.given.1 called.report.ensures
+    program_written s.args.input.now s.args.out.now called.before.before.if1.false _ _ _ small c.before.reported.given.1 called.report.ensures
 
 same-length-3 : tie.Need-same-length-3
 same-length-3 c = omega arith
@@ -57,7 +57,7 @@ returns-3 c =
     let told = w.before.before.before in
     let called = told.before.before.before.before in
     let a = (start called).args in
-    program-refused a.input.now a.out.now called.before.before.if1.false _ _ _ _ _ told.reported2.given.1 called.report.ensures w.put-refusal2.ensures
+    program_refused a.input.now a.out.now called.before.before.if1.false _ _ _ _ _ told.reported2.given.1 called.report.ensures w.put-refusal2.ensures
 
 pub program-text-spec : {M : Type 1} → statement M
 program-text-spec =

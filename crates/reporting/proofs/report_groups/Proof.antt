@@ -1,7 +1,7 @@
 -- `reporting::report_groups` meets its contract: the tables that its calls make are those of the image, and the text from them is the report's.
 use native.Mathlib.Omega.{arith}
-use Rattle.image.proofs.Acceptance.{handsets-fit, edges_fit}
-use Rattle.reporting.proofs.Whole.{rows_counted, text-held}
+use Rattle.image.proofs.Acceptance.{handsets_fit, edges_fit}
+use Rattle.reporting.proofs.Whole.{rows_counted, text_held}
 use Rattle.reporting.proofs.Answers.{filled_same}
 use Rattle.reporting.proofs.report_groups.Statement.{statement}
 use Rattle.reporting.proofs.report_groups.Tie as tie
@@ -50,7 +50,7 @@ part-count-groups-start : tie.Need-slice-bounds-count-groups-start
 part-count-groups-start c = omega arith
 
 part-count-groups-end : tie.Need-slice-bounds-count-groups-end
-part-count-groups-end c = let s = start c in handsets-fit s.args.image.now s.pre.accepted s.args.h s.pre.header
+part-count-groups-end c = let s = start c in handsets_fit s.args.image.now s.pre.accepted s.args.h s.pre.header
 
 sub-count-groups-2 : tie.Need-overflow-sub-count-groups-2
 sub-count-groups-2 c = omega arith
@@ -89,7 +89,7 @@ returns c =
     let g = tallied roles in
     let s = counting-start g in
     filled_same
-    (text-held s.pre counts.Counts-of.result roles.count-roles.result _ _ _ counts.Counts-of.ensures g.count-groups.ensures.0 g.count-groups.ensures.1 roles.count-roles.ensures)
+    (text_held s.pre counts.Counts-of.result roles.count-roles.result _ _ _ counts.Counts-of.ensures g.count-groups.ensures.0 g.count-groups.ensures.1 roles.count-roles.ensures)
     w.write-text.ensures
 
 pub report-groups-spec : {M : Type 1} → statement M

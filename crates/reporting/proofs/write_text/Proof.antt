@@ -9,7 +9,7 @@ use Rattle.rows.proofs.Listing.{members_small}
 use Rattle.lines.specs.Lines.{table_text}
 use Rattle.lines.specs.ForProofs.{most_bytes}
 use Rattle.lines.proofs.Lengths.{text_most}
-use Rattle.reporting.proofs.Answers.{filled-written, filled-refused}
+use Rattle.reporting.proofs.Answers.{filled_written, filled_refused}
 use Rattle.reporting.proofs.write_text.Statement.{statement}
 use Rattle.reporting.proofs.write_text.Tie as tie
 
@@ -65,10 +65,10 @@ returns : tie.Need-returns
 returns c =
     let w = c.before.before in
     let test = w.before.before in
-    filled-written (small (start test.before)) ((fits test.before).0 test.if2.true) w.put-report2.ensures
+    filled_written (small (start test.before)) ((fits test.before).0 test.if2.true) w.put-report2.ensures
 
 returns-2 : tie.Need-returns-2
-returns-2 c = filled-refused ((fits c.before).1 c.if2.false)
+returns-2 c = filled_refused ((fits c.before).1 c.if2.false)
 
 pub write-text-spec : {M : Type 1} → statement M
 write-text-spec =

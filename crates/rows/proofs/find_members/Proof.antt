@@ -5,7 +5,7 @@ use native.Mathlib.Omega.{arith}
 use mathlib.Core.Path.{◌≡◌, subst}
 use Rattle.rows.specs.Rows.{rows_of}
 use Rattle.rows.specs.Rows.{MembersFound}
-use Rattle.rows.proofs.Rows.{found_none, found-more}
+use Rattle.rows.proofs.Rows.{found_none, found_more}
 use Rattle.rows.proofs.find_members.Statement.{statement}
 use Rattle.rows.proofs.find_members.Tie as tie
 
@@ -38,7 +38,7 @@ loop-less c = omega (arith, c.before.before.before.before.loop-test.true)
 loop-again : tie.Need-loop-preserved invariant-loop decreases-loop
 loop-again c =
     let l = c.before.before.before.before.before.loop in
-    (omega arith, found-more _ l.k l.once l.twice _ _ l.invariant.1 c.add_row.ensures)
+    (omega arith, found_more _ l.k l.once l.twice _ _ l.invariant.1 c.add_row.ensures)
 
 returns : tie.Need-returns invariant-loop decreases-loop
 returns c =

@@ -7,14 +7,14 @@ use lib.Dec.{T}
 use Rattle.sets.specs.Below.{any}
 use Rattle.rows.specs.Rows.{rows_of}
 use Rattle.rows.specs.Rows.{first_meeting}
-use Rattle.rows.proofs.Rows.{meetsAt, first_found, first-none, none_before, none-next}
+use Rattle.rows.proofs.Rows.{meets_at, first_found, first_none, none_before, none_next}
 use borrow.Author.Rules.{rules}
 use Rattle.rows.proofs.first_meeting.Statement.{statement}
 use Rattle.rows.proofs.first_meeting.Tie as tie
 
 abbrev invariant-loop : tie.invariant-loop
 invariant-loop rows count set groups k₀ k =
-    (k ≤ groups) × T (not (any k (meetsAt set rows groups)))
+    (k ≤ groups) × T (not (any k (meets_at set rows groups)))
 
 abbrev decreases-loop : tie.decreases-loop
 decreases-loop rows count set groups k₀ k = groups - k
@@ -49,7 +49,7 @@ loop-again c =
     let l = t.before.before.before.before.loop in
     let b = t.before.before.before.before.before in
     let a = b.before.args in
-    (omega arith, none-next a.set.now a.rows.now b.smaller.result l.k l.invariant.1 (sym t.row-meets.ensures ∙ c.if1.false))
+    (omega arith, none_next a.set.now a.rows.now b.smaller.result l.k l.invariant.1 (sym t.row-meets.ensures ∙ c.if1.false))
 
 returns-2 : tie.Need-returns-2 invariant-loop decreases-loop
 returns-2 c =
@@ -57,9 +57,9 @@ returns-2 c =
     let b = c.before.before in
     let a = b.before.args in
     let e : l.k ≡ b.smaller.result = omega arith in
-    let none : T (not (any b.smaller.result (meetsAt a.set.now a.rows.now b.smaller.result))) =
-    subst (λ (n : ℕ). T (not (any n (meetsAt a.set.now a.rows.now b.smaller.result)))) e l.invariant.1 in
-    e ∙ sym (first-none a.set.now a.rows.now b.smaller.result none)
+    let none : T (not (any b.smaller.result (meets_at a.set.now a.rows.now b.smaller.result))) =
+    subst (λ (n : ℕ). T (not (any n (meets_at a.set.now a.rows.now b.smaller.result)))) e l.invariant.1 in
+    e ∙ sym (first_none a.set.now a.rows.now b.smaller.result none)
     ∙ ap (λ (n : ℕ). first_meeting a.set.now (rows_of a.rows.now n)) b.smaller.ensures
 
 pub first-meeting-spec : {M : Type 1} → statement M

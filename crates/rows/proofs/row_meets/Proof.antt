@@ -6,7 +6,7 @@ use mathlib.Core.Path.{◌≡◌, ap, ◌∙◌}
 use mathlib.Core.Bool.{not}
 use lib.Dec.{eqb}
 use Rattle.sets.specs.Below.{any}
-use Rattle.rows.proofs.Rows.{common, meets-none, meets_word, meets-row}
+use Rattle.rows.proofs.Rows.{common, meets_none, meets_word, meets_row}
 use Rattle.rows.proofs.row_meets.Statement.{statement}
 use Rattle.rows.proofs.row_meets.Tie as tie
 
@@ -25,7 +25,7 @@ abbrev loop : tie.After-shared-slice-known2 invariant-loop decreases-loop → ti
 loop c = c.before.before.before
 
 loop-holds : tie.Need-loop-init invariant-loop decreases-loop
-loop-holds c = let a = c.args in (omega arith, meets-none a.set.now a.rows.now a.k)
+loop-holds c = let a = c.args in (omega arith, meets_none a.set.now a.rows.now a.k)
 
 mul-both : tie.Need-overflow-mul-both invariant-loop decreases-loop
 mul-both c = omega (arith, (start c.before).pre.1)
@@ -65,7 +65,7 @@ returns c =
     let l = c.before.loop in
     let a = (start c.before).args in
     let e : l.j ≡ 8 = omega arith in
-    meets-row a.set.now a.rows.now a.k l.both (l.invariant.1 ∙ ap (λ (j : ℕ). not (any (j * 64) (common a.set.now a.rows.now a.k))) e)
+    meets_row a.set.now a.rows.now a.k l.both (l.invariant.1 ∙ ap (λ (j : ℕ). not (any (j * 64) (common a.set.now a.rows.now a.k))) e)
 
 pub row-meets-spec : {M : Type 1} → statement M
 row-meets-spec =

@@ -19,8 +19,8 @@ abbrev refused : tie.After-known-told2 → tie.After-tally-list
 refused c = c.before.before.before
 
 -- the tally's answer
-tallied-is : (c : tie.After-tally-list) → (let a = (start c).args in c.tally-list.result ≡ tallied_of a.image.now a.list.now)
-tallied-is c = tally_same _ _ c.tally-list.ensures
+tallied_is : (c : tie.After-tally-list) → (let a = (start c).args in c.tally-list.result ≡ tallied_of a.image.now a.list.now)
+tallied_is c = tally_same _ _ c.tally-list.ensures
 
 tally-list-requires : tie.Need-tally-list-requires
 tally-list-requires c κs = tt
@@ -38,11 +38,11 @@ returns : tie.Need-returns
 unfolding scored_of
 returns c =
     let k = c.before in
-    ap score_answer (ap S.Of c.scores-of.ensures ∙ ap scored_for (sym k.before.tallied.given.1 ∙ tallied-is (listed k)))
+    ap score_answer (ap S.Of c.scores-of.ensures ∙ ap scored_for (sym k.before.tallied.given.1 ∙ tallied_is (listed k)))
 
 returns-2 : tie.Need-returns-2
 unfolding scored_of
-returns-2 c = ap score_answer (ap scored_for (sym c.before.tallied2.given.1 ∙ tallied-is (refused c)))
+returns-2 c = ap score_answer (ap scored_for (sym c.before.tallied2.given.1 ∙ tallied_is (refused c)))
 
 pub score-list-spec : {M : Type 1} → statement M
 score-list-spec =

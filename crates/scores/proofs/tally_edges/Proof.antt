@@ -12,7 +12,7 @@ use Rattle.image.specs.Image.{end_a, end_b}
 use Rattle.community.specs.Scores.{every_edge, just_one}
 use Rattle.scores.specs.ForProofs.{joined_sum, leaving_sum}
 use Rattle.sets.proofs.Counting.{bit_le}
-use Rattle.scores.proofs.Entries.{joined-none, leaving-none, joined-more, leaving-more, joined-le, leaving-le, ties-le}
+use Rattle.scores.proofs.Entries.{joined_none, leaving_none, joined_more, leaving_more, joined_le, leaving_le, ties_le}
 use Rattle.scores.proofs.tally_edges.Statement.{statement}
 use Rattle.scores.proofs.tally_edges.Tie as tie
 
@@ -46,25 +46,25 @@ abbrev b-of : tie.After-at-or-zero2 invariant-loop decreases-loop → ℕ
 b-of c = c.at-or-zero2.result
 
 -- the ends that are read are those of edge k
-ends-are : (c : tie.After-at-or-zero2 invariant-loop decreases-loop)
+ends_are : (c : tie.After-at-or-zero2 invariant-loop decreases-loop)
     → (let l = turn c in let e = (read c).ends_at.result in (e.a ≡ end_a (edges-of l) l.loop.k) × (e.b ≡ end_b (edges-of l) l.loop.k))
-ends-are c = let e = (read c).ends_at.ensures in (ap (λ (x : Ends). x.a) e, ap (λ (x : Ends). x.b) e)
+ends_are c = let e = (read c).ends_at.ensures in (ap (λ (x : Ends). x.a) e, ap (λ (x : Ends). x.b) e)
 
 -- the two counts are what the table holds for the two ends
 a-is : (c : tie.After-at-or-zero2 invariant-loop decreases-loop) → (let l = turn c in a-of c ≡ get_or (table_of l) (end_a (edges-of l) l.loop.k) 0)
-a-is c = c.before.at-or-zero.ensures ∙ ap (λ (v : ℕ). get_or (table_of (turn c)) v 0) (ends-are c).0
+a-is c = c.before.at-or-zero.ensures ∙ ap (λ (v : ℕ). get_or (table_of (turn c)) v 0) (ends_are c).0
 
 b-is : (c : tie.After-at-or-zero2 invariant-loop decreases-loop) → (let l = turn c in b-of c ≡ get_or (table_of l) (end_b (edges-of l) l.loop.k) 0)
-b-is c = c.at-or-zero2.ensures ∙ ap (λ (v : ℕ). get_or (table_of (turn c)) v 0) (ends-are c).1
+b-is c = c.at-or-zero2.ensures ∙ ap (λ (v : ℕ). get_or (table_of (turn c)) v 0) (ends_are c).1
 
 small : (c : tie.After-at-or-zero2 invariant-loop decreases-loop) → a-of c * b-of c ≤ 262144
 small c =
     let l = turn c in
-    omega (arith, ap₂ ◌*◌ (a-is c) (b-is c), ties-le (table_of l) (edges-of l) every_edge (start l).pre.1 l.loop.k)
+    omega (arith, ap₂ ◌*◌ (a-is c) (b-is c), ties_le (table_of l) (edges-of l) every_edge (start l).pre.1 l.loop.k)
 
 -- ---- the answers
 loop-holds : tie.Need-loop-init invariant-loop decreases-loop
-loop-holds c = (omega arith, sym (joined-none _ _ every_edge), sym (leaving-none _ _ every_edge))
+loop-holds c = (omega arith, sym (joined_none _ _ every_edge), sym (leaving_none _ _ every_edge))
 
 ends-at-requires : tie.Need-ends-at-requires invariant-loop decreases-loop
 ends-at-requires c κs = tt
@@ -81,7 +81,7 @@ mul-joined c = omega (arith, small c)
 add-joined : tie.Need-overflow-add-joined invariant-loop decreases-loop
 add-joined c =
     let l = turn c in
-    omega (arith, small c, l.loop.inv.1, joined-le (table_of l) (edges-of l) every_edge (start l).pre.1 l.loop.k, (start l).pre.0)
+    omega (arith, small c, l.loop.inv.1, joined_le (table_of l) (edges-of l) every_edge (start l).pre.1 l.loop.k, (start l).pre.0)
 
 just-one-requires : tie.Need-just-one-requires invariant-loop decreases-loop
 just-one-requires c κs = tt
@@ -92,7 +92,7 @@ add-leaving c =
     omega (
       arith,
       l.loop.inv.2,
-      leaving-le (table_of l) (edges-of l) every_edge l.loop.k,
+      leaving_le (table_of l) (edges-of l) every_edge l.loop.k,
       (start l).pre.0,
       c.just-one.ensures,
       bit_le (just_one (leb 1 (a-of c.before)) (leb 1 (b-of c.before))),
@@ -109,9 +109,9 @@ loop-again c =
     let d = c.before in
     let l = turn d in (
       omega arith,
-      ap₂ ◌+◌ l.loop.inv.1 (ap₂ ◌*◌ (a-is d) (b-is d)) ∙ sym (joined-more (table_of l) (edges-of l) every_edge l.loop.k),
+      ap₂ ◌+◌ l.loop.inv.1 (ap₂ ◌*◌ (a-is d) (b-is d)) ∙ sym (joined_more (table_of l) (edges-of l) every_edge l.loop.k),
       ap₂ ◌+◌ l.loop.inv.2 (c.just-one.ensures ∙ ap₂ (λ (x y : ℕ). bit (just_one (leb 1 x) (leb 1 y))) (a-is d) (b-is d))
-          ∙ sym (leaving-more (table_of l) (edges-of l) every_edge l.loop.k),
+          ∙ sym (leaving_more (table_of l) (edges-of l) every_edge l.loop.k),
     )
 
 returns : tie.Need-returns invariant-loop decreases-loop

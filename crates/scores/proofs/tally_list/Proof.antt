@@ -19,8 +19,8 @@ use Rattle.scores.specs.Answers.{tally_answer}
 use Rattle.scores.specs.ForProofs.{tally_at}
 use Rattle.scores.specs.declared.Tally.{Tally}
 use Rattle.scores.specs.declared.Tallied.TheVariants as T
-use Rattle.scores.proofs.Entries.{listed, entries-no, none_bad, entries-yes}
-use Rattle.scores.proofs.Tallying.{site-fits, site-tallied, site_refused}
+use Rattle.scores.proofs.Entries.{listed, entries_no, none_bad, entries_yes}
+use Rattle.scores.proofs.Tallying.{site_fits, site_tallied, site_refused}
 use borrow.Author.Rules.{rules}
 use Rattle.scores.proofs.tally_list.Statement.{statement}
 use Rattle.scores.proofs.tally_list.Tie as tie
@@ -52,15 +52,15 @@ abbrev tally : tie.After-known-told → Tally
 tally c = let h = header c in tally_at (edge_slice (image-of (read c)) h) h.m every_edge (list_of (read c))
 
 -- the reader's answer
-opened-is : (c : tie.After-open) → c.open.result ≡ open_of (image-of c)
-opened-is c = open_same _ _ c.open.ensures
+opened_is : (c : tie.After-open) → c.open.result ≡ open_of (image-of c)
+opened_is c = open_same _ _ c.open.ensures
 
 answered : (c : tie.After-known-told) → open_of (image-of (read c)) ≡ O.Site (header c)
-answered c = sym (opened-is (read c)) ∙ c.before.opened.given.1
+answered c = sym (opened_is (read c)) ∙ c.before.opened.given.1
 
 -- the bounds of its header
 fits : (c : tie.After-known-told) → (let h = header c in (h.edges + edge_bytes * h.m ≤ length (image-of (read c))) × (h.m ≤ edges_most) × (h.n ≤ handsets_most))
-fits c = site-fits (image-of (read c)) (header c) (answered c)
+fits c = site_fits (image-of (read c)) (header c) (answered c)
 
 -- where the scan of the entries stopped
 scanned : (c : tie.After-first-bad-entry)
@@ -84,7 +84,7 @@ returns : tie.Need-returns
 returns c =
     let t = c.before.enum_told.given.1 in
     let o = c.before.before.before in
-    ap tally_answer (ap T.Refused (c.refusal-of.ensures ∙ ap refusal_of t) ∙ sym (site_refused (image-of o) _ (list_of o) (sym (opened-is o) ∙ t)))
+    ap tally_answer (ap T.Refused (c.refusal-of.ensures ∙ ap refusal_of t) ∙ sym (site_refused (image-of o) _ (list_of o) (sym (opened_is o) ∙ t)))
 
 cast-first-bad-entry : tie.Need-overflow-cast-first-bad-entry
 cast-first-bad-entry c = search rules
@@ -96,7 +96,7 @@ returns-2 : tie.Need-returns-2
 returns-2 c =
     let k = known c.before in
     let l = list_of (read k) in
-    ap tally_answer (entries-no (header k).n l (tally k) _ (scanned c.before) c.if1.true ∙ site-tallied (image-of (read k)) (header k) (answered k) l)
+    ap tally_answer (entries_no (header k).n l (tally k) _ (scanned c.before) c.if1.true ∙ site_tallied (image-of (read k)) (header k) (answered k) l)
 
 cast-m : tie.Need-overflow-cast-m
 cast-m c = search rules
@@ -135,7 +135,7 @@ returns-3 c =
     let s = image-of (read k) in
     let l = list_of (read k) in
     ap tally_answer
-    (ap T.Of c.tally-listed.ensures ∙ entries-yes h.n l (tally k) _ (scanned g.before) g.if1.left ∙ site-tallied s h (answered k) l)
+    (ap T.Of c.tally-listed.ensures ∙ entries_yes h.n l (tally k) _ (scanned g.before) g.if1.left ∙ site_tallied s h (answered k) l)
 
 pub tally-list-spec : {M : Type 1} → statement M
 tally-list-spec =

@@ -9,7 +9,7 @@ use lib.ListN.{length, set, length-set}
 use Rattle.sets.specs.Below.{sum}
 use Rattle.sets.specs.Bits.{bit_at}
 use Rattle.sets.proofs.Bits.{length_without_bit}
-use Rattle.search.proofs.Growth.{Growing, growing_start, growing-on, growing-falls, growing-end}
+use Rattle.search.proofs.Growth.{Growing, growing_start, growing_on, growing_falls, growing_end}
 use Rattle.search.proofs.collect.Statement.{statement}
 use Rattle.search.proofs.collect.Tie as tie
 
@@ -20,8 +20,8 @@ abbrev decreases-loop : tie.decreases-loop
 decreases-loop table left₀ u set₀ w₀ left set w = sum 512 (bit_at left)
 
 -- the places that the answers speak of
-abbrev row-added : tie.After-unmark invariant-loop decreases-loop → tie.After-join-row invariant-loop decreases-loop
-row-added c = c.before.before.before
+abbrev row_added : tie.After-unmark invariant-loop decreases-loop → tie.After-join-row invariant-loop decreases-loop
+row_added c = c.before.before.before
 
 abbrev begun : tie.After-join-row invariant-loop decreases-loop → tie.Start invariant-loop decreases-loop
 begun c = c.before.before.before.before
@@ -30,7 +30,7 @@ abbrev taken_out : tie.After-first-common-arg invariant-loop decreases-loop → 
 taken_out c = c.before.before.before.before
 
 abbrev start : tie.At-loop invariant-loop decreases-loop → tie.Start invariant-loop decreases-loop
-start l = begun (row-added (taken_out l.before.before))
+start l = begun (row_added (taken_out l.before.before))
 
 -- what is left when u is taken out
 abbrev without-u : tie.At-loop invariant-loop decreases-loop → List ℕ
@@ -55,7 +55,7 @@ left_size i x = let l = i.before.loop in length-set l.left (l.w / 64) x ∙ l.in
 
 -- so is left without u
 left_out : (m : tie.After-unmark invariant-loop decreases-loop) → length m.unmark.new.0 ≡ 8
-left_out m = let s = begun (row-added m) in ap length m.unmark.ensures ∙ length_without_bit s.args.left.now s.args.u ∙ s.pre.1
+left_out m = let s = begun (row_added m) in ap length m.unmark.ensures ∙ length_without_bit s.args.left.now s.args.u ∙ s.pre.1
 
 slice-aggregate-join-row : tie.Need-slice-aggregate-join-row invariant-loop decreases-loop
 slice-aggregate-join-row c = refl
@@ -67,17 +67,17 @@ unmark-requires : tie.Need-unmark-requires invariant-loop decreases-loop
 unmark-requires c κs = search rules
 
 slice-aggregate-first-common : tie.Need-slice-aggregate-first-common invariant-loop decreases-loop
-slice-aggregate-first-common c = sym (row-added c.before.before.before).join-row.ensures.size
+slice-aggregate-first-common c = sym (row_added c.before.before.before).join-row.ensures.size
 
 first-common-requires : tie.Need-first-common-requires invariant-loop decreases-loop
 first-common-requires c κs =
     let m = taken_out c in
-    ((row-added m).join-row.ensures.size, left_out m)
+    ((row_added m).join-row.ensures.size, left_out m)
 
 loop-holds : tie.Need-loop-init invariant-loop decreases-loop
 loop-holds c =
     let m = taken_out c.before in
-    let r = row-added m in
+    let r = row_added m in
     let a = (begun r).args in
     growing_start a.table.now m.unmark.last.0 a.u r.join-row.last.1.1.0 c.first-common.result (left_out m) r.join-row.ensures
     c.first-common.ensures
@@ -128,7 +128,7 @@ loop-less c =
     let i = turn (joined c.before).before in
     let l = i.before.loop in
     let a = (start i.before).args in
-    growing-falls a.table.now (without-u i.before) a.u l.set l.left l.w l.inv (within i)
+    growing_falls a.table.now (without-u i.before) a.u l.set l.left l.w l.inv (within i)
 
 loop-again : tie.Need-loop-preserved invariant-loop decreases-loop
 loop-again c =
@@ -136,7 +136,7 @@ loop-again c =
     let i = turn j.before in
     let l = i.before.loop in
     let a = (start i.before).args in
-    growing-on a.table.now (without-u i.before) a.u l.set l.left l.w l.inv (within i) j.join-all.last.1.1.1.0 c.first-common2.result
+    growing_on a.table.now (without-u i.before) a.u l.set l.left l.w l.inv (within i) j.join-all.last.1.1.1.0 c.first-common2.result
     j.join-all.ensures c.first-common2.ensures
 
 same_length : tie.Need-same-length invariant-loop decreases-loop
@@ -147,7 +147,7 @@ returns c =
     let l = c.before.loop in
     let s = start c.before in
     let a = s.args in
-    growing-end a.table.now a.left.now a.u l.set l.left l.w
+    growing_end a.table.now a.left.now a.u l.set l.left l.w
     (subst (λ (x : List ℕ). Growing a.table.now x a.u l.set l.left l.w) (taken_out c.before.before.before).unmark.ensures l.invariant)
     (omega (arith, c.loop-test.false)) s.pre.1 s.pre.2
 

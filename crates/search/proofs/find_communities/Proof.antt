@@ -10,7 +10,7 @@ use Rattle.sets.specs.Below.{sum}
 use Rattle.sets.specs.Bits.{bit_at}
 use Rattle.sets.proofs.Tests.{eqb_of}
 use Rattle.search.specs.Search.{Sized}
-use Rattle.search.proofs.Closures.{Finding, finding-start, finding-falls, finding-on, finding-end}
+use Rattle.search.proofs.Closures.{Finding, finding_start, finding_falls, finding_on, finding_end}
 use Rattle.search.proofs.find_communities.Statement.{statement}
 use Rattle.search.proofs.find_communities.Tie as tie
 
@@ -92,7 +92,7 @@ loop-holds : tie.Need-loop-init invariant-loop decreases-loop
 loop-holds c =
     let j = copied c.before in
     let a = (start (passed j)).args in
-    finding-start a.table.now a.cores.now j.join-row.last.1.1.0 c.first-common.result j.join-row.ensures c.first-common.ensures
+    finding_start a.table.now a.cores.now j.join-row.last.1.1.0 c.first-common.result j.join-row.ensures c.first-common.ensures
 
 slice-aggregate-collect : tie.Need-slice-aggregate-collect invariant-loop decreases-loop
 slice-aggregate-collect c = sym c.before.before.before.loop.invariant.left_size
@@ -131,7 +131,7 @@ loop-less c =
     let i = turn r in
     let l = i.before.loop in
     let a = (start (sized-place i.before)).args in
-    finding-falls a.table.now a.cores.now l.table l.left l.k l.u l.inv i.loop-test.taken r.collect.last.1.0 r.collect.result
+    finding_falls a.table.now a.cores.now l.table l.left l.k l.u l.inv i.loop-test.taken r.collect.last.1.0 r.collect.result
     r.collect.ensures
 
 loop-again : tie.Need-loop-preserved invariant-loop decreases-loop
@@ -141,7 +141,7 @@ loop-again c =
     let i = turn r in
     let l = i.before.loop in
     let a = (start (sized-place i.before)).args in
-    finding-on a.table.now a.cores.now l.table l.left l.k l.u l.inv i.loop-test.taken r.collect.last.1.0 r.collect.result
+    finding_on a.table.now a.cores.now l.table l.left l.k l.u l.inv i.loop-test.taken r.collect.last.1.0 r.collect.result
     r.collect.ensures s.store-row.last.0 c.first-common2.result (left_size r) s.store-row.ensures c.first-common2.ensures
 
 same_length : tie.Need-same-length invariant-loop decreases-loop
@@ -152,7 +152,7 @@ returns-2 c =
     let l = c.before.loop in
     let e = sized-place c.before in
     let a = (start e).args in record {
-      searched = λ s. finding-end a.table.now a.cores.now l.table l.left l.k l.u l.invariant c.loop-test.false;
+      searched = λ s. finding_end a.table.now a.cores.now l.table l.left l.k l.u l.invariant c.loop-test.false;
       left_alone = λ n. absurd (n (sized e));
     }
 

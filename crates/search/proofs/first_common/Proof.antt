@@ -7,7 +7,7 @@ use lib.Count.{count_trailing_zeros}
 use lib.ListN.{get_or}
 use native.Mathlib.Omega.{arith}
 use Rattle.sets.proofs.Lowest.{Lowest, lowest}
-use Rattle.search.proofs.Growth.{NoneCommon, none_more, common-found}
+use Rattle.search.proofs.Growth.{NoneCommon, none_more, common_found}
 use Rattle.search.proofs.first_common.Statement.{statement}
 use Rattle.search.proofs.first_common.Tie as tie
 
@@ -64,7 +64,7 @@ returns : tie.Need-returns invariant-loop decreases-loop
 returns c =
     let l = loop c.before in
     let a = l.before.args in
-    common-found a.a.now a.b.now l.loop.j l.loop.inv.1 (omega arith)
+    common_found a.a.now a.b.now l.loop.j l.loop.inv.1 (omega arith)
     (count_trailing_zeros 64 (bit_and (get_or a.a.now l.loop.j 0) (get_or a.b.now l.loop.j 0))) (low c).0 (low c).1
 
 add-j : tie.Need-overflow-add-j invariant-loop decreases-loop

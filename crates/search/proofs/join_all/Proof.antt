@@ -7,8 +7,8 @@ use borrow.Author.Rules.{rules}
 use lib.Count.{count_trailing_zeros}
 use Rattle.sets.specs.Below.{sum}
 use Rattle.sets.specs.Bits.{bit_of}
-use Rattle.sets.proofs.Lowest.{Lowest, lowest, cleared-falls}
-use Rattle.search.proofs.Growth.{Adding, adding-start, adding-on, adding-end}
+use Rattle.sets.proofs.Lowest.{Lowest, lowest, cleared_falls}
+use Rattle.search.proofs.Growth.{Adding, adding_start, adding_on, adding_end}
 use Rattle.search.proofs.join_all.Statement.{statement}
 use Rattle.search.proofs.join_all.Tie as tie
 
@@ -38,7 +38,7 @@ first i = lowest 64 i.before.loop.w (omega (arith, i.loop-test.true)) i.before.l
 loop-holds : tie.Need-loop-init invariant-loop decreases-loop
 loop-holds c =
     let s = c.before.before in
-    adding-start s.args.table.now s.args.word s.args.base s.args.set.now s.ranges.word.fits s.requires.2
+    adding_start s.args.table.now s.args.word s.args.base s.args.set.now s.ranges.word.fits s.requires.2
 
 cast-join-row : tie.Need-overflow-cast-join-row invariant-loop decreases-loop
 cast-join-row c = omega (arith, (first c).0)
@@ -59,14 +59,14 @@ sub-w c = search rules
 loop-less : tie.Need-loop-smaller invariant-loop decreases-loop
 loop-less c =
     let i = turn (joined c) in
-    cleared-falls i.before.loop.w (place i) (first i).1 (first i).0
+    cleared_falls i.before.loop.w (place i) (first i).1 (first i).0
 
 loop-again : tie.Need-loop-preserved invariant-loop decreases-loop
 loop-again c =
     let i = turn (joined c) in
     let l = i.before.loop in
     let a = (start i.before).args in
-    adding-on a.table.now a.word a.base a.set.now l.w l.set l.inv (place i) (joined c).join-row.new.1.1.0 (first i).0 (first i).1
+    adding_on a.table.now a.word a.base a.set.now l.w l.set l.inv (place i) (joined c).join-row.new.1.1.0 (first i).0 (first i).1
     (joined c).join-row.ensures
 
 same_length : tie.Need-same-length invariant-loop decreases-loop
@@ -76,7 +76,7 @@ returns : tie.Need-returns invariant-loop decreases-loop
 returns c =
     let l = c.before.loop in
     let a = (start c.before).args in
-    adding-end a.table.now a.word a.base a.set.now l.w l.set l.invariant (omega (arith, c.loop-test.false))
+    adding_end a.table.now a.word a.base a.set.now l.w l.set l.invariant (omega (arith, c.loop-test.false))
 
 pub join-all-spec : {M : Type 1} → statement M
 join-all-spec =

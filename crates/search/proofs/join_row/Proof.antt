@@ -3,7 +3,7 @@
 use Prim.Native.Nat.{◌-◌}
 use mathlib.Core.Path.{◌∙◌, sym}
 use native.Mathlib.Omega.{arith}
-use Rattle.search.proofs.Growth.{Joining, joining-start, joining-on, joining-end}
+use Rattle.search.proofs.Growth.{Joining, joining_start, joining_on, joining_end}
 use Rattle.search.proofs.join_row.Statement.{statement}
 use Rattle.search.proofs.join_row.Tie as tie
 
@@ -21,7 +21,7 @@ abbrev turn : tie.After-slice-known invariant-loop decreases-loop → tie.In-loo
 turn c = c.before
 
 loop-holds : tie.Need-loop-init invariant-loop decreases-loop
-loop-holds c = joining-start c.args.table.now c.args.u c.args.set.now c.requires.2
+loop-holds c = joining_start c.args.table.now c.args.u c.args.set.now c.requires.2
 
 mul-set : tie.Need-overflow-mul-set invariant-loop decreases-loop
 mul-set c = omega (arith, c.loop-test.true)
@@ -58,7 +58,7 @@ loop-again c =
     let i = turn c.before in
     let l = i.before.loop in
     let a = (start i.before).args in
-    joining-on a.table.now a.u a.set.now l.set l.j l.inv i.loop-test.taken
+    joining_on a.table.now a.u a.set.now l.set l.j l.inv i.loop-test.taken
 
 same_length : tie.Need-same-length invariant-loop decreases-loop
 same_length c = c.before.loop.invariant.size ∙ sym (start c.before).pre.2
@@ -67,7 +67,7 @@ returns : tie.Need-returns invariant-loop decreases-loop
 returns c =
     let l = c.before.loop in
     let a = (start c.before).args in
-    joining-end a.table.now a.u a.set.now l.set l.j l.invariant c.loop-test.false
+    joining_end a.table.now a.u a.set.now l.set l.j l.invariant c.loop-test.false
 
 pub join-row-spec : {M : Type 1} → statement M
 join-row-spec =

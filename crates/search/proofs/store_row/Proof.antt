@@ -2,7 +2,7 @@
 -- words left.
 use Prim.Native.Nat.{◌-◌}
 use native.Mathlib.Omega.{arith}
-use Rattle.search.proofs.Growth.{Storing, storing-start, storing-on, storing-end}
+use Rattle.search.proofs.Growth.{Storing, storing_start, storing_on, storing_end}
 use Rattle.search.proofs.store_row.Statement.{statement}
 use Rattle.search.proofs.store_row.Tie as tie
 
@@ -20,7 +20,7 @@ abbrev turn : tie.After-shared-slice-known invariant-loop decreases-loop → tie
 turn c = c.before
 
 loop-holds : tie.Need-loop-init invariant-loop decreases-loop
-loop-holds c = storing-start c.args.rows.now c.args.k c.args.set.now
+loop-holds c = storing_start c.args.rows.now c.args.k c.args.set.now
 
 mul-rows : tie.Need-overflow-mul-rows invariant-loop decreases-loop
 mul-rows c = omega (arith, c.loop-test.true)
@@ -54,7 +54,7 @@ loop-again c =
     let i = turn c in
     let l = i.before.loop in
     let s = start i.before in
-    storing-on s.args.rows.now s.args.k s.args.set.now l.rows l.j l.inv i.loop-test.taken (omega (arith, s.pre.0, s.pre.1))
+    storing_on s.args.rows.now s.args.k s.args.set.now l.rows l.j l.inv i.loop-test.taken (omega (arith, s.pre.0, s.pre.1))
 
 same_length : tie.Need-same-length invariant-loop decreases-loop
 same_length c = c.before.loop.invariant.size
@@ -63,7 +63,7 @@ returns : tie.Need-returns invariant-loop decreases-loop
 returns c =
     let l = c.before.loop in
     let a = (start c.before).args in
-    storing-end a.rows.now a.k a.set.now l.rows l.j l.invariant c.loop-test.false
+    storing_end a.rows.now a.k a.set.now l.rows l.j l.invariant c.loop-test.false
 
 pub store-row-spec : {M : Type 1} → statement M
 store-row-spec =

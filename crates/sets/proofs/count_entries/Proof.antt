@@ -7,7 +7,7 @@ use mathlib.Core.Logic.{⊎_elim}
 use mathlib.Core.List.{List}
 use lib.ListN.{length, get_or, length-set, length-replicate}
 use borrow.Author.Rules.{rules}
-use Rattle.sets.proofs.Entries.{counted_to, counted_none, counted-more, counted-past, counted-room, counted-all}
+use Rattle.sets.proofs.Entries.{counted_to, counted_none, counted_more, counted_past, counted_room, counted_all}
 use Rattle.sets.proofs.count_entries.Statement.{statement}
 use Rattle.sets.proofs.count_entries.Tie as tie
 
@@ -52,7 +52,7 @@ add-table : tie.Need-overflow-add-table invariant-loop decreases-loop
 add-table c =
     let turn = c.before.before.before in
     let l = turn.before.loop in
-    omega (arith, counted-room (list_of turn) l.table l.i l.invariant.2 (omega (arith, (bounded turn).smaller.ensures)) (get_or (list_of turn) l.i 0) (omega (arith, c.before.if1.true)))
+    omega (arith, counted_room (list_of turn) l.table l.i l.invariant.2 (omega (arith, (bounded turn).smaller.ensures)) (get_or (list_of turn) l.i 0) (omega (arith, c.before.if1.true)))
 
 mul-table-2 : tie.Need-overflow-mul-table-2 invariant-loop decreases-loop
 mul-table-2 c = omega (arith, entry c.before.before)
@@ -71,15 +71,15 @@ loop-again c =
     let turn = c.before.before in
     let l = turn.before.loop in
     ⊎_elim
-    (λ p. (omega arith, ap length p.2 ∙ length-set l.table _ _ ∙ l.invariant.1, rw p.2 (counted-more (list_of turn) l.table l.i l.invariant.2 l.invariant.1 (omega (arith, p.0.taken)))))
-    (λ p. (omega arith, ap length p.1 ∙ l.invariant.1, rw p.1 (counted-past (list_of turn) l.table l.i l.invariant.2 (omega (arith, p.0.left)))))
+    (λ p. (omega arith, ap length p.2 ∙ length-set l.table _ _ ∙ l.invariant.1, rw p.2 (counted_more (list_of turn) l.table l.i l.invariant.2 l.invariant.1 (omega (arith, p.0.taken)))))
+    (λ p. (omega arith, ap length p.1 ∙ l.invariant.1, rw p.1 (counted_past (list_of turn) l.table l.i l.invariant.2 (omega (arith, p.0.left)))))
     c.if1.branch
 
 returns : tie.Need-returns invariant-loop decreases-loop
 returns c =
     let l = c.before.loop in
     let b = c.before.before.before in
-    counted-all b.before.before.args.list.now l.table l.i l.invariant.2 l.invariant.1 (omega (arith, b.smaller.ensures))
+    counted_all b.before.before.args.list.now l.table l.i l.invariant.2 l.invariant.1 (omega (arith, b.smaller.ensures))
 
 pub count-entries-spec : {M : Type 1} → statement M
 count-entries-spec =

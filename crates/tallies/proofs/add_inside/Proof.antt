@@ -7,7 +7,7 @@ use lib.ListN.{length, get_or, set, length-set}
 use lib.Count.{count_trailing_zeros}
 use Rattle.sets.specs.Below.{sum}
 use Rattle.sets.specs.Bits.{bit_of}
-use Rattle.sets.proofs.Lowest.{Lowest, cleared, lowest, cleared_lt, cleared-falls}
+use Rattle.sets.proofs.Lowest.{Lowest, cleared, lowest, cleared_lt, cleared_falls}
 use Rattle.tallies.specs.ForProofs.{bit_for}
 use Rattle.tallies.proofs.Words.{bit_for_le, bit_for_at, raised_more, raised_done}
 use Rattle.tallies.proofs.Reaching.{raised_to_more, raised_to_done}
@@ -101,7 +101,7 @@ sub-w : tie.Need-overflow-sub-w invariant-loop decreases-loop
 sub-w c = search rules
 
 loop-less : tie.Need-loop-smaller invariant-loop decreases-loop
-loop-less c = let t = c.before.before.before in let f = first t in cleared-falls t.before.loop.w (lowestOf t) f.1 f.0
+loop-less c = let t = c.before.before.before in let f = first t in cleared_falls t.before.loop.w (lowestOf t) f.1 f.0
 
 loop-again : tie.Need-loop-preserved invariant-loop decreases-loop
 loop-again c =

@@ -25,9 +25,9 @@ start c = c.before.before.before
 abbrev turn : tie.After-ends-at invariant-loop decreases-loop → tie.At-loop invariant-loop decreases-loop
 turn c = c.before.before
 
-ends-are : (c : tie.After-ends-at invariant-loop decreases-loop)
+ends_are : (c : tie.After-ends-at invariant-loop decreases-loop)
     → (let l = turn c in let e = c.ends_at.result in (e.a ≡ end_a (start l).args.edges.now l.loop.k) × (e.b ≡ end_b (start l).args.edges.now l.loop.k))
-ends-are c = let e = c.ends_at.ensures in (ap (λ (x : Ends). x.a) e, ap (λ (x : Ends). x.b) e)
+ends_are c = let e = c.ends_at.ensures in (ap (λ (x : Ends). x.a) e, ap (λ (x : Ends). x.b) e)
 
 -- there is room for one more end at every handset
 room : (c : tie.In-loop invariant-loop decreases-loop) (v : ℕ) → get_or c.before.loop.degrees v 0 ≤ degree_most
@@ -66,7 +66,7 @@ loop-again c =
     let one = two.before.before.before.before in
     let r = one.before.before in
     let l = turn r in
-    let e = ends-are r in (
+    let e = ends_are r in (
       omega (arith, r.before.loop-test.true),
       degrees_more (start l).args.edges.now every_edge l.loop.k l.loop.degrees _ _ refl l.loop.inv.1 e.0 e.1 one.add-end.ensures two.add-end2.ensures,
     )

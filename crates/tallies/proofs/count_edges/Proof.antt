@@ -32,16 +32,16 @@ turn c = c.before.before
 abbrev looked : tie.After-at-or-zero2 invariant-loop decreases-loop → tie.After-ends-at invariant-loop decreases-loop
 looked c = c.before.before
 
-ends-are : (c : tie.After-ends-at invariant-loop decreases-loop)
+ends_are : (c : tie.After-ends-at invariant-loop decreases-loop)
     → (let l = turn c in let a = (start l).args in c.ends_at.result ≡ record { a = end_a a.edges.now l.loop.k; b = end_b a.edges.now l.loop.k })
-ends-are c = c.ends_at.ensures
+ends_are c = c.ends_at.ensures
 
 -- the word of the groups that it is inside
 word-is : (c : tie.After-at-or-zero2 invariant-loop decreases-loop)
     → (let l = turn (looked c) in let a = (start l).args in bit_and c.before.at-or-zero.result c.at-or-zero2.result ≡ inside_word a.words.now a.edges.now l.loop.k)
 word-is c =
     let ws = (start (turn (looked c))).args.words.now in
-    ap₂ bit_and (c.before.at-or-zero.ensures ∙ ap (λ (x : Ends). get_or ws x.a 0) (ends-are (looked c))) (c.at-or-zero2.ensures ∙ ap (λ (x : Ends). get_or ws x.b 0) (ends-are (looked c)))
+    ap₂ bit_and (c.before.at-or-zero.ensures ∙ ap (λ (x : Ends). get_or ws x.a 0) (ends_are (looked c))) (c.at-or-zero2.ensures ∙ ap (λ (x : Ends). get_or ws x.b 0) (ends_are (looked c)))
 
 loop-holds : tie.Need-loop-init invariant-loop decreases-loop
 loop-holds c =
@@ -89,7 +89,7 @@ loop-again c =
       omega (arith, r.before.loop-test.taken),
       edges_more a.words.now a.edges.now l.loop.k a.base a.tallies.now l.loop.tallies _ l.loop.inv.1 (word-is w) done.add-inside.ensures.0,
       reaches_more a.words.now a.handsets.now a.edges.now l.loop.k a.limit a.base a.reaches.now l.loop.reaches _ l.loop.inv.2 (word-is w)
-          (ap entry (ends-are r))
+          (ap entry (ends_are r))
           (raised_inside a.base inside reached.reach-inside.result (entry e) reached.reach-inside.ensures done.add-inside.ensures.1),
     )
 

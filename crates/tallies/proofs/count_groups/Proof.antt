@@ -5,7 +5,7 @@ use native.Mathlib.Omega.{arith}
 use mathlib.Core.Path.{◌≡◌, refl}
 use Rattle.community.specs.Scores.{every_edge}
 use Rattle.tallies.specs.ForProofs.{DegreesHold, Progress}
-use Rattle.tallies.proofs.Reaching.{progress_none, inside-fits, groups-counted, groups-reach}
+use Rattle.tallies.proofs.Reaching.{progress_none, inside_fits, groups_counted, groups_reach}
 use borrow.Author.Rules.{rules}
 use Rattle.tallies.proofs.count_groups.Statement.{statement}
 use Rattle.tallies.proofs.count_groups.Tie as tie
@@ -73,7 +73,7 @@ take-inside-requires c κs =
     let l = c.before.before.loop in
     let b = bounds c.before.before in
     let a = (start b).args in
-    (omega (arith, b.before.smaller2.ensures), inside-fits a.handsets.now a.edges.now _ _ a.limit a.rows.now a.count _ l.first l.tallies l.reaches b.before.smaller2.ensures c.before.loop-test.false b.before.before.smaller.ensures b.smaller3.ensures l.invariant.3)
+    (omega (arith, b.before.smaller2.ensures), inside_fits a.handsets.now a.edges.now _ _ a.limit a.rows.now a.count _ l.first l.tallies l.reaches b.before.smaller2.ensures c.before.loop-test.false b.before.before.smaller.ensures b.smaller3.ensures l.invariant.3)
 
 returns : tie.Need-returns invariant-loop decreases-loop
 returns c =
@@ -84,8 +84,8 @@ returns c =
     let few = b.before.smaller2.ensures in
     let edges = b.before.before.smaller.ensures in
     let limit = b.smaller3.ensures in (
-      groups-counted a.handsets.now a.edges.now _ _ a.limit a.rows.now a.count _ l.first l.tallies l.reaches few e.loop-test.false edges limit l.invariant.3 _ c.take-inside.ensures,
-      groups-reach a.handsets.now a.edges.now _ _ a.limit a.rows.now a.count _ l.first l.tallies l.reaches few e.loop-test.false edges limit l.invariant.3,
+      groups_counted a.handsets.now a.edges.now _ _ a.limit a.rows.now a.count _ l.first l.tallies l.reaches few e.loop-test.false edges limit l.invariant.3 _ c.take-inside.ensures,
+      groups_reach a.handsets.now a.edges.now _ _ a.limit a.rows.now a.count _ l.first l.tallies l.reaches few e.loop-test.false edges limit l.invariant.3,
     )
 
 pub count-groups-spec : {M : Type 1} → statement M

@@ -11,7 +11,7 @@ use Rattle.sets.specs.Below.{bit}
 use Rattle.sets.specs.Below as Below
 use Rattle.sets.specs.Bits.{bit_of, bit_at}
 use Rattle.sets.proofs.Bits.{length_with_bit}
-use Rattle.sets.proofs.Lowest.{Lowest, cleared, lowest, cleared_lt, cleared-falls}
+use Rattle.sets.proofs.Lowest.{Lowest, cleared, lowest, cleared_lt, cleared_falls}
 use Rattle.tallies.specs.ForProofs.{degree_sum, bit_for}
 use Rattle.tallies.proofs.Words.{bit_for_le, marked_more, marked_done}
 use Rattle.tallies.proofs.Degrees.{degree_sum_le, sum_cleared, sum_done}
@@ -84,7 +84,7 @@ sub-w : tie.Need-overflow-sub-w invariant-loop decreases-loop
 sub-w c = search rules
 
 loop-less : tie.Need-loop-smaller invariant-loop decreases-loop
-loop-less c = let t = c.before.before.before.before.before in let f = first t in cleared-falls t.before.loop.w (lowestOf t) f.1 f.0
+loop-less c = let t = c.before.before.before.before.before in let f = first t in cleared_falls t.before.loop.w (lowestOf t) f.1 f.0
 
 loop-again : tie.Need-loop-preserved invariant-loop decreases-loop
 loop-again c =

@@ -9,11 +9,11 @@ use lib.Seq.{length-sets}
 use lib.Count.{count_trailing_zeros}
 use Rattle.sets.specs.Below.{select, sum}
 use Rattle.sets.specs.Bits.{bit_of}
-use Rattle.sets.proofs.Lowest.{Lowest, lowest, cleared-falls}
+use Rattle.sets.proofs.Lowest.{Lowest, lowest, cleared_falls}
 use Rattle.text.specs.Text.{numbers}
 use Rattle.text.specs.ForProofs.{is_member, MembersWritten}
 use Rattle.text.proofs.Writing.{nothing}
-use Rattle.text.proofs.Members.{WordLeft, left_all, left_next, lowest-member, lowest-next, members_next, members-done}
+use Rattle.text.proofs.Members.{WordLeft, left_all, left_next, lowest_member, lowest_next, members_next, members_done}
 use Rattle.text.proofs.put_word.Statement.{statement}
 use Rattle.text.proofs.put_word.Tie as tie
 
@@ -75,7 +75,7 @@ loop-less : tie.Need-loop-smaller invariant-loop decreases-loop
 loop-less c =
     let turn = c.before.before.before.before in
     let l = lowest-left turn in
-    cleared-falls turn.before.loop.w (count_trailing_zeros 64 turn.before.loop.w) l.1 l.0
+    cleared_falls turn.before.loop.w (count_trailing_zeros 64 turn.before.loop.w) l.1 l.0
 
 loop-again : tie.Need-loop-preserved invariant-loop decreases-loop
 loop-again c =
@@ -86,13 +86,13 @@ loop-again c =
     let l = lowest-left turn in (
       (start (loop put)).args.j * 64 + t + 1,
       left_next inv.1 t l.0 l.1,
-      members_next ((start (loop put)).args.j * 64 + t) (omega arith) (lowest-member inv.1 t l.0 l.1) (lowest-next inv.1 t l.0 l.1 inv.2) put.put-number.ensures,
+      members_next ((start (loop put)).args.j * 64 + t) (omega arith) (lowest_member inv.1 t l.0 l.1) (lowest_next inv.1 t l.0 l.1 inv.2) put.put-number.ensures,
     )
 
 -- at the end nothing is left of the word
 done : (c : tie.After-loop invariant-loop decreases-loop) → (let l = c.before.loop in let a = (start c.before).args in
     MembersWritten a.set.now (a.j * 64) (a.j * 64 + 64) a.text.now a.at l.text l.next)
-done c = let inv = c.before.loop.invariant in members-done inv.1 (omega arith) inv.2
+done c = let inv = c.before.loop.invariant in members_done inv.1 (omega arith) inv.2
 
 same_length : tie.Need-same-length invariant-loop decreases-loop
 same_length c = ap length (done c).wrote.list ∙ simp length-sets

@@ -8,7 +8,7 @@ use Rattle.sets.specs.Below.{bit}
 use Rattle.sets.specs.Bits.{bit_at}
 use Rattle.totals.specs.Totals.{is_outlier}
 use Rattle.totals.specs.ForProofs.{set_role}
-use Rattle.totals.proofs.Words.{test, SumsTo, sums_none, sums_small, sums_turn, sums_all, word-outlier, marked_more}
+use Rattle.totals.proofs.Words.{test, SumsTo, sums_none, sums_small, sums_turn, sums_all, word_outlier, marked_more}
 use borrow.Author.Rules.{rules}
 use Rattle.totals.proofs.add_words.Statement.{statement}
 use Rattle.totals.proofs.add_words.Tie as tie
@@ -82,7 +82,7 @@ loop-again c =
       omega arith,
       c.add-word.ensures ∙ sums_turn a.once.now a.twice.now a.cores.now a.n l.j w.word_below.result below fits l.totals l.inv.1,
       length-set l.outliers l.j _ ∙ l.inv.2,
-      marked_more (test is_outlier (set_role a.once.now a.twice.now a.cores.now) a.n) l.outliers l.j _ (omega (arith, l.inv.2)) (word-outlier a.once.now a.twice.now a.cores.now a.n l.j _ below fits) l.inv.3,
+      marked_more (test is_outlier (set_role a.once.now a.twice.now a.cores.now) a.n) l.outliers l.j _ (omega (arith, l.inv.2)) (word_outlier a.once.now a.twice.now a.cores.now a.n l.j _ below fits) l.inv.3,
     )
 
 same_length : tie.Need-same-length invariant-loop decreases-loop

@@ -1,6 +1,6 @@
 -- `totals::count_roles` meets its contract: by the sets of the handsets in one row or more and in two or more, the roles are those by the rows.
 use mathlib.Core.Path.{refl}
-use Rattle.totals.proofs.Words.{counted-rows}
+use Rattle.totals.proofs.Words.{counted_rows}
 use borrow.Author.Rules.{rules}
 use Rattle.totals.proofs.count_roles.Statement.{statement}
 use Rattle.totals.proofs.count_roles.Tie as tie
@@ -21,7 +21,7 @@ returns : tie.Need-returns
 returns c =
     let f = c.before.before.before.before.before.find-members in
     let a = c.before.before.before.before.before.before.before.before.args in
-    counted-rows a.rows.now a.cores.now _ _ _ f.ensures a.n _ _ c.add_words.ensures
+    counted_rows a.rows.now a.cores.now _ _ _ f.ensures a.n _ _ c.add_words.ensures
 
 pub count-roles-spec : {M : Type 1} → statement M
 count-roles-spec =

@@ -7,7 +7,7 @@ use Rattle.limits.specs.Limits.{counts_fit, thresholds_fit}
 use Rattle.image.specs.Questions.{open_of}
 use Rattle.image.proofs.Answers.{open_same}
 use Rattle.layout.proofs.Reading.{Asked}
-use Rattle.writer.proofs.Drafting.{no-3, no-5, no-6, by-reader, put-within, draft-image}
+use Rattle.writer.proofs.Drafting.{no_3, no_5, no_6, by_reader, put_within, draft_image}
 use Rattle.writer.proofs.ask_tables.Statement.{statement}
 use Rattle.writer.proofs.ask_tables.Tie as tie
 
@@ -34,7 +34,7 @@ counts-fit-requires c κs = search rules
 returns : tie.Need-returns
 returns t =
     let a = t.before.before.before.args in
-    sym (no-3 a.x a.coordinates.now a.ends.now (sym t.before.counts-fit.ensures ∙ not-true _ t.if1.true))
+    sym (no_3 a.x a.coordinates.now a.ends.now (sym t.before.counts-fit.ensures ∙ not-true _ t.if1.true))
 
 thresholds-fit-requires : tie.Need-thresholds-fit-requires
 thresholds-fit-requires c κs = search rules
@@ -42,7 +42,7 @@ thresholds-fit-requires c κs = search rules
 returns-2 : tie.Need-returns-2
 returns-2 t =
     let a = t.before.before.before.before.before.args in
-    sym (no-5 a.x a.coordinates.now a.ends.now (counted t.before.before) (sym t.before.thresholds-fit.ensures ∙ not-true _ t.if2.true))
+    sym (no_5 a.x a.coordinates.now a.ends.now (counted t.before.before) (sym t.before.thresholds-fit.ensures ∙ not-true _ t.if2.true))
 
 lengths-fit-requires : tie.Need-lengths-fit-requires
 lengths-fit-requires c κs = search rules
@@ -50,7 +50,7 @@ lengths-fit-requires c κs = search rules
 returns-3 : tie.Need-returns-3
 returns-3 t =
     let a = t.before.before.before.before.before.before.before.args in
-    sym (no-6 a.x a.coordinates.now a.ends.now (counted t.before.before.before.before) (limited t.before.before)
+    sym (no_6 a.x a.coordinates.now a.ends.now (counted t.before.before.before.before) (limited t.before.before)
     (sym t.before.lengths-fit.ensures ∙ not-true _ t.if3.true))
 
 slice-aggregate-put-image : tie.Need-slice-aggregate-put-image
@@ -69,7 +69,7 @@ part-open-end : tie.Need-slice-bounds-open-end
 part-open-end c =
     let p = c.before.before in
     let a = (start p.before.before).args in
-    put-within a.x a.coordinates.now a.ends.now _ _ _ p.put-image.ensures
+    put_within a.x a.coordinates.now a.ends.now _ _ _ p.put-image.ensures
 
 open-requires : tie.Need-open-requires
 open-requires c κs = search rules
@@ -80,8 +80,8 @@ returns-4 c =
     let test = p.before.before in
     let a = (start test).args in
     open_same _ _ c.«open».ensures
-    ∙ ap open_of (draft-image a.x a.coordinates.now a.ends.now (asked test) _ _ p.put-image.ensures)
-    ∙ sym (by-reader a.x a.coordinates.now a.ends.now (asked test))
+    ∙ ap open_of (draft_image a.x a.coordinates.now a.ends.now (asked test) _ _ p.put-image.ensures)
+    ∙ sym (by_reader a.x a.coordinates.now a.ends.now (asked test))
 
 pub ask-tables-spec : {M : Type 1} → statement M
 ask-tables-spec =

@@ -4,7 +4,7 @@ use borrow.Author.Rules.{rules}
 use Rattle.image.specs.Questions.{refusal_of}
 use Rattle.image.specs.declared.Opened.TheVariants as O
 use Rattle.writer.specs.Writer.{tables_answer}
-use Rattle.writer.proofs.Drafting.{call-no, call-short, call-yes}
+use Rattle.writer.proofs.Drafting.{call_no, call_short, call_yes}
 use Rattle.writer.proofs.write.Statement.{statement}
 use Rattle.writer.proofs.write.Tie as tie
 
@@ -32,7 +32,7 @@ returns c =
     let asked = c.before.before.before in
     let told = c.before.enum_told.given.1 in
     let a = (start asked).args in
-    call-no a.x a.coordinates.now a.ends.now a.buffer.now c.refusal-of.result
+    call_no a.x a.coordinates.now a.ends.now a.buffer.now c.refusal-of.result
     (sym asked.ask-tables.ensures ∙ told ∙ sym (ap O.Refused (c.refusal-of.ensures ∙ ap refusal_of told)))
 
 cast-len : tie.Need-overflow-cast-len
@@ -42,7 +42,7 @@ returns-2 : tie.Need-returns-2
 returns-2 c =
     let s = c.before.before.before in
     let a = (start s.before.before).args in
-    call-short a.x a.coordinates.now a.ends.now a.buffer.now s.asked.given.0.0 (site s) (search rules)
+    call_short a.x a.coordinates.now a.ends.now a.buffer.now s.asked.given.0.0 (site s) (search rules)
 
 put-image-requires : tie.Need-put-image-requires
 put-image-requires c κs = search rules
@@ -54,7 +54,7 @@ returns-3 : tie.Need-returns-3
 returns-3 c =
     let s = c.before.before.before.before.before.before.before in
     let a = (start s.before.before).args in
-    call-yes a.x a.coordinates.now a.ends.now a.buffer.now s.asked.given.0.0 _ _ (site s) (search rules) c.before.before.put-image.ensures
+    call_yes a.x a.coordinates.now a.ends.now a.buffer.now s.asked.given.0.0 _ _ (site s) (search rules) c.before.before.put-image.ensures
 
 pub write_spec : {M : Type 1} → statement M
 write_spec =
