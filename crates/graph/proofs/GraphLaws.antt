@@ -8,7 +8,7 @@
 --     cores_set                    the cores by the sizes of the similarity table
 --     near_count, near_counts      the near edges counted, and the near counts
 --     told_yes, read_no, read_yes  what the reader answers, and what is answered and left of an image
---     handsets_at_most, edges_most      the image's numbers
+--     handsets_at_most, edges_most_lem      the image's numbers
 --     edges_ready, near_ready, dissimilar_ready     its edges and those of the two sets have their records and ends
 --     network_of_site, neighbours_kept, neighbours_drawn, neighbours_hold         the first step: the tables hold the network of the site
 --     surveyed, found_in           the second step and the search, for any network that the tables hold
@@ -372,8 +372,8 @@ module _ (s : List ℕ) (h : Header) (ok : Accepted s) (e : h ≡ header_of s) w
   pub handsets_at_most : handset_count s ≤ 512
   handsets_at_most = omega (arith, read.n_is, read.fits.n_limit)
 
-  pub edges_most : edge_count s ≤ edges_most
-  edges_most = omega (arith, read.m_is, read.fits.m_limit)
+  pub edges_most_lem : edge_count s ≤ edges_most
+  edges_most_lem = omega (arith, read.m_is, read.fits.m_limit)
 
   -- an edge of the image
   pub edges_ready : (n k : ℕ) → handset_count s ≤ n → k < h.m → HasEnds (edge_slice s h) n k
@@ -477,7 +477,7 @@ module _ (s : List ℕ) (h : Header) (ok : Accepted s) (e : h ≡ header_of s) w
             let l = kept.near_below k y.0 in
             (l, subst (λ (b : Bool). T (not b)) (test_is k l) y.1))
             (λ k l w n.
-            let small-edge : k < edges_most = omega (arith, l, edges_most) in
+            let small-edge : k < edges_most = omega (arith, l, edges_most_lem) in
             passes_set made k small-edge
             (and_make (eqb (bit_at near k) 1) (not (enough_at ws sizes h.p h.q (edge_slice s h) k))
             (passes_set holds.near_set k small-edge (and_make (ltb k (edge_count s)) (ends_near s g k) (lt→ltb k (edge_count s) l) w))

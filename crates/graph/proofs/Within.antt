@@ -33,7 +33,7 @@ use Rattle.search.specs.Communities.{both}
 use Rattle.graph.specs.Graph.{EdgeSet, neighbour_in, ends_near, is_near_edge, among}
 use Rattle.graph.specs.ForProofs.{Dropped, in_set, both_within, SelfTaken, OfSite, Drawn, Holds, HeldWithin}
 use Rattle.graph.proofs.Words.{set_passes, passes_set}
-use Rattle.graph.proofs.GraphLaws.{Along, dropped_is, network_of_site, edges_most, handsets_at_most}
+use Rattle.graph.proofs.GraphLaws.{Along, dropped_is, network_of_site, edges_most_lem, handsets_at_most}
 
 -- ---- handsets taken out of their own rows
 pub self_start : (within ws : List ℕ) → SelfTaken within 0 ws ws
@@ -137,7 +137,7 @@ module _ (s : List ℕ) (h : Header) (ok : Accepted s) (e : h ≡ header_of s) (
 
     is_near_lem : (k : ℕ) → k < edge_count s → T (ends_near s (network s) k) → T (eqb (bit_at near k) 1)
     is_near_lem k l y =
-        passes_set holds.near_set k (omega (arith, l, edges_most s h ok e)) (and_make (ltb k (edge_count s)) (ends_near s (network s) k) (lt→ltb k (edge_count s) l) y)
+        passes_set holds.near_set k (omega (arith, l, edges_most_lem s h ok e)) (and_make (ltb k (edge_count s)) (ends_near s (network s) k) (lt→ltb k (edge_count s) l) y)
 
     gone_is : (k : ℕ) → T (gone k) → (k < edge_count s) × (T (inside k) → ⊥)
     gone_is k x =

@@ -107,13 +107,13 @@ program_short s room h = simp (le-ltb _ _ h)
 
 module _ (s l : List ℕ) (short : length s ≤ 65536) where
   -- what holds of an accepted image and of a refused one
-  by_answer : {X : Type 0} → (Accepted s → X) → ((r : Refusal) → open_of s ≡ O.Refused r → X) → X
-  by_answer {X} f g = when_either s (λ h. l) (λ r. l) (λ (_ : List ℕ). X) f g
+  by_answer_lem : {X : Type 0} → (Accepted s → X) → ((r : Refusal) → open_of s ≡ O.Refused r → X) → X
+  by_answer_lem {X} f g = when_either s (λ h. l) (λ r. l) (λ (_ : List ℕ). X) f g
 
   written_text : (l' : List ℕ) (k : ℕ) → length l < 9223372036854775808 → ReportCall s l (R.Written k) l' → Wrote l 0 (report_text s) l' k
   written_text l' k small call =
       let same : R.Written k ≡ report_of s (length l) = report_same (R.Written k) (report_of s (length l)) call.answer in
-      by_answer
+      by_answer_lem
       (λ a.
       let f = written_fits (report_text s) l k (same ∙ report_accepted s (length l) a) in
       record {
@@ -126,7 +126,7 @@ module _ (s l : List ℕ) (short : length s ≤ 65536) where
   refused_text_lem l' r call =
       let same : R.Refused r ≡ report_of s (length l) = report_same (R.Refused r) (report_of s (length l)) call.answer in
       call.text
-      ∙ by_answer (λ a. after_accepted s l a ∙ refused_keeps (report_text s) l r (same ∙ report_accepted s (length l) a)) (λ x e. after_refused s l x e)
+      ∙ by_answer_lem (λ a. after_accepted s l a ∙ refused_keeps (report_text s) l r (same ∙ report_accepted s (length l) a)) (λ x e. after_refused s l x e)
 
   pub program_written : (l' : List ℕ) (k : ℕ) (answer : Reported) → length l < 9223372036854775808 → answer ≡ R.Written k
       → ReportCall s l answer l' → Wrote l 0 (program_text s (length l)) l' k

@@ -7,7 +7,7 @@ use Rattle.image.specs.Questions.{Accepted}
 use Rattle.image.proofs.Acceptance.{accepted}
 use Rattle.community.specs.Site.{network}
 use Rattle.graph.specs.Graph.{among}
-use Rattle.graph.proofs.GraphLaws.{edges_most, neighbours_drawn, neighbours_hold, near_count, site_no, site_yes, groups_are}
+use Rattle.graph.proofs.GraphLaws.{edges_most_lem, neighbours_drawn, neighbours_hold, near_count, site_no, site_yes, groups_are}
 use Rattle.graph.proofs.find_part.Statement.{statement}
 use Rattle.graph.proofs.find_part.Tie as tie
 
@@ -82,7 +82,7 @@ returns-2 c =
           let held = k.keep-within.ensures.1.among_held f w (neighbours_hold s h (yes o).0 (yes o).1 n) in
           site_yes h (sym o.opened.given.1 ∙ r.answered) (d.find-groups.auto.1.1.1.1.0 ∙ k.keep-within.kept.1.1.1.1.0 ∙ r.room.0, r.room.1)
           (groups_are (yes o).0 r.room.1 n (e.0.each (among (network s) f) held)
-          (e.1 ∙ near_count s (among (network s) f) (edges_most s h (yes o).0 (yes o).1) held.near_set));
+          (e.1 ∙ near_count s (among (network s) f) (edges_most_lem s h (yes o).0 (yes o).1) held.near_set));
     }
 
 pub find-part-spec : {M : Type 1} → statement M

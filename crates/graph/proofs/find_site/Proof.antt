@@ -6,7 +6,7 @@ use Rattle.image.specs.Image.{header_of}
 use Rattle.image.specs.Questions.{Accepted}
 use Rattle.image.proofs.Acceptance.{accepted}
 use Rattle.community.specs.Site.{network}
-use Rattle.graph.proofs.GraphLaws.{edges_most, neighbours_drawn, neighbours_hold, near_count, site_no, site_yes, groups_are}
+use Rattle.graph.proofs.GraphLaws.{edges_most_lem, neighbours_drawn, neighbours_hold, near_count, site_no, site_yes, groups_are}
 use Rattle.graph.proofs.find_site.Statement.{statement}
 use Rattle.graph.proofs.find_site.Tie as tie
 
@@ -65,7 +65,7 @@ returns-2 c =
     let f = d.find-groups.ensures in
     site_yes h (sym o.opened.given.1 ∙ r.answered) (d.find-groups.auto.1.1.1.1.0 ∙ r.room.0, r.room.1)
     (groups_are (yes o).0 r.room.1 n (f.0.each (network s) (neighbours_hold s h (yes o).0 (yes o).1 n))
-    (f.1 ∙ near_count s (network s) (edges_most s h (yes o).0 (yes o).1) n.near_set))
+    (f.1 ∙ near_count s (network s) (edges_most_lem s h (yes o).0 (yes o).1) n.near_set))
 
 pub find-site-spec : {M : Type 1} → statement M
 find-site-spec =
