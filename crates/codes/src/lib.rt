@@ -2,6 +2,8 @@
 //
 // The definitions are in specs/Codes, and a caller needs nothing else: each function gives exactly the code of what it is handed, for every answer, also
 // one that no call gives. Where a number may be larger than its share of the code it is cut off; divanegret/specs/Lossless says that no call's answer is.
+#![tactic(auto)]
+
 ghost use Rattle.std.specs.Prelude.{◌≡◌, ◌<◌};
 ghost use Rattle.codes.specs.Codes.{open_code, plan_code, kind_code, role_code, tally_code, nearest_code, report_code};
 

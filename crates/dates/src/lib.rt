@@ -1,6 +1,8 @@
 // Dates of the Gregorian calendar, years 1600 to 9999: which exist, their day numbers and their weekdays.
 //
 // The definitions are in specs/Dates, and what is proved of them in specs/Calendar. Each call takes any three numbers.
+#![tactic(auto)]
+
 ghost use Rattle.std.specs.Prelude.{◌≡◌, true, ◌≤◌};
 ghost use Rattle.dates.specs.Dates.{last_year, is_leap, month_length, date_exists, count_before, march_year, march_month, days_before, day_number, day_number_of, weekday_of};
 

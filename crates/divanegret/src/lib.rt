@@ -1,6 +1,8 @@
 // The planner for firmware written in C: each call of the library as one number. include/divanegret.h documents it.
 //
 // Each call is that of the library, and a function of `codes` that makes a number of its answer. specs/Lossless says that the number holds all of the answer.
+#![tactic(auto)]
+
 ghost use Rattle.std.specs.Prelude.{◌≡◌, [], ◌∷◌, length};
 ghost use Rattle.image.specs.Questions.{open_of};
 ghost use Rattle.planner.specs.Plan.{plan_of, starts_after, members_after, known_of};

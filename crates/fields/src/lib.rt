@@ -1,6 +1,8 @@
 // The fields of a site image: a coordinate with its limits and gaps, the ends of an edge, the core size.
 //
 // Every read is of a place that may not be there, and then gives 0, as those of the crate `bytes` do.
+#![tactic(auto)]
+
 ghost use Rattle.std.specs.Prelude.{◌≡◌, ◌*◌, ◌<◌, pos, nat_abs, ◌-ℤ◌};
 ghost use Rattle.little_endian.specs.Bytes.{number};
 ghost use Rattle.fields.specs.Fields.{coordinate_bytes, core_size, shifted, in_limits, gap, ends_of};
@@ -74,7 +76,7 @@ pub fn squared_gap_at(a: &[u8], b: &[u8], at: usize) -> u64
 }
 
 // The two ends of an edge.
-#[derive(Drop)]
+#[derive(Clone, Copy)]
 pub struct Ends {
     pub a: usize,
     pub b: usize,

@@ -8,6 +8,8 @@
 // of up to 64 edges is made of them, one bit an edge, without a branch on the test, and then the edges of the word are dropped.
 //
 // The definitions are in specs/Graph; callers cite proofs/Laws.
+#![tactic(auto)]
+
 ghost use Rattle.std.specs.Prelude.{◌≡◌, ◌&&◌, not, ℕ, ◌+◌, ◌*◌, ◌/◌, ◌≤◌, ◌<◌, T, leb, ltb, eqb, length, get_or};
 ghost use Rattle.sets.specs.Below.{sum};
 ghost use Rattle.sets.specs.Bits.{bit_of, bit_at, without_bit};
@@ -29,28 +31,28 @@ use near::Proximity;
 pub const EDGE_WORDS: usize = limits::EDGES_MOST / 64;
 
 // What the test of two different handsets for similarity answers, and the count of tests with it.
-#[derive(Drop)]
+#[derive(Clone, Copy)]
 struct Tested {
     similar: bool,
     count: u32,
 }
 
 // Those of a word of edges whose ends are not similar, and the count of tests with these.
-#[derive(Drop)]
+#[derive(Clone, Copy)]
 struct Sifted {
     word: u64,
     count: u32,
 }
 
 // How many communities were found, and by how many tests for similarity.
-#[derive(Drop)]
+#[derive(Clone, Copy)]
 struct Found {
     groups: usize,
     tests: u32,
 }
 
 // The reader's answer, how many communities were found, and by how many tests for similarity.
-#[derive(Drop)]
+#[derive(Clone, Copy)]
 pub struct SiteGroups {
     pub opened: Opened,
     pub groups: usize,

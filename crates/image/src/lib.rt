@@ -4,6 +4,8 @@
 // makes: a row for each handset, with itself and those that it is adjacent to, and the size of each row.
 // Callers read the records themselves, and cite proofs/Answers (`open_same`), proofs/Acceptance (what an accepted image keeps to) and proofs/Records
 // (a record is the slice of its table that it is read from).
+#![tactic(auto)]
+
 ghost use Rattle.std.specs.Prelude.{◌≡◌, ◌&&◌, ◌+◌, ◌*◌, ◌≤◌, ◌<◌, ltb, eqb, length, take, drop};
 ghost use Rattle.sets.specs.Below.{find};
 ghost use Rattle.sets.specs.Bits.{cell, with_bit};
@@ -16,7 +18,7 @@ ghost use Rattle.image.specs.Rows.{Room, Cleared, related, Held, Reading};
 ghost use Rattle.image.specs.ForProofs.{bad_record, Stand, linked, Added};
 
 // The header's numbers as they stand: `limit` is G, a blank `mu` is still 0 (`fields::core_size`), and `width` is that of a handset's record.
-#[derive(Drop)]
+#[derive(Clone, Copy)]
 pub struct Header {
     pub n: u16,
     pub m: u16,
@@ -31,14 +33,14 @@ pub struct Header {
 }
 
 // The paper's number and place.
-#[derive(Drop)]
+#[derive(Clone, Copy)]
 pub struct Refusal {
     pub number: u32,
     pub place: usize,
 }
 
 // The reader's answer.
-#[derive(Drop)]
+#[derive(Clone, Copy)]
 pub enum Opened {
     Site(Header),
     Refused(Refusal),

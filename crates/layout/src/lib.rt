@@ -2,6 +2,8 @@
 //
 // The definitions are in specs/Layout. `put_image` writes an image at the front of a buffer, and nothing where the tables are not those of its counts or the
 // buffer is too short; it does not ask whether the reader would accept it. proofs/Reading has what the reader finds in such an image.
+#![tactic(auto)]
+
 ghost use Rattle.std.specs.Prelude.{◌+◌, ◌*◌, ◌≤◌, ◌≡◌, length};
 ghost use Rattle.std.proofs.lemmas.List.Edits.{sets};
 ghost use Rattle.fields.specs.Fields.{coordinate_bytes, end_bytes, header_bytes};
@@ -14,7 +16,7 @@ pub const IMAGE_MOST: usize = fields::HEADER_BYTES
     + fields::EDGE_BYTES * limits::EDGES_MOST;
 
 // The numbers of a header that whoever writes an image chooses, as wide as they come: `limit` is G, and a blank `mu` is 0.
-#[derive(Drop)]
+#[derive(Clone, Copy)]
 pub struct Parameters {
     pub n: u64,
     pub m: u64,

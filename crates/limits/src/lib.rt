@@ -1,6 +1,8 @@
 // Questions 3, 4, 5 and 7 of an image, put to any numbers, and the limits that they ask about. The reader and the writer both ask by these.
 //
 // The definitions are in specs/Limits.
+#![tactic(auto)]
+
 ghost use Rattle.std.specs.Prelude.{◌≡◌};
 ghost use Rattle.limits.specs.Limits.{counts_fit, width_fits, thresholds_fit, out_of_limits};
 

@@ -2,6 +2,8 @@
 //
 // A text is written from its first byte on; past the end of the buffer nothing is written, and the answer is the text's length all the same. The definitions are
 // in specs/Lines. Callers cite proofs/Lengths for how long a report can be.
+#![tactic(auto)]
+
 ghost use Rattle.std.specs.Prelude.{◌≤◌, ◌<◌, ◌≡◌, ◌++◌, get_or};
 ghost use Rattle.scores.specs.Scored.{scores_for};
 ghost use Rattle.text.specs.Text.{Wrote, decimal, elements_of};
@@ -15,7 +17,7 @@ use scores::{Score, Tally};
 use totals::Totals;
 
 // The numbers of a report's line one: the site's n and m, and the plan's two counts.
-#[derive(Drop)]
+#[derive(Clone, Copy)]
 pub struct Head {
     pub handsets: u16,
     pub ties: u16,
@@ -23,14 +25,14 @@ pub struct Head {
 }
 
 // The numbers of a report's first line and of its last.
-#[derive(Drop)]
+#[derive(Clone, Copy)]
 pub struct Numbers {
     pub head: Head,
     pub totals: Totals,
 }
 
 // The four numbers of a line.
-#[derive(Drop)]
+#[derive(Clone, Copy)]
 struct Four {
     a: u64,
     b: u64,

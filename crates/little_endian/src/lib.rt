@@ -2,6 +2,8 @@
 //
 // A place may not be there: a read then gives 0, and a write leaves every byte as it was. Callers cite `number_cong` of proofs/Bytes where the same bytes stand
 // at two places, `number_slice` where they read from a slice, and proofs/Writing for what is written and for tables of numbers.
+#![tactic(auto)]
+
 ghost use Rattle.std.specs.Prelude.{◌≡◌, ◌+◌, ◌*◌, ◌≤◌, ◌<◌, leb, length, get_or};
 ghost use Rattle.little_endian.specs.Bytes.{le, number, stored};
 

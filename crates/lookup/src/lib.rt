@@ -2,6 +2,8 @@
 //
 // The definitions are in specs/Lookup. Callers cite proofs/Agreement: the part and the companion's answer agree, and question 14 is answered
 // yes exactly where the companion finds the group; `looked_same` of proofs/Answers makes an equation of the companion's answer.
+#![tactic(auto)]
+
 ghost use Rattle.std.specs.Prelude.{◌≡◌, ◌≤◌};
 ghost use Rattle.lookup.specs.Lookup.{members_of, looked_of};
 ghost use Rattle.lookup.specs.Answers.{look_answer};
@@ -10,14 +12,14 @@ ghost use Rattle.lookup.specs.ForProofs.{span_of};
 use image::Refusal;
 
 // What the companion answers: how many members group k has, or the refusal.
-#[derive(Drop)]
+#[derive(Clone, Copy)]
 pub enum Looked {
     Found(usize),
     Refused(Refusal),
 }
 
 // Where group k stands in the member table.
-#[derive(Drop)]
+#[derive(Clone, Copy)]
 struct Span {
     found: bool,
     first: usize,

@@ -2,6 +2,8 @@
 // for everything above `graph`. All three are total.
 //
 // The definitions are in specs/Near. Callers that have an image's records cite proofs/Near.
+#![tactic(auto)]
+
 ghost use Rattle.std.specs.Prelude.{◌≡◌};
 ghost use Rattle.image.specs.Image.{end_a, end_b};
 ghost use Rattle.near.specs.Near.{proximity_of, proximity_answer, ends_proximity};
@@ -9,7 +11,7 @@ ghost use Rattle.near.specs.Near.{proximity_of, proximity_answer, ends_proximity
 use fields::Ends;
 
 // What the near test of two handsets answers: near with the squared distance, or not near.
-#[derive(Drop)]
+#[derive(Clone, Copy)]
 pub enum Proximity {
     Near(u64),
     NotNear,

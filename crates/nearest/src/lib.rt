@@ -2,6 +2,8 @@
 //
 // The definitions are in specs/Nearest, what they mean in specs/Meaning. The groups stand as rows of bits; each handset that is in one is measured once, however
 // many groups it is in, and the handsets at the least distance so far are kept in a set.
+#![tactic(auto)]
+
 ghost use Rattle.std.specs.Prelude.{◌≤◌, ◌<◌, ◌*◌, ◌≡◌, [], ◌∷◌, eqb, length};
 ghost use Rattle.sets.specs.Bits.{bit_at};
 ghost use Rattle.rows.specs.Rows.{rows_of};
@@ -12,7 +14,7 @@ ghost use Rattle.nearest.specs.ForProofs.{wrapped, Closest, Takes, TakesWord, Ro
 use image::{Header, Opened, Refusal};
 
 // What a call for the nearest group answers: its number and the squared distance of its nearest member, that there are no groups, or the refusal.
-#[derive(Drop)]
+#[derive(Clone, Copy)]
 pub enum Nearest {
     Group(usize, u64),
     NoGroups,

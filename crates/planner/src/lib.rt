@@ -2,6 +2,8 @@
 //
 // The crate `graph` opens the image and finds its communities, as rows of bits; the crate `tables` counts and writes them. The calls work everything out on the
 // stack, and write only when nothing is left to refuse.
+#![tactic(auto)]
+
 ghost use Rattle.std.specs.Prelude.{◌≡◌};
 ghost use Rattle.planner.specs.Plan.{PlanCall, known_answer, known_of};
 
@@ -10,7 +12,7 @@ use image::{Opened, Refusal};
 use tables::Planned;
 
 // What a call for a role answers.
-#[derive(Drop)]
+#[derive(Clone, Copy)]
 pub enum Known {
     Handset(Standing),
     Refused(Refusal),

@@ -2,6 +2,8 @@
 //
 // The definitions are in specs/Points. Each coordinate is taken plus 2 ^ 31, as the image's are, so that the distance is computed with numbers that are never
 // negative; callers cite proofs/Distances, where the distance is exact for a point and a handset within the limits.
+#![tactic(auto)]
+
 ghost use Rattle.std.specs.Prelude.{◌≡◌, ◌%◌, ◌^◌, [], ◌∷◌};
 ghost use Rattle.image.specs.Image.{handset_record};
 ghost use Rattle.image.specs.Signed.{raised};

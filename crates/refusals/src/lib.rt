@@ -1,6 +1,8 @@
 // A refusal: taken out of the reader's answer, and as the number that C gets. And a number cut off at the end of its share of such a number.
 //
 // The definitions are in specs/Refusals and image/specs/Questions.
+#![tactic(auto)]
+
 ghost use Rattle.std.specs.Prelude.{◌≡◌, min};
 ghost use Rattle.image.specs.Questions.{refusal_of};
 ghost use Rattle.refusals.specs.Refusals.{refusal_code};

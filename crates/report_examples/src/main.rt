@@ -9,6 +9,7 @@
 //     refused.image    site S whose tie 5 repeats tie 3 the other way round
 //     three.image      site S with mu 3 written out: one group of seven
 //     totals.image     four totals that differ: borders in one, two and three groups, and two outliers
+#![tactic(auto)]
 
 // Prints the report of the file that argument i names, or says on standard error why it cannot.
 fn print_example(i: usize) {

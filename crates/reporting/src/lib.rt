@@ -1,6 +1,8 @@
 // The report: the text of a site's plan, written into a lent buffer, and the text that the report program prints.
 //
 // An image is opened once, and its groups stay rows of bits; `lines` writes the text. The definitions are in specs/Report.
+#![tactic(auto)]
+
 ghost use Rattle.std.specs.Prelude.{◌≤◌, ◌≡◌, length};
 ghost use Rattle.text.specs.Text.{Wrote};
 ghost use Rattle.lines.specs.Lines.{table_text};
@@ -13,7 +15,7 @@ use lines::{Head, Numbers};
 use rows::Counts;
 
 // What a call for a report answers: the text's length, or the refusal.
-#[derive(Drop)]
+#[derive(Clone, Copy)]
 pub enum Reported {
     Written(usize),
     Refused(Refusal),

@@ -1,6 +1,8 @@
 // What is read off communities that stand in a table as rows of bits: a row of eight words for each community, one bit a handset.
 //
 // More than 512 rows count as 512. The definitions are in specs/Rows; callers cite proofs/Rows and proofs/Listing.
+#![tactic(auto)]
+
 ghost use Rattle.std.specs.Prelude.{◌≡◌, ◌≤◌, ◌<◌, min, length};
 ghost use Rattle.sets.specs.Rows.{table_words};
 ghost use Rattle.community.specs.Tables.{member_table};
@@ -8,7 +10,7 @@ ghost use Rattle.rows.specs.Rows.{row_members, rows_of, row_in, row_words, count
 ghost use Rattle.rows.specs.ForProofs.{RowAdded};
 
 // The counts of a plan.
-#[derive(Drop)]
+#[derive(Clone, Copy)]
 pub struct Counts {
     pub groups: usize,
     pub memberships: usize,

@@ -2,6 +2,8 @@
 //
 // The definitions are in specs/Schedule. Callers cite proofs/Agreement: the part and the companion's answer agree, 18 comes before 19, and 14 is asked of the
 // chosen plan alone; `scheduled_same` of proofs/Answers makes an equation of the companion's answer.
+#![tactic(auto)]
+
 ghost use Rattle.std.specs.Prelude.{◌≡◌};
 ghost use Rattle.lookup.specs.Lookup.{members_of, looked_of};
 ghost use Rattle.schedule.specs.Schedule.{minutes_fit, is_working, choice_of, part_of, scheduled_of};
@@ -14,7 +16,7 @@ use lookup::Looked;
 const DAY_MINUTES: u32 = 1440;
 
 // A date and a minute of that day: any numbers.
-#[derive(Drop)]
+#[derive(Clone, Copy)]
 pub struct Time {
     pub year: u32,
     pub month: u32,
@@ -23,14 +25,14 @@ pub struct Time {
 }
 
 // The working hours of a site, from the opening minute up to the closing minute: any numbers.
-#[derive(Drop)]
+#[derive(Clone, Copy)]
 pub struct Window {
     pub opening: u32,
     pub closing: u32,
 }
 
 // Which plan a time asks for: neither where it is refused. The calls' contracts go by it.
-#[derive(Drop)]
+#[derive(Clone, Copy)]
 pub enum Choice {
     Workday,
     Restday,
@@ -38,7 +40,7 @@ pub enum Choice {
 }
 
 // What the companion answers: the plan, with the count of the group's members in it, or the refusal.
-#[derive(Drop)]
+#[derive(Clone, Copy)]
 pub enum Scheduled {
     Workday(usize),
     Restday(usize),

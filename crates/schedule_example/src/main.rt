@@ -1,5 +1,7 @@
 // A stored example of `schedule::members_at`, which gives its caller a part of a lent table and so has no form for C: the members of a group at some times,
 // a line each. The plans are those of site S, with mu 4 for working hours, from 8:00 to 17:00, and with mu 3 for the rest.
+#![tactic(auto)]
+
 use schedule::{Time, Window};
 
 const WORKDAY_STARTS: [u32; 3] = [0, 4, 8];

@@ -3,6 +3,8 @@
 // `tally_list` opens the image and goes over its edges, and `score_list` makes the scores of that. A caller that counts the edges of many lists at once
 // uses `pairs_of` for the rest of each tally, and then `scores_of`. The definitions are in specs/Scored, the laws in proofs/Tallying; `tally_same` and
 // `scored_same` of proofs/Answers make equations of the answers.
+#![tactic(auto)]
+
 ghost use Rattle.std.specs.Prelude.{◌≡◌, ◌||◌, ℕ, ◌-◌, ◌≤◌, min, leb, length, get_or};
 ghost use Rattle.sets.specs.Below.{bit, find};
 ghost use Rattle.limits.specs.Limits.{edges_most};
@@ -14,27 +16,27 @@ ghost use Rattle.scores.specs.ForProofs.{tally_at, GoodEntries, joined_sum, leav
 use image::{Opened, Refusal};
 
 // A quotient that is not reduced, or no score where its divisor is 0.
-#[derive(Drop)]
+#[derive(Clone, Copy)]
 pub enum Score {
     Ratio(u64, u64),
     Nothing,
 }
 
-#[derive(Drop)]
+#[derive(Clone, Copy)]
 pub struct Scores {
     pub density: Score,
     pub conductance: Score,
 }
 
 // What a call for the scores answers.
-#[derive(Drop)]
+#[derive(Clone, Copy)]
 pub enum Scored {
     Of(Scores),
     Refused(Refusal),
 }
 
 // s, t and o of a list: all pairs of places, those whose handsets are adjacent, and the edges with just one end in the list.
-#[derive(Drop)]
+#[derive(Clone, Copy)]
 pub struct Tally {
     pub pairs: u32,
     pub joined: u32,
@@ -42,7 +44,7 @@ pub struct Tally {
 }
 
 // What a call for the tally answers.
-#[derive(Drop)]
+#[derive(Clone, Copy)]
 pub enum Tallied {
     Of(Tally),
     Refused(Refusal),

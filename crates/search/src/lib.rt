@@ -2,6 +2,8 @@
 //
 // Sets are eight words, and a table has 512 rows of eight words. Everything goes a word at a time, and each core's row is or'ed once. The definitions are
 // in specs/Search; callers cite proofs/Communities: with the tables of a network, the rows found are its communities.
+#![tactic(auto)]
+
 ghost use Rattle.std.specs.Prelude.{◌+◌, ◌*◌, ◌≤◌, ◌<◌, ◌≡◌, length};
 ghost use Rattle.sets.specs.Rows.{table_words};
 ghost use Rattle.search.specs.ForProofs.{FirstCommon, Joined, JoinedAll, Stored, Collected};

@@ -2,6 +2,8 @@
 // and how often each number stands in a list.
 //
 // The specs are what every crate above counts by: tests below a bound, bits, renumberings. Their laws are in proofs/.
+#![tactic(auto)]
+
 ghost use Rattle.std.specs.Prelude.{◌≡◌, min, eqb};
 ghost use Rattle.sets.specs.Bits.{bit_at, with_bit, without_bit};
 ghost use Rattle.sets.specs.Entries.{EntriesCounted};

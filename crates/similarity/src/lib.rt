@@ -1,6 +1,8 @@
 // The two steps of the similarity test: how many neighbours two handsets have in common, and whether that is enough for the sizes of their neighbourhoods.
 //
 // A neighbourhood is a set of eight words, one bit a handset. The definitions are in specs/Similarity; both functions are total.
+#![tactic(auto)]
+
 ghost use Rattle.std.specs.Prelude.{◌≡◌};
 ghost use Rattle.community.specs.Network.{meets_epsilon};
 ghost use Rattle.similarity.specs.Similarity.{in_both};

@@ -1,6 +1,8 @@
 // The answers of the calls on tables as the numbers that C gets: the lookup, the lookup at a time, and the writer. Those of the calls on an image are in `codes`.
 //
 // The definitions are in specs/Codes. Where a number may be larger than its share of the code it is cut off; divanegret/specs/Lossless says that no call's answer is.
+#![tactic(auto)]
+
 ghost use Rattle.std.specs.Prelude.{◌≡◌};
 ghost use Rattle.table_codes.specs.Codes.{looked_code, scheduled_code, encoded_code};
 

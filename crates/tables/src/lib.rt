@@ -2,6 +2,8 @@
 //
 // Counting comes first, so that a refusal writes nothing; a row's members are found word by word, by the lowest set bit. More than 512 rows count as 512. The
 // definitions are in specs/Plan.
+#![tactic(auto)]
+
 ghost use Rattle.std.specs.Prelude.{◌≡◌, ◌+◌, ◌≤◌, ◌<◌, min, length};
 ghost use Rattle.std.proofs.lemmas.List.Edits.{sets};
 ghost use Rattle.community.specs.Network.{contains, community_number, membership_count, role_values};
@@ -16,7 +18,7 @@ use image::Refusal;
 use rows::Counts;
 
 // What a call for a plan answers: its counts, or the refusal.
-#[derive(Drop)]
+#[derive(Clone, Copy)]
 pub enum Planned {
     Made(Counts),
     Refused(Refusal),

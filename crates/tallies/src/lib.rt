@@ -4,6 +4,8 @@
 // ends' words. The edges that leave a group are what is left of its members' degrees when the edges inside are taken out twice. A table of 1,024 numbers holds the
 // edges inside group k at k, and the edges that leave it at 512 + k. Another, of 512 numbers, holds the reach of group k: one more than the largest squared distance
 // of a near edge inside it, or 0 where there is none. The definitions are in specs/Tallies.
+#![tactic(auto)]
+
 ghost use Rattle.std.specs.Prelude.{ℕ, ◌+◌, ◌≤◌, ◌<◌, max, ◌≡◌, ◌&&◌, cond, eqb, ltb, length, get_or, replicate};
 ghost use Rattle.sets.specs.Bits.{bit_at};
 ghost use Rattle.limits.specs.Limits.{limit_most, edges_most};

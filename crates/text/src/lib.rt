@@ -2,6 +2,8 @@
 // it writes nothing and still counts, so the same functions measure a text and write it. Positions stop at 2^63, which no buffer reaches.
 //
 // Every contract is the record Wrote of specs/Text; runs of writes are joined by the law `chain` of proofs/Writing.
+#![tactic(auto)]
+
 ghost use Rattle.std.specs.Prelude.{◌+◌, ◌*◌, ◌<◌, min, ◌≡◌, [], ◌∷◌, length};
 ghost use Rattle.text.specs.Text.{Wrote, digits_of, decimal, numbers, elements_of};
 ghost use Rattle.text.specs.ForProofs.{MembersWritten};

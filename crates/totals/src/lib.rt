@@ -2,12 +2,14 @@
 //
 // The handsets in one row or more, and in two or more, are found first; the roles are then counted a word at a time, as ones. The definitions are in
 // specs/Totals.
+#![tactic(auto)]
+
 ghost use Rattle.std.specs.Prelude.{◌<◌, min, ◌≡◌, length};
 ghost use Rattle.totals.specs.Totals.{RolesCounted};
 ghost use Rattle.totals.specs.ForProofs.{BitsBelow, with_words, TotalsAtMost, WordsCounted};
 
 // The handsets of a site: cores, borders, outliers; and of the borders those in two groups or more.
-#[derive(Drop)]
+#[derive(Clone, Copy)]
 pub struct Totals {
     pub cores: usize,
     pub borders: usize,

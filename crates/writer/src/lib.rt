@@ -2,6 +2,8 @@
 //
 // The definitions are in specs/Writer. Questions 7 to 10 are put by the reader itself, to a draft: the caller's buffer gets no byte before all questions, and 20,
 // have a yes. What the reader and the other calls make of what is written is said by the crate `roundtrips`.
+#![tactic(auto)]
+
 ghost use Rattle.std.specs.Prelude.{◌≡◌};
 ghost use Rattle.writer.specs.Writer.{tables_answer, WriteCall};
 
@@ -9,7 +11,7 @@ use image::{Opened, Refusal};
 use layout::Parameters;
 
 // The length of the image written, or the refusal.
-#[derive(Drop)]
+#[derive(Clone, Copy)]
 pub enum Encoded {
     Length(usize),
     Refused(Refusal),

@@ -1,0 +1,7 @@
+use Rattle.fields.specs.Fields.{ends_of}
+use borrow.Author.Rules.{rules}
+use Rattle.fields.proofs.read_ends.Goals as goal
+
+pub returns : goal.returns
+unfolding ends_of
+returns c = λ i. record { a = c.read2.ensures i; b = c.read2-2.ensures i }

@@ -1,0 +1,21 @@
+use Prim.Native.Nat.{ℕ, ◌≤◌, ◌-◌}
+use native.Mathlib.Omega.{arith}
+use mathlib.Core.Path.{◌≡◌, sym, ◌∙◌, subst}
+use mathlib.Core.Bool.{◌&&◌}
+use lib.Dec.{ltb, eqb}
+use Rattle.sets.specs.Rows.{Table, Counted}
+use Rattle.image.specs.Rows.{Room}
+use Rattle.image.proofs.Rows.{cleared_room, cleared_counted}
+use Rattle.image.proofs.Edges.{selves_none, selves_more, selves_new}
+use Rattle.image.proofs.add_selves.Goals as goal
+
+pub loop-u-init : goal.loop-u-init
+loop-u-init c = (omega arith, cleared_room c.requires.1, selves_none c.requires.1, cleared_counted c.requires.1)
+
+pub loop-u-preserved : goal.loop-u-preserved
+loop-u-preserved c = (
+  omega arith,
+  (c.add.auto.0 ∙ c.loop-u.invariant.1.0, c.add.auto.sizes ∙ c.loop-u.invariant.1.1),
+  rw c.add.ensures.0 (selves_more c.loop-u.rows c.loop-u.u (omega (arith, c.requires.0)) c.loop-u.invariant.1.0 c.loop-u.invariant.2),
+  c.add.ensures.1,
+)

@@ -1,0 +1,26 @@
+use native.Mathlib.Omega.{arith}
+use mathlib.Core.Path.{◌≡◌, refl, sym, ◌∙◌}
+use borrow.Author.Rules.{rules}
+use Rattle.sets.specs.Below.{find}
+use Rattle.limits.specs.Limits.{out_of_limits}
+use Rattle.image.specs.Image.{handset_record}
+use Rattle.image.specs.Questions.{ask_records}
+use Rattle.image.proofs.Scanning.{handset_found, each_no, each_yes}
+use Rattle.image.proofs.Faults.{held_no}
+use Rattle.image.proofs.ask_records.Goals as goal
+
+pub returns-then-far-h : goal.returns-then-far-h
+unfolding ask_records
+returns-then-far-h c =
+    record {
+      answer = c.refused.ensures ∙ sym (each_no _ _ _ ((let it : (c.first_bad-far.result ≡ find c.args.h.n (λ v. out_of_limits (handset_record c.args.handsets.now v))) = handset_found c.args.handsets.now c.args.h.n c.args.h.n c.first_bad-far.result c.first_bad-far.ensures in it)) 7 _ c.if-far-h.true);
+      held = held_no _ c.refused.ensures;
+    }
+
+pub returns : goal.returns
+unfolding ask_records
+returns c =
+    record {
+      answer = c.ask_edges.ensures.answer ∙ sym (each_yes _ _ _ ((let it : (c.first_bad-far.result ≡ find c.args.h.n (λ v. out_of_limits (handset_record c.args.handsets.now v))) = handset_found c.args.handsets.now c.args.h.n c.args.h.n c.first_bad-far.result c.first_bad-far.ensures in it)) 7 _ c.if-far-h.false);
+      held = c.ask_edges.ensures.held;
+    }

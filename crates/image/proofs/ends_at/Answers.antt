@@ -1,0 +1,8 @@
+use mathlib.Core.Path.{◌∙◌}
+use native.Mathlib.Omega.{arith}
+use borrow.Author.Rules.{rules}
+use Rattle.image.proofs.Records.{ends_slice}
+use Rattle.image.proofs.ends_at.Goals as goal
+
+pub returns : goal.returns
+returns c = c.read_ends.ensures ∙ ends_slice c.args.records.now c.args.k (omega (arith, c.requires))

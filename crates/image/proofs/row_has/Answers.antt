@@ -1,0 +1,8 @@
+use mathlib.Core.Path.{refl}
+use borrow.Author.Rules.{rules}
+use Rattle.sets.specs.Bits.{bit_of, bit_at}
+use Rattle.image.proofs.row_has.Goals as goal
+
+pub returns : goal.returns
+unfolding bit_at bit_of
+returns c = refl

@@ -1,0 +1,17 @@
+use Prim.Native.Nat.{ℕ, ◌≤◌, ◌<◌, ◌-◌}
+use native.Mathlib.Omega.{arith}
+use mathlib.Core.Path.{◌≡◌, ap, ◌∙◌}
+use mathlib.Core.Logic.{⊎_elim}
+use mathlib.Core.List.{List}
+use lib.ListN.{length, get_or, length-set, length-replicate}
+use borrow.Author.Rules.{rules}
+use Rattle.sets.proofs.Entries.{counted_to, counted_none, counted_more, counted_past, counted_room, counted_all}
+use Rattle.sets.proofs.count_entries.Given as goal
+
+-- `sets::count_entries` meets its contract. After i entries place v holds how often v stands among them, which is at most i. The measure is the count of
+-- entries left.
+abbrev pub invariant-loop-i : goal.invariant-loop-i
+invariant-loop-i l = (l.i ≤ l.bound) × (length l.table ≡ 512) × ((v : ℕ) → v < 512 → get_or l.table v 0 ≡ counted_to l.list l.i v)
+
+abbrev pub decreases-loop-i : goal.decreases-loop-i
+decreases-loop-i l = l.bound - l.i
