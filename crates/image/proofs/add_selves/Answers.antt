@@ -15,7 +15,7 @@ loop-u-init c = (omega arith, cleared_room c.requires.1, selves_none c.requires.
 pub loop-u-preserved : goal.loop-u-preserved
 loop-u-preserved c = (
   omega arith,
-  (c.add.auto.0 ∙ c.loop-u.invariant.1.0, c.add.auto.sizes ∙ c.loop-u.invariant.1.1),
-  rw c.add.ensures.0 (selves_more c.loop-u.rows c.loop-u.u (omega (arith, c.requires.0)) c.loop-u.invariant.1.0 c.loop-u.invariant.2),
-  c.add.ensures.1,
+  (c.add.auto.rows ∙ c.loop-u.invariant.1.0, c.add.auto.sizes ∙ c.loop-u.invariant.1.1),
+  rw c.add.ensures.added (selves_more c.loop-u.rows c.loop-u.u (omega (arith, c.requires.0)) c.loop-u.invariant.1.0 c.loop-u.invariant.2),
+  c.add.ensures.counted,
 )

@@ -12,31 +12,31 @@ use Rattle.image.proofs.ask_edges.Goals as goal
 pub returns-then-m-fault : goal.returns-then-m-fault
 returns-then-m-fault c =
     record {
-        answer = sym (edges_yes c.args.records.now c.args.h c.add_edges-fault.result c.add_edges-fault.ensures.first c.if-m-fault.true);
-        held = held_yes c.add_edges-fault.ensures c.if-m-fault.true
+      answer = sym (edges_yes c.args.records.now c.args.h c.add_edges-fault.result c.add_edges-fault.ensures.first c.if-m-fault.true);
+      held = held_yes c.add_edges-fault.ensures c.if-m-fault.true;
     }
 
 pub returns-then-bad-m : goal.returns-then-bad-m
 unfolding ask_edges
 returns-then-bad-m c =
     record {
-        answer = c.refused.ensures ∙ sym (each_no _ _ _ ((let it : (c.first_bad-bad.result ≡ find c.args.h.m (bad_end c.args.records.now c.args.h.n)) = end_found c.args.records.now c.args.h.n c.args.h.m c.first_bad-bad.result c.first_bad-bad.ensures in it)) 8 _ c.if-bad-m.true);
-        held = held_no _ c.refused.ensures
+      answer = c.refused.ensures ∙ sym (each_no _ _ _ ((end_found c.args.records.now c.args.h.n c.args.h.m c.first_bad-bad.result c.first_bad-bad.ensures)) 8 _ c.if-bad-m.true);
+      held = held_no _ c.refused.ensures;
     }
 
 pub returns-then-own-m : goal.returns-then-own-m
 unfolding ask_edges
 returns-then-own-m c =
     record {
-        answer = c.refused-then-own-m.ensures ∙ sym ((each_yes _ _ _ ((let it : (c.first_bad-bad.result ≡ find c.args.h.m (bad_end c.args.records.now c.args.h.n)) = end_found c.args.records.now c.args.h.n c.args.h.m c.first_bad-bad.result c.first_bad-bad.ensures in it)) 8 _ c.if-bad-m.false) ∙ each_no _ _ _ ((let it : (c.first_bad-own.result ≡ find c.args.h.m (is_loop c.args.records.now)) = loop_found c.args.records.now c.args.h.n c.args.h.m c.first_bad-own.result c.first_bad-own.ensures in it)) 9 _ c.if-own-m.true);
-        held = held_no _ c.refused-then-own-m.ensures
+      answer = c.refused-then-own-m.ensures ∙ sym ((each_yes _ _ _ ((end_found c.args.records.now c.args.h.n c.args.h.m c.first_bad-bad.result c.first_bad-bad.ensures)) 8 _ c.if-bad-m.false) ∙ each_no _ _ _ ((loop_found c.args.records.now c.args.h.n c.args.h.m c.first_bad-own.result c.first_bad-own.ensures)) 9 _ c.if-own-m.true);
+      held = held_no _ c.refused-then-own-m.ensures;
     }
 
 pub returns : goal.returns
 returns c =
     record {
-        answer = c.refused-2.ensures
-          ∙ sym (edges_repeat c.args.records.now c.args.h c.add_edges-fault.result c.add_edges-fault.ensures.first c.if-m-fault.left
-          (each_passed _ _ _ ((let it : (c.first_bad-bad.result ≡ find c.args.h.m (bad_end c.args.records.now c.args.h.n)) = end_found c.args.records.now c.args.h.n c.args.h.m c.first_bad-bad.result c.first_bad-bad.ensures in it)) c.if-bad-m.false) (each_passed _ _ _ ((let it : (c.first_bad-own.result ≡ find c.args.h.m (is_loop c.args.records.now)) = loop_found c.args.records.now c.args.h.n c.args.h.m c.first_bad-own.result c.first_bad-own.ensures in it)) c.if-own-m.false));
-        held = held_no _ c.refused-2.ensures,
+      answer = c.refused-2.ensures
+          ∙ sym (edges_repeat c.args.records.now c.args.h c.add_edges-fault.result c.add_edges-fault.ensures.first c.if-m-fault.false
+          (each_passed _ _ _ ((end_found c.args.records.now c.args.h.n c.args.h.m c.first_bad-bad.result c.first_bad-bad.ensures)) c.if-bad-m.false) (each_passed _ _ _ ((loop_found c.args.records.now c.args.h.n c.args.h.m c.first_bad-own.result c.first_bad-own.ensures)) c.if-own-m.false));
+      held = held_no _ c.refused-2.ensures;
     }

@@ -13,7 +13,7 @@ pub returns-then-far-h : goal.returns-then-far-h
 unfolding ask_records
 returns-then-far-h c =
     record {
-      answer = c.refused.ensures ∙ sym (each_no _ _ _ ((let it : (c.first_bad-far.result ≡ find c.args.h.n (λ v. out_of_limits (handset_record c.args.handsets.now v))) = handset_found c.args.handsets.now c.args.h.n c.args.h.n c.first_bad-far.result c.first_bad-far.ensures in it)) 7 _ c.if-far-h.true);
+      answer = c.refused.ensures ∙ sym (each_no _ _ _ ((handset_found c.args.handsets.now c.args.h.n c.args.h.n c.first_bad-far.result c.first_bad-far.ensures)) 7 _ c.if-far-h.true);
       held = held_no _ c.refused.ensures;
     }
 
@@ -21,6 +21,6 @@ pub returns : goal.returns
 unfolding ask_records
 returns c =
     record {
-      answer = c.ask_edges.ensures.answer ∙ sym (each_yes _ _ _ ((let it : (c.first_bad-far.result ≡ find c.args.h.n (λ v. out_of_limits (handset_record c.args.handsets.now v))) = handset_found c.args.handsets.now c.args.h.n c.args.h.n c.first_bad-far.result c.first_bad-far.ensures in it)) 7 _ c.if-far-h.false);
+      answer = c.ask_edges.ensures.answer ∙ sym (each_yes _ _ _ ((handset_found c.args.handsets.now c.args.h.n c.args.h.n c.first_bad-far.result c.first_bad-far.ensures)) 7 _ c.if-far-h.false);
       held = c.ask_edges.ensures.held;
     }

@@ -8,20 +8,20 @@ use Rattle.image.proofs.read_image.Goals as goal
 pub returns-in_default : goal.returns-in_default
 returns-in_default c =
     record {
-      answer = c.enum_told-1.given.1 ∙ sym (header_no _ _ (sym c.open_header-checked.ensures ∙ c.enum_told-1.given.1));
-      held = held_no _ c.enum_told-1.given.1;
+      answer = c.in_default.is ∙ sym (header_no _ _ (sym c.open_header-checked.ensures ∙ c.in_default.is));
+      held = held_no _ c.in_default.is;
     }
 
 pub ask_tables-requires : goal.ask_tables-requires
 ask_tables-requires c =
-    let f = header_passed _ _ (sym c.open_header-checked.ensures ∙ c.checked-1.given.1) in
+    let f = header_passed _ _ (sym c.open_header-checked.ensures ∙ c.in-Site.is) in
     (f.0.n_limit, omega (arith, f.0.handsets_to, f.1), omega (arith, f.0.edges_to, f.1), c.requires)
 
 pub returns : goal.returns
 returns c =
     record {
-      answer = let told = sym c.open_header-checked.ensures ∙ c.checked-1.given.1 in
+      answer = let told = sym c.open_header-checked.ensures ∙ c.in-Site.is in
           c.ask_tables.ensures.answer ∙ sym (header_passed _ _ told).2;
-      held = let told = sym c.open_header-checked.ensures ∙ c.checked-1.given.1 in
+      held = let told = sym c.open_header-checked.ensures ∙ c.in-Site.is in
           held_related _ _ (header_yes _ _ told).1 c.ask_tables.ensures.held;
     }
