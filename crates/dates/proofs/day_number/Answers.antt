@@ -1,0 +1,11 @@
+use Rattle.dates.specs.Dates.{day_number_of}
+use borrow.Author.Rules.{rules}
+use Rattle.dates.proofs.day_number.Goals as goal
+
+pub returns-then-exists : goal.returns-then-exists
+unfolding day_number_of
+returns-then-exists c = simp (← c.exists.ensures, c.if-exists.true) c.count_days.ensures
+
+pub returns : goal.returns
+unfolding day_number_of
+returns c = simp (← c.exists.ensures, c.if-exists.false)

@@ -1,0 +1,8 @@
+use mathlib.Core.Path.{refl}
+use Rattle.dates.specs.Dates.{days_before}
+use borrow.Author.Rules.{rules}
+use Rattle.dates.proofs.days_before.Goals as goal
+
+pub returns : goal.returns
+unfolding days_before
+returns c = refl

@@ -1,0 +1,11 @@
+use Rattle.dates.specs.Dates.{month_length}
+use borrow.Author.Rules.{rules}
+use Rattle.dates.proofs.month_length.Goals as goal
+
+pub returns-then-month-is_leap : goal.returns-then-month-is_leap
+unfolding month_length
+returns-then-month-is_leap c = simp (← c.is_leap.ensures, c.if-month-is_leap.true)
+
+pub returns : goal.returns
+unfolding month_length
+returns c = simp (← c.is_leap.ensures, c.if-month-is_leap.false)

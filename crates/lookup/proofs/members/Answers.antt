@@ -1,0 +1,6 @@
+use Rattle.lookup.proofs.Agreement.{members_span}
+use borrow.Author.Rules.{rules}
+use Rattle.lookup.proofs.members.Goals as goal
+
+pub returns : goal.returns
+returns c = rw (members_span c.args.starts.now c.args.table.now c.args.k, ← c.find_span-s.ensures.0)
