@@ -38,7 +38,7 @@ loop-i-init c = (omega arith, left_none _)
 
 pub loop-i-preserved : goal.loop-i-preserved
 unfolding coordinate_of sum
-loop-i-preserved c = (omega arith, rw (add-one c.loop-i.i) (left-more _ _ c.loop-i.room _ _ _ c.loop-i.fits c.loop-i.invariant.1 (c.squared_gap_at-d.ensures) c.squared_gap_at-d.type_inv c.wrapping_sub_u64-room.type_inv c.wrapping_sub_u64-room.ensures))
+loop-i-preserved c = (omega arith, rw (add-one c.loop-i.i) (left-more _ _ c.loop-i.room _ _ _ c.loop-i.fits c.loop-i.invariant.1 (c.squared_gap_at-d.ensures) c.squared_gap_at-d.type_inv c.wrapping_sub_u64-room.type_inv c.wrapping_sub_u64-room.ensures.value))
 
 pub returns-then-fits : goal.returns-then-fits
 unfolding distance_between
