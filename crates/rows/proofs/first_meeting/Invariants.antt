@@ -1,0 +1,18 @@
+use Prim.Native.Nat.{ℕ, ◌-◌, ◌≤◌}
+use native.Mathlib.Omega.{arith}
+use mathlib.Core.Path.{◌≡◌, sym, ap, ◌∙◌, subst}
+use mathlib.Core.Bool.{not}
+use lib.Dec.{T}
+use Rattle.sets.specs.Below.{any}
+use Rattle.rows.specs.Rows.{rows_of}
+use Rattle.rows.specs.Rows.{first_meeting}
+use Rattle.rows.proofs.Rows.{meets_at, first_found, first_none, none_before, none_next}
+use borrow.Author.Rules.{rules}
+use Rattle.rows.proofs.first_meeting.Given as goal
+
+-- `rows::first_meeting` meets its contract. The invariant: none of the rows passed meets the set. The measure is the number of rows left.
+abbrev pub invariant-loop-k : goal.invariant-loop-k
+invariant-loop-k l = (l.k ≤ l.groups) × T (not (any l.k (meets_at l.set l.rows l.groups)))
+
+abbrev pub decreases-loop-k : goal.decreases-loop-k
+decreases-loop-k l = l.groups - l.k
