@@ -1,0 +1,10 @@
+use Prim.Native.Nat.{ℕ, ◌+◌, ◌*◌, ◌≤◌, min}
+use native.Mathlib.Omega.{arith}
+use native.Mathlib.Nat.{mul-le-mul}
+use mathlib.Core.Path.{◌≡◌}
+use Rattle.scores.specs.Scored.{pairs_of}
+use Rattle.scores.proofs.Pairing.{pairs_half}
+use Rattle.scores.proofs.pairs_of.Goals as goal
+
+pub returns : goal.returns
+returns c = omega (arith, (let it : pairs_of (min c.args.size 512) * 2 + c.smaller-n.result ≡ c.smaller-n.result * c.smaller-n.result = rw c.smaller-n.ensures (pairs_half _) in it))

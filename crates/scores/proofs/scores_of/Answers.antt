@@ -1,0 +1,13 @@
+use Prim.Native.Nat.{ℕ}
+use mathlib.Core.Path.{ap, ap₂, ◌∙◌}
+use Rattle.scores.specs.Scored.{score, scores_for}
+use Rattle.scores.specs.declared.Score.{Score}
+use borrow.Author.Rules.{rules}
+use Rattle.scores.proofs.scores_of.Goals as goal
+
+pub returns : goal.returns
+unfolding scores_for
+returns c =
+    ap₂ (λ (x y : Score). record { density = x; conductance = y })
+    (c.score_of.ensures ∙ ap (λ (d : ℕ). score d c.args.t.pairs) c.less.ensures)
+    c.score_of-2.ensures
