@@ -1,0 +1,23 @@
+use Prim.Native.Nat.{ℕ, ◌+◌, ◌*◌, ◌^◌, ◌<◌, max}
+use native.Mathlib.Omega.{arith}
+use mathlib.Core.Path.{◌≡◌, refl, sym, ap, ◌∙◌}
+use lib.ListN.{length, get_or, set, length-set}
+use lib.Count.{count_trailing_zeros}
+use Rattle.sets.specs.Below.{sum}
+use Rattle.sets.specs.Bits.{bit_of}
+use Rattle.sets.proofs.Lowest.{Lowest, cleared, lowest, cleared_lt, cleared_falls}
+use Rattle.tallies.specs.ForProofs.{bit_for}
+use Rattle.tallies.proofs.Words.{bit_for_le, bit_for_at, raised_more, raised_done}
+use Rattle.tallies.proofs.Reaching.{raised_to_more, raised_to_done}
+use borrow.Author.Rules.{rules}
+use Rattle.tallies.proofs.add_inside.Given as goal
+
+-- `tallies::add_inside` meets its contract. The invariant: what a place holds, with what the rest of the word has for it, is what it held with what the word has for
+-- it. A turn counts at the place of the lowest set bit, raises the reach there and clears the bit; the measure is the sum of the bits left.
+abbrev pub invariant-loop-w : goal.invariant-loop-w
+invariant-loop-w l = (l.w < 2 ^ 64) × (length l.tallies ≡ length l.initial.tallies) × ((i : ℕ) → get_or l.tallies i 0 + bit_for l.base l.w i ≡ get_or l.initial.tallies i 0 + bit_for l.base l.word i)
+    × (length l.reaches ≡ length l.initial.reaches)
+    × ((i : ℕ) → max (get_or l.reaches i 0) (l.reach * bit_for l.base l.w i) ≡ max (get_or l.initial.reaches i 0) (l.reach * bit_for l.base l.word i))
+
+abbrev pub decreases-loop-w : goal.decreases-loop-w
+decreases-loop-w l = sum 64 (bit_of l.w)

@@ -1,0 +1,25 @@
+use Prim.Native.Nat.{ℕ, ◌+◌, ◌*◌, ◌-◌, ◌≤◌, ◌<◌, max}
+use native.Mathlib.Omega.{arith}
+use mathlib.Core.Path.{◌≡◌, refl, sym, ap, ap₂, ◌∙◌}
+use mathlib.Core.Bool.{Bool, cond}
+use mathlib.Core.List.{List}
+use lib.Dec.{eqb}
+use lib.ListN.{length, get_or}
+use borrow.Author.Tests.{le-ltb}
+use Rattle.sets.specs.Below.{bit}
+use Rattle.sets.specs.Bits.{bit_at}
+use Rattle.tallies.specs.ForProofs.{degree_sum, bit_for}
+use Rattle.tallies.proofs.Words.{up_to, up_to_le, row_none, row_more, row_next, row_all}
+use Rattle.tallies.proofs.Degrees.{degree_sum_le, degree_sum_cong, degree_sum_add, degree_sum_none}
+use borrow.Author.Rules.{rules}
+use Rattle.tallies.proofs.mark_row.Given as goal
+
+-- `tallies::mark_row` meets its contract. After j turns the members in the first j words of the row are marked and their degrees summed. The measure is the number of
+-- words left.
+abbrev pub invariant-loop-j : goal.invariant-loop-j
+invariant-loop-j l = (l.j ≤ l.n) × (length l.words ≡ length l.initial.words)
+    × ((v k : ℕ) → v < 512 → k < 64 → bit_at l.words (v * 64 + k) ≡ max (bit_at l.initial.words (v * 64 + k)) (bit (eqb k l.i) * up_to l.row l.j v))
+    × (l.sum ≡ degree_sum (up_to l.row l.j) l.degrees)
+
+abbrev pub decreases-loop-j : goal.decreases-loop-j
+decreases-loop-j l = l.n - l.j

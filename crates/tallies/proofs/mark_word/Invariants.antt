@@ -1,0 +1,27 @@
+use Prim.Native.Nat.{ℕ, ◌+◌, ◌*◌, ◌^◌, ◌<◌, max}
+use native.Mathlib.Omega.{arith}
+use mathlib.Core.Path.{◌≡◌, refl, sym, ap, ◌∙◌}
+use mathlib.Core.List.{List}
+use lib.Count.{count_trailing_zeros}
+use lib.Dec.{eqb}
+use lib.ListN.{length, get_or}
+use Rattle.sets.specs.Below.{bit}
+use Rattle.sets.specs.Below as Below
+use Rattle.sets.specs.Bits.{bit_of, bit_at}
+use Rattle.sets.proofs.Bits.{length_with_bit}
+use Rattle.sets.proofs.Lowest.{Lowest, cleared, lowest, cleared_lt, cleared_falls}
+use Rattle.tallies.specs.ForProofs.{degree_sum, bit_for}
+use Rattle.tallies.proofs.Words.{bit_for_le, marked_more, marked_done}
+use Rattle.tallies.proofs.Degrees.{degree_sum_le, sum_cleared, sum_done}
+use borrow.Author.Rules.{rules}
+use Rattle.tallies.proofs.mark_word.Given as goal
+
+-- `tallies::mark_word` meets its contract. The invariant: what the words hold, with what the rest of the word has for them, is what they held with what the word has
+-- for them, and so for the sum of the degrees. A turn marks the handset of the lowest set bit and clears it; the measure is the sum of the bits left.
+abbrev pub invariant-loop-w : goal.invariant-loop-w
+invariant-loop-w l = (l.w < 2 ^ 64) × (length l.words ≡ length l.initial.words)
+    × ((v j : ℕ) → j < 64 → max (bit_at l.words (v * 64 + j)) (bit (eqb j l.i) * bit_for l.base l.w v) ≡ max (bit_at l.initial.words (v * 64 + j)) (bit (eqb j l.i) * bit_for l.base l.word v))
+    × (l.sum + degree_sum (bit_for l.base l.w) l.degrees ≡ degree_sum (bit_for l.base l.word) l.degrees)
+
+abbrev pub decreases-loop-w : goal.decreases-loop-w
+decreases-loop-w l = Below.sum 64 (bit_of l.w)

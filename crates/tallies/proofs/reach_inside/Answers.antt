@@ -1,0 +1,15 @@
+use Prim.Native.Nat.{ℕ, ◌+◌}
+use native.Mathlib.Omega.{arith}
+use native.Mathlib.Numerals.{add-one}
+use mathlib.Core.Path.{◌≡◌, sym, ap, ◌∙◌}
+use mathlib.Core.Bool.{Bool, false, cond}
+use lib.Dec.{eqb}
+use borrow.Author.Tests.{eq-eqb, ne_eqb}
+use Rattle.near.specs.Near.{ends_proximity}
+use Rattle.tallies.specs.Tallies.{reach_entry}
+use Rattle.near.proofs.Edges.{ends_most}
+use borrow.Author.Rules.{rules}
+use Rattle.tallies.proofs.reach_inside.Goals as goal
+
+pub overflow_add-result : goal.overflow_add-result
+overflow_add-result c = omega (arith, c.requires, ends_most c.args.handsets.now c.args.u c.args.v c.args.limit c.in-Near.d (sym c.test_ends-tested.ensures ∙ c.in-Near.is))
