@@ -1,10 +1,9 @@
--- `points::raise` meets its contract. A number of 32 bits and its sum with 2 ^ 31 fit 64 bits; the sum is not negative, and fits 32.
 use Rattle.std.proofs.Common.{◌≡◌, ◌<◌, T, ℤ, pos, negsuc, ◌+ℤ◌, nat_abs, sym, refl, ap, ◌∙◌, subst, arith, to_z-of_z, w32, w64, Fits, SFits, to_z, of_z, le-ltb}
 use lib.Signed.{mag, non_neg}
 use Rattle.image.specs.Signed.{raised}
-use Rattle.points.proofs.raise.Statement.{statement}
-use Rattle.points.proofs.raise.Tie as tie
+use Rattle.points.proofs.raise.Goals as goal
 
+-- `points::raise` meets its contract. A number of 32 bits and its sum with 2 ^ 31 fit 64 bits; the sum is not negative, and fits 32.
 raised-sum : (z : ℤ) → mag z < 2147483648 → (z +ℤ pos 2147483648 ≡ pos (raised z)) × (raised z < 4294967296)
 unfolding raised
 raised-sum (pos x) h = (refl, omega arith)
@@ -30,19 +29,5 @@ module _ (z : ℤ) (f : SFits w32 z) where
   total-raised : to_z w64 (of_z w64 total) ≡ pos (raised z)
   total-raised = to_z-of_z total-fits ∙ total-is
 
-cast-result : tie.Need-overflow-cast-result
-cast-result c = wide_fits c.args.x c.ranges.x
-
-add-result : tie.Need-overflow-add-result
-add-result c = total-fits c.args.x c.ranges.x
-
-cast-result-2 : tie.Need-overflow-cast-result-2
-cast-result-2 c =
-    let z = c.args.x in
-    subst (λ (w : ℤ). T (non_neg w) × Fits w32 (nat_abs w)) (sym (total-raised z c.ranges.x)) (tt, record { fits = omega (arith, (raised-sum z c.ranges.x.sfits).1) })
-
-returns : tie.Need-returns
+pub returns : goal.returns
 returns c = ap nat_abs (total-raised c.args.x c.ranges.x)
-
-pub raise-spec : {M : Type 1} → statement M
-raise-spec = tie.close (tie.spec cast-result add-result cast-result-2 returns)

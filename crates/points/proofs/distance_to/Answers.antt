@@ -1,0 +1,38 @@
+use Rattle.std.proofs.Common.{◌≡◌, ℕ, ◌+◌, ◌-◌, ◌*◌, ◌%◌, ◌^◌, ◌<◌, ◌≤◌, List, get_or, sym, refl, ap, ◌∙◌, add-one, arith, rules}
+use Rattle.sets.specs.Below.{sum}
+use Rattle.little_endian.specs.Bytes.{number}
+use Rattle.fields.specs.Fields.{coordinate_bytes, coordinate_count, handset_bytes, shifted, gap, coordinate_of}
+use Rattle.little_endian.proofs.Bytes.{number_slice}
+use Rattle.image.specs.Image.{handset_record, gap_squared}
+use Rattle.points.specs.Points.{distance_from}
+use Rattle.points.proofs.distance_to.Invariants.{squares}
+use Rattle.points.proofs.distance_to.Goals as goal
+
+-- a coordinate read from the records is that of the handset's record
+coordinate_at : (records : List ℕ) (v i : ℕ) → i < coordinate_count → shifted (number coordinate_bytes records (handset_bytes * v + coordinate_bytes * i)) ≡ coordinate_of (handset_record records v) i
+unfolding coordinate_of handset_record
+coordinate_at records v i h =
+    ap shifted (sym (number_slice coordinate_bytes records (handset_bytes * v) handset_bytes (coordinate_bytes * i) (omega arith) (omega arith)))
+
+-- one square more
+wrap-more : (total r d x y : ℕ) → total ≡ x % 2 ^ 64 → d ≡ y → r ≡ (total + d) % 2 ^ 64 → r ≡ (y + x) % 2 ^ 64
+wrap-more total r d x y p q e = omega arith
+
+pub loop-i-init : goal.loop-i-init
+unfolding sum
+loop-i-init c = (omega arith, refl)
+
+pub loop-i-preserved : goal.loop-i-preserved
+unfolding sum
+loop-i-preserved c = (
+  omega arith,
+  rw (add-one c.loop-i.i) (wrap-more c.loop-i.total c.wrapping_add_u64-total.result c.squared_gap.result _ _ c.loop-i.invariant.1 ((let it : c.squared_gap.result ≡ (let it : ℕ → ℕ = squares c.args.point.now c.args.handsets.now c.args.v in it) c.loop-i.i = let x : ℕ = get_or c.args.point.now c.loop-i.i 0 in
+      c.squared_gap.ensures
+      ∙ ap (λ (y : ℕ). gap x y * gap x y) (c.coordinate-coordinate.ensures ∙ coordinate_at c.args.handsets.now c.args.v c.loop-i.i (omega (arith, c.loop-i-test.true))) in it)) c.wrapping_add_u64-total.ensures),
+)
+
+pub returns : goal.returns
+unfolding distance_from
+returns c =
+    let e : c.loop-i.i ≡ coordinate_count = omega (arith, c.loop-i.invariant.0, c.loop-i-test.false) in
+    c.loop-i.invariant.1 ∙ ap (λ (n : ℕ). sum n ((let it : ℕ → ℕ = squares c.args.point.now c.args.handsets.now c.args.v in it)) % 2 ^ 64) e

@@ -1,0 +1,20 @@
+use Rattle.std.proofs.Common.{◌≡◌, ℕ, ◌+◌, ◌-◌, ◌*◌, ◌%◌, ◌^◌, ◌<◌, ◌≤◌, List, get_or, sym, refl, ap, ◌∙◌, add-one, arith, rules}
+use Rattle.sets.specs.Below.{sum}
+use Rattle.little_endian.specs.Bytes.{number}
+use Rattle.fields.specs.Fields.{coordinate_bytes, coordinate_count, handset_bytes, shifted, gap, coordinate_of}
+use Rattle.little_endian.proofs.Bytes.{number_slice}
+use Rattle.image.specs.Image.{handset_record, gap_squared}
+use Rattle.points.specs.Points.{distance_from}
+use Rattle.points.proofs.distance_to.Given as goal
+
+-- `points::distance_to` meets its contract. At i the total is the sum of the first i squares, as 64 bits hold it. The measure is what is left of the
+-- coordinates.
+-- the squares that are summed
+abbrev pub squares : List ℕ → List ℕ → ℕ → ℕ → ℕ
+squares point handsets v = gap_squared (λ i. get_or point i 0) (coordinate_of (handset_record handsets v))
+
+abbrev pub invariant-loop-i : goal.invariant-loop-i
+invariant-loop-i l = (l.i ≤ coordinate_count) × (l.total ≡ sum l.i (squares l.point l.handsets l.v) % 2 ^ 64)
+
+abbrev pub decreases-loop-i : goal.decreases-loop-i
+decreases-loop-i l = coordinate_count - l.i

@@ -1,0 +1,35 @@
+use mathlib.Core.Path.{◌≡◌, sym, ap, ◌∙◌}
+use Rattle.lookup.specs.Lookup.{looked_of}
+use Rattle.lookup.specs.declared.Looked.{Looked}
+use Rattle.lookup.proofs.Answers.{looked_same}
+use Rattle.schedule.specs.declared.Scheduled.{Scheduled}
+use Rattle.schedule.specs.declared.Scheduled.TheVariants as S
+use Rattle.schedule.specs.Schedule.{choice_of, in_plan, scheduled_of}
+use Rattle.schedule.specs.Answers.{scheduled_answer}
+use Rattle.schedule.proofs.Agreement.{in_workday, in_restday}
+use borrow.Author.Rules.{rules}
+use Rattle.schedule.proofs.find_group_at.Goals as goal
+
+pub returns-in-Found : goal.returns-in-Found
+returns-in-Found c =
+    (ap scheduled_answer
+    (in_workday _ (sym c.choose-c.ensures ∙ c.in-Workday.is) (sym c.in-Found.is ∙ looked_same _ _ c.find_group-looked.ensures)))
+
+pub returns-in-Refused : goal.returns-in-Refused
+returns-in-Refused c =
+    (ap scheduled_answer
+    (in_workday _ (sym c.choose-c.ensures ∙ c.in-Workday.is) (sym c.in-Refused.is ∙ looked_same _ _ c.find_group-looked.ensures)))
+
+pub returns-in-Found-looked : goal.returns-in-Found-looked
+returns-in-Found-looked c =
+    (ap scheduled_answer
+    (in_restday _ (sym c.choose-c.ensures ∙ c.in-Restday.is) (sym c.in-Found-looked.is ∙ looked_same _ _ c.find_group-looked-in-Restday.ensures)))
+
+pub returns-in-Refused-looked : goal.returns-in-Refused-looked
+returns-in-Refused-looked c =
+    (ap scheduled_answer
+    (in_restday _ (sym c.choose-c.ensures ∙ c.in-Restday.is) (sym c.in-Refused-looked.is ∙ looked_same _ _ c.find_group-looked-in-Restday.ensures)))
+
+pub returns-in-Neither : goal.returns-in-Neither
+unfolding scheduled_of
+returns-in-Neither c = rw (← c.choose-c.ensures, c.in-Neither.is)

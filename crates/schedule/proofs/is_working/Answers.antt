@@ -1,0 +1,7 @@
+use Rattle.schedule.specs.Schedule.{is_workday, in_window, is_working}
+use borrow.Author.Rules.{rules}
+use Rattle.schedule.proofs.is_working.Goals as goal
+
+pub returns : goal.returns
+unfolding is_workday in_window is_working
+returns c = simp c.weekday.ensures
