@@ -1,9 +1,9 @@
-use Rattle.std.proofs.Common.{◌≡◌, ℕ, ◌+◌, ◌-◌, ◌*◌, ◌%◌, ◌^◌, ◌<◌, ◌≤◌, List, get_or, sym, refl, ap, ◌∙◌, add-one, arith, rules}
+use Rattle.std.proofs.Common.{◌≡◌, ℕ, ◌+◌, ◌*◌, ◌%◌, ◌^◌, ◌<◌, List, get_or, sym, refl, ap, ◌∙◌, add-one, arith}
 use Rattle.sets.specs.Below.{sum}
 use Rattle.little_endian.specs.Bytes.{number}
 use Rattle.fields.specs.Fields.{coordinate_bytes, coordinate_count, handset_bytes, shifted, gap, coordinate_of}
 use Rattle.little_endian.proofs.Bytes.{number_slice}
-use Rattle.image.specs.Image.{handset_record, gap_squared}
+use Rattle.image.specs.Image.{handset_record}
 use Rattle.points.specs.Points.{distance_from}
 use Rattle.points.proofs.distance_to.Invariants.{squares}
 use Rattle.points.proofs.distance_to.Goals as goal
@@ -28,7 +28,7 @@ loop-i-preserved c = (
   omega arith,
   rw (add-one c.loop-i.i) (wrap-more c.loop-i.total c.wrapping_add_u64-total.result c.squared_gap.result _ _ c.loop-i.invariant.1 ((let it : c.squared_gap.result ≡ (let it : ℕ → ℕ = squares c.args.point.now c.args.handsets.now c.args.v in it) c.loop-i.i = let x : ℕ = get_or c.args.point.now c.loop-i.i 0 in
       c.squared_gap.ensures
-      ∙ ap (λ (y : ℕ). gap x y * gap x y) (c.coordinate-coordinate.ensures ∙ coordinate_at c.args.handsets.now c.args.v c.loop-i.i (omega (arith, c.loop-i-test.true))) in it)) c.wrapping_add_u64-total.ensures),
+      ∙ ap (λ (y : ℕ). gap x y * gap x y) (c.coordinate-coordinate.ensures ∙ coordinate_at c.args.handsets.now c.args.v c.loop-i.i (omega (arith, c.loop-i-test.true))) in it)) c.wrapping_add_u64-total.ensures.value),
 )
 
 pub returns : goal.returns

@@ -1,10 +1,7 @@
-use Rattle.std.proofs.Common.{◌≡◌, ℕ, ◌+◌, ◌-◌, ◌*◌, ◌%◌, ◌^◌, ◌<◌, ◌≤◌, List, get_or, sym, refl, ap, ◌∙◌, add-one, arith, rules}
+use Rattle.std.proofs.Common.{◌≡◌, ℕ, ◌-◌, ◌%◌, ◌^◌, ◌≤◌, List, get_or}
 use Rattle.sets.specs.Below.{sum}
-use Rattle.little_endian.specs.Bytes.{number}
-use Rattle.fields.specs.Fields.{coordinate_bytes, coordinate_count, handset_bytes, shifted, gap, coordinate_of}
-use Rattle.little_endian.proofs.Bytes.{number_slice}
+use Rattle.fields.specs.Fields.{coordinate_count, coordinate_of}
 use Rattle.image.specs.Image.{handset_record, gap_squared}
-use Rattle.points.specs.Points.{distance_from}
 use Rattle.points.proofs.distance_to.Given as goal
 
 -- `points::distance_to` meets its contract. At i the total is the sum of the first i squares, as 64 bits hold it. The measure is what is left of the

@@ -1,4 +1,4 @@
-use Rattle.std.proofs.Common.{◌≡◌, ℕ, Bool, true, ◌&&◌, ℤ, ap, ◌∙◌, ap₂, to_z-of_z, w32, SFits, to_z, of_z, rules}
+use Rattle.std.proofs.Common.{◌≡◌, ℕ, Bool, true, ◌&&◌, ℤ, ap, ◌∙◌, ap₂, to_z-of_z, w32, SFits, to_z, of_z}
 use Rattle.sets.proofs.Tests.{and_comm}
 use Rattle.fields.specs.Fields.{in_limits}
 use Rattle.image.specs.Signed.{raised, within_limits}

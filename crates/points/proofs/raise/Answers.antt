@@ -1,5 +1,5 @@
-use Rattle.std.proofs.Common.{◌≡◌, ◌<◌, T, ℤ, pos, negsuc, ◌+ℤ◌, nat_abs, sym, refl, ap, ◌∙◌, subst, arith, to_z-of_z, w32, w64, Fits, SFits, to_z, of_z, le-ltb}
-use lib.Signed.{mag, non_neg}
+use Rattle.std.proofs.Common.{◌≡◌, ◌<◌, ℤ, pos, negsuc, ◌+ℤ◌, nat_abs, sym, refl, ap, ◌∙◌, subst, arith, to_z-of_z, w32, w64, SFits, to_z, of_z, le-ltb}
+use lib.Signed.{mag}
 use Rattle.image.specs.Signed.{raised}
 use Rattle.points.proofs.raise.Goals as goal
 
