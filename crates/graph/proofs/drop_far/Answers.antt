@@ -54,8 +54,8 @@ drop_edges-requires c =
                   | else-m-j-lt64 w ↦ omega (arith, h, w.count-is)
                 ])))))
                 (others_word c.near_word-word.result all (λ i. ltb i n) (λ i. (passes_near c.args.handsets.now c.args.edges.now c.args.limit (64 * c.loop-j.j + i))) (first_word n ((let it : (1 ≤ c.if-m-j-lt64.count) × (c.if-m-j-lt64.count ≤ 64) × (64 * c.loop-j.j + c.if-m-j-lt64.count ≤ c.args.m) = elim c.if-m-j-lt64.branch [
-                  | then-m-j-lt64 w ↦ (omega (arith, w.FIXME1-is, c.loop-j-test.true), omega (arith, w.if-m-j-lt64.true, w.FIXME1-is), omega (arith, w.FIXME1-is, c.loop-j-test.true))
-                  | else-m-j-lt64 w ↦ (omega (arith, w.FIXME1-is), omega (arith, w.FIXME1-is), omega (arith, w.if-m-j-lt64.false, w.FIXME1-is, c.loop-j-test.true))
+                  | then-m-j-lt64 w ↦ (omega (arith, w.count-is, c.loop-j-test.true), omega (arith, w.if-m-j-lt64.true, w.count-is), omega (arith, w.count-is, c.loop-j-test.true))
+                  | else-m-j-lt64 w ↦ (omega (arith, w.count-is), omega (arith, w.count-is), omega (arith, w.if-m-j-lt64.false, w.count-is, c.loop-j-test.true))
                 ] in it)).1)
                 c.near_word-word.ensures),
           ) in it)).0 ((let it : (((let it : ℕ = bit_xor c.near_word-word.result (18446744073709551615 / 2 ^ (64 - c.if-m-j-lt64.count)) in it) < 2 ^ 64) × WordOf ((let it : ℕ = bit_xor c.near_word-word.result (18446744073709551615 / 2 ^ (64 - c.if-m-j-lt64.count)) in it)) (λ i. ltb (64 * c.loop-j.j + i) c.args.m && not ((passes_near c.args.handsets.now c.args.edges.now c.args.limit (64 * c.loop-j.j + i))))) = let n : ℕ = c.if-m-j-lt64.count in
@@ -68,17 +68,17 @@ drop_edges-requires c =
                   arith,
                   ltb→lt i c.if-m-j-lt64.count t,
                   ((let it : (1 ≤ c.if-m-j-lt64.count) × (c.if-m-j-lt64.count ≤ 64) × (64 * c.loop-j.j + c.if-m-j-lt64.count ≤ c.args.m) = elim c.if-m-j-lt64.branch [
-                    | then-m-j-lt64 w ↦ (omega (arith, w.FIXME1-is, c.loop-j-test.true), omega (arith, w.if-m-j-lt64.true, w.FIXME1-is), omega (arith, w.FIXME1-is, c.loop-j-test.true))
-                    | else-m-j-lt64 w ↦ (omega (arith, w.FIXME1-is), omega (arith, w.FIXME1-is), omega (arith, w.if-m-j-lt64.false, w.FIXME1-is, c.loop-j-test.true))
+                    | then-m-j-lt64 w ↦ (omega (arith, w.count-is, c.loop-j-test.true), omega (arith, w.if-m-j-lt64.true, w.count-is), omega (arith, w.count-is, c.loop-j-test.true))
+                    | else-m-j-lt64 w ↦ (omega (arith, w.count-is), omega (arith, w.count-is), omega (arith, w.if-m-j-lt64.false, w.count-is, c.loop-j-test.true))
                   ] in it)).2,
                 )))
                 (λ t. lt→ltb i c.if-m-j-lt64.count (elim c.if-m-j-lt64.branch [
-                  | then-m-j-lt64 w ↦ omega (arith, ltb→lt (b + i) m t, w.FIXME1-is)
-                  | else-m-j-lt64 w ↦ omega (arith, h, w.FIXME1-is)
+                  | then-m-j-lt64 w ↦ omega (arith, ltb→lt (b + i) m t, w.count-is)
+                  | else-m-j-lt64 w ↦ omega (arith, h, w.count-is)
                 ])))))
                 (others_word c.near_word-word.result all (λ i. ltb i n) (λ i. (passes_near c.args.handsets.now c.args.edges.now c.args.limit (64 * c.loop-j.j + i))) (first_word n ((let it : (1 ≤ c.if-m-j-lt64.count) × (c.if-m-j-lt64.count ≤ 64) × (64 * c.loop-j.j + c.if-m-j-lt64.count ≤ c.args.m) = elim c.if-m-j-lt64.branch [
-                  | then-m-j-lt64 w ↦ (omega (arith, w.FIXME1-is, c.loop-j-test.true), omega (arith, w.if-m-j-lt64.true, w.FIXME1-is), omega (arith, w.FIXME1-is, c.loop-j-test.true))
-                  | else-m-j-lt64 w ↦ (omega (arith, w.FIXME1-is), omega (arith, w.FIXME1-is), omega (arith, w.if-m-j-lt64.false, w.FIXME1-is, c.loop-j-test.true))
+                  | then-m-j-lt64 w ↦ (omega (arith, w.count-is, c.loop-j-test.true), omega (arith, w.if-m-j-lt64.true, w.count-is), omega (arith, w.count-is, c.loop-j-test.true))
+                  | else-m-j-lt64 w ↦ (omega (arith, w.count-is), omega (arith, w.count-is), omega (arith, w.if-m-j-lt64.false, w.count-is, c.loop-j-test.true))
                 ] in it)).1)
                 c.near_word-word.ensures),
           ) in it)).1 k t in
@@ -124,8 +124,8 @@ loop-j-preserved c =
                   | else-m-j-lt64 w ↦ omega (arith, h, w.count-is)
                 ])))))
                 (others_word c.near_word-word.result all (λ i. ltb i n) (λ i. (passes_near c.args.handsets.now c.args.edges.now c.args.limit (64 * c.loop-j.j + i))) (first_word n ((let it : (1 ≤ c.if-m-j-lt64.count) × (c.if-m-j-lt64.count ≤ 64) × (64 * c.loop-j.j + c.if-m-j-lt64.count ≤ c.args.m) = elim c.if-m-j-lt64.branch [
-                  | then-m-j-lt64 w ↦ (omega (arith, w.FIXME1-is, c.loop-j-test.true), omega (arith, w.if-m-j-lt64.true, w.FIXME1-is), omega (arith, w.FIXME1-is, c.loop-j-test.true))
-                  | else-m-j-lt64 w ↦ (omega (arith, w.FIXME1-is), omega (arith, w.FIXME1-is), omega (arith, w.if-m-j-lt64.false, w.FIXME1-is, c.loop-j-test.true))
+                  | then-m-j-lt64 w ↦ (omega (arith, w.count-is, c.loop-j-test.true), omega (arith, w.if-m-j-lt64.true, w.count-is), omega (arith, w.count-is, c.loop-j-test.true))
+                  | else-m-j-lt64 w ↦ (omega (arith, w.count-is), omega (arith, w.count-is), omega (arith, w.if-m-j-lt64.false, w.count-is, c.loop-j-test.true))
                 ] in it)).1)
                 c.near_word-word.ensures),
           ) in it)).0 ((let it : (((let it : ℕ = bit_xor c.near_word-word.result (18446744073709551615 / 2 ^ (64 - c.if-m-j-lt64.count)) in it) < 2 ^ 64) × WordOf ((let it : ℕ = bit_xor c.near_word-word.result (18446744073709551615 / 2 ^ (64 - c.if-m-j-lt64.count)) in it)) (λ i. ltb (64 * c.loop-j.j + i) c.args.m && not ((passes_near c.args.handsets.now c.args.edges.now c.args.limit (64 * c.loop-j.j + i))))) = let n : ℕ = c.if-m-j-lt64.count in
@@ -138,20 +138,20 @@ loop-j-preserved c =
                   arith,
                   ltb→lt i c.if-m-j-lt64.count t,
                   ((let it : (1 ≤ c.if-m-j-lt64.count) × (c.if-m-j-lt64.count ≤ 64) × (64 * c.loop-j.j + c.if-m-j-lt64.count ≤ c.args.m) = elim c.if-m-j-lt64.branch [
-                    | then-m-j-lt64 w ↦ (omega (arith, w.FIXME1-is, c.loop-j-test.true), omega (arith, w.if-m-j-lt64.true, w.FIXME1-is), omega (arith, w.FIXME1-is, c.loop-j-test.true))
-                    | else-m-j-lt64 w ↦ (omega (arith, w.FIXME1-is), omega (arith, w.FIXME1-is), omega (arith, w.if-m-j-lt64.false, w.FIXME1-is, c.loop-j-test.true))
+                    | then-m-j-lt64 w ↦ (omega (arith, w.count-is, c.loop-j-test.true), omega (arith, w.if-m-j-lt64.true, w.count-is), omega (arith, w.count-is, c.loop-j-test.true))
+                    | else-m-j-lt64 w ↦ (omega (arith, w.count-is), omega (arith, w.count-is), omega (arith, w.if-m-j-lt64.false, w.count-is, c.loop-j-test.true))
                   ] in it)).2,
                 )))
                 (λ t. lt→ltb i c.if-m-j-lt64.count (elim c.if-m-j-lt64.branch [
-                  | then-m-j-lt64 w ↦ omega (arith, ltb→lt (b + i) m t, w.FIXME1-is)
-                  | else-m-j-lt64 w ↦ omega (arith, h, w.FIXME1-is)
+                  | then-m-j-lt64 w ↦ omega (arith, ltb→lt (b + i) m t, w.count-is)
+                  | else-m-j-lt64 w ↦ omega (arith, h, w.count-is)
                 ])))))
                 (others_word c.near_word-word.result all (λ i. ltb i n) (λ i. (passes_near c.args.handsets.now c.args.edges.now c.args.limit (64 * c.loop-j.j + i))) (first_word n ((let it : (1 ≤ c.if-m-j-lt64.count) × (c.if-m-j-lt64.count ≤ 64) × (64 * c.loop-j.j + c.if-m-j-lt64.count ≤ c.args.m) = elim c.if-m-j-lt64.branch [
-                  | then-m-j-lt64 w ↦ (omega (arith, w.FIXME1-is, c.loop-j-test.true), omega (arith, w.if-m-j-lt64.true, w.FIXME1-is), omega (arith, w.FIXME1-is, c.loop-j-test.true))
-                  | else-m-j-lt64 w ↦ (omega (arith, w.FIXME1-is), omega (arith, w.FIXME1-is), omega (arith, w.if-m-j-lt64.false, w.FIXME1-is, c.loop-j-test.true))
+                  | then-m-j-lt64 w ↦ (omega (arith, w.count-is, c.loop-j-test.true), omega (arith, w.if-m-j-lt64.true, w.count-is), omega (arith, w.count-is, c.loop-j-test.true))
+                  | else-m-j-lt64 w ↦ (omega (arith, w.count-is), omega (arith, w.count-is), omega (arith, w.if-m-j-lt64.false, w.count-is, c.loop-j-test.true))
                 ] in it)).1)
                 c.near_word-word.ensures),
           ) in it)).1 c.loop-j.invariant.2 c.drop_edges.ensures.dropped,
-      (c.drop_edges.auto.sizes ∙ c.loop-j.invariant.3.0, c.drop_edges.auto.sizes ∙ c.loop-j.invariant.3.1),
+      (c.drop_edges.auto.table ∙ c.loop-j.invariant.3.0, c.drop_edges.auto.sizes ∙ c.loop-j.invariant.3.1),
       c.drop_edges.ensures.counted,
     )

@@ -39,6 +39,6 @@ loop-j-preserved c = (
     (c.shared_slice_known-in-loop-j-1.given j).fits,
     word_at c.args.set.now j (((λ k. eqb (bit_at c.args.set.now k) 1))) (λ i h. let p : j * 64 + i ≡ 64 * j + i = omega arith in ap (bit_at c.args.set.now) p ∙ bit_of_lem (bit_at c.args.set.now (64 * j + i)) (bit_at_lt c.args.set.now (64 * j + i))),
   ) in it)).1 c.loop-j.invariant.1 c.drop_edges.ensures.dropped,
-  (c.drop_edges.auto.sizes ∙ c.loop-j.invariant.2.0, c.drop_edges.auto.sizes ∙ c.loop-j.invariant.2.1),
+  (c.drop_edges.auto.table ∙ c.loop-j.invariant.2.0, c.drop_edges.auto.sizes ∙ c.loop-j.invariant.2.1),
   c.drop_edges.ensures.counted,
 )

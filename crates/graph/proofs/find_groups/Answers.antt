@@ -31,7 +31,7 @@ returns c =
             found_in
             (surveyed c.args.image.now c.args.h c.requires.0.accepted c.requires.0.header c.requires.0 c.keep_dissimilar-tests.ensures.kept g holds c.drop_set.ensures.dropped c.drop_set.ensures.counted
             c.core_size.ensures c.mark_cores.ensures)
-            (c.drop_set.auto.sizes ∙ c.requires.1.0) c.find_communities-groups.ensures;
+            (c.drop_set.auto.table ∙ c.requires.1.0) c.find_communities-groups.ensures;
       };
       counted = c.keep_dissimilar-tests.ensures.counted;
     }

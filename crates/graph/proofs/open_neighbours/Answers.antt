@@ -24,5 +24,5 @@ drop_far-requires c = (
 
 pub returns : goal.returns
 returns c =
-    read_yes c.open_rows-opened.ensures c.in-Site.h c.in-Site.is (c.drop_far.auto.1.1.1.1.1.0 ∙ c.open_rows-opened.ensures.room.0, c.drop_far.auto.1.1.1.1.1.1.0 ∙ c.open_rows-opened.ensures.room.1)
+    read_yes c.open_rows-opened.ensures c.in-Site.h c.in-Site.is (c.drop_far.auto.table ∙ c.open_rows-opened.ensures.room.0, c.drop_far.auto.sizes ∙ c.open_rows-opened.ensures.room.1)
     (neighbours_kept c.args.image.now c.in-Site.h ((let it : Accepted c.args.image.now × (c.in-Site.h ≡ header_of c.args.image.now) = told_yes c.open_rows-opened.ensures c.in-Site.h c.in-Site.is in it)).0 ((let it : Accepted c.args.image.now × (c.in-Site.h ≡ header_of c.args.image.now) = told_yes c.open_rows-opened.ensures c.in-Site.h c.in-Site.is in it)).1 (c.open_rows-opened.ensures.held.table c.in-Site.h c.in-Site.is) c.drop_far.ensures.kept c.drop_far.ensures.dropped c.drop_far.ensures.counted)
