@@ -1,6 +1,6 @@
-use native.Mathlib.Omega.{arith}
+-- `graph::find_groups` meets its contract. The edges dropped are just those of the neighbour table whose ends are not similar; without them the
+-- table is that of the similarity relation, and its sizes tell the cores. The search over these two finds the communities.
 use mathlib.Core.Path.{◌∙◌}
-use borrow.Author.Rules.{rules}
 use Rattle.graph.proofs.GraphLaws.{Read, header_is, near_ready, dissimilar_ready, surveyed, found_in}
 use Rattle.graph.proofs.find_groups.Goals as goal
 

@@ -1,11 +1,12 @@
-use mathlib.Core.Path.{◌≡◌, refl, sym, ◌∙◌}
-use borrow.Author.Rules.{rules}
+-- `graph::find_part` meets its contract: a refused image ends the call, with everything 0, and of an accepted one the tables are first made those of the
+-- handsets within the set, so what is found of them is the cores and the communities among these.
+use mathlib.Core.Path.{◌≡◌, sym, ◌∙◌}
 use Rattle.image.specs.Image.{header_of}
 use Rattle.image.specs.Questions.{Accepted}
 use Rattle.image.proofs.Acceptance.{accepted}
 use Rattle.community.specs.Site.{network}
 use Rattle.graph.specs.Graph.{among}
-use Rattle.graph.proofs.GraphLaws.{edges_most_lem, neighbours_drawn, neighbours_hold, near_count, site_no, site_yes, groups_are}
+use Rattle.graph.proofs.GraphLaws.{edges_most_lem, neighbours_drawn, neighbours_hold, near_count, site_yes, groups_are}
 use Rattle.graph.proofs.find_part.Goals as goal
 
 pub keep_within-requires : goal.keep_within-requires

@@ -1,5 +1,5 @@
+-- `graph::find_rows` meets its contract, as `find_site` does: the near edges and the sizes are those that were read.
 use mathlib.Core.Path.{◌≡◌, refl, sym, ◌∙◌}
-use borrow.Author.Rules.{rules}
 use Rattle.image.specs.Image.{header_of}
 use Rattle.image.specs.Questions.{Accepted}
 use Rattle.image.proofs.Acceptance.{accepted}

@@ -1,10 +1,11 @@
+-- `graph::find_site` meets its contract: a refused image ends the call, with everything 0, and of an accepted one the tables that were read hold the network
+-- of the whole site, so what is found of them is its cores and communities.
 use mathlib.Core.Path.{◌≡◌, refl, sym, ◌∙◌}
-use borrow.Author.Rules.{rules}
 use Rattle.image.specs.Image.{header_of}
 use Rattle.image.specs.Questions.{Accepted}
 use Rattle.image.proofs.Acceptance.{accepted}
 use Rattle.community.specs.Site.{network}
-use Rattle.graph.proofs.GraphLaws.{edges_most_lem, neighbours_drawn, neighbours_hold, near_count, site_no, site_yes, groups_are}
+use Rattle.graph.proofs.GraphLaws.{edges_most_lem, neighbours_drawn, neighbours_hold, near_count, site_yes, groups_are}
 use Rattle.graph.proofs.find_site.Goals as goal
 
 pub find_groups-found-requires : goal.find_groups-found-requires

@@ -1,9 +1,10 @@
+-- `graph::open_neighbours` meets its contract. The slices handed on are the records of the image, so the edges dropped are just those whose ends are not
+-- near; without them the table of all edges is that of the neighbour relation.
 use native.Mathlib.Omega.{arith}
 use mathlib.Core.Path.{◌≡◌, refl, ◌∙◌}
-use borrow.Author.Rules.{rules}
 use Rattle.image.specs.Image.{header_of}
 use Rattle.image.specs.Questions.{Accepted}
-use Rattle.graph.proofs.GraphLaws.{Read, header_is, told_yes, read_no, read_yes, edges_ready, handset_slice_length, neighbours_kept}
+use Rattle.graph.proofs.GraphLaws.{Read, header_is, told_yes, read_yes, edges_ready, handset_slice_length, neighbours_kept}
 use Rattle.graph.proofs.open_neighbours.Goals as goal
 
 pub slice_bounds-drop_far-end : goal.slice_bounds-drop_far-end

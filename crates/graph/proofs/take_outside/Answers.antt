@@ -1,21 +1,15 @@
-use Prim.Native.Nat.{◌-◌, ◌≤◌, ◌<◌}
+use Prim.Native.Nat.{◌<◌}
 use native.Mathlib.Omega.{arith}
 use mathlib.Core.Path.{◌≡◌, sym, ap, ◌∙◌, subst}
-use mathlib.Core.Logic.{⊎_elim}
-use mathlib.Core.Bool.{Bool, true, false, not}
+use mathlib.Core.Bool.{Bool, true, not}
 use lib.Dec.{T}
 use lib.ListN.{length}
-use borrow.Author.Rules.{rules}
-use Rattle.sets.specs.Rows.{Counted}
-use Rattle.image.specs.Rows.{Room}
-use Rattle.graph.specs.ForProofs.{SelfTaken}
-use Rattle.graph.proofs.Within.{self_start, self_in, self_out}
+use Rattle.graph.proofs.Within.{self_in, self_out}
 use Rattle.graph.proofs.take_outside.Goals.{then-not-has, else-not-has}
 use Rattle.graph.proofs.take_outside.Goals as goal
 
 is_true : {b : Bool} → b ≡ true → T b
 is_true e = subst (λ (x : Bool). T x) (sym e) tt
-
 
 pub loop-v-preserved : goal.loop-v-preserved
 loop-v-preserved c =
