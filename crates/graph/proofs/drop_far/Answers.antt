@@ -1,20 +1,15 @@
 use Prim.Native.Nat.{ℕ, ◌*◌, ◌+◌, ◌-◌, ◌/◌, ◌≤◌, ◌<◌, ◌^◌}
 use native.Mathlib.Omega.{arith}
 use native.Mathlib.Nat.{div-le_self, lt_of_le_of_lt}
-use mathlib.Core.Path.{◌≡◌, sym, ap, ◌∙◌}
-use mathlib.Core.Logic.{⊎_elim}
+use mathlib.Core.Path.{ap, ◌∙◌}
 use mathlib.Core.Bool.{Bool, ◌&&◌, not}
 use lib.Bits.{bit_xor, xor_lt}
-use lib.Dec.{T, ltb, lt→ltb, ltb→lt}
-use lib.ListN.{length, length-replicate}
+use lib.Dec.{ltb, lt→ltb, ltb→lt}
 use borrow.Author.Rules.{rules}
-use Rattle.sets.specs.Rows.{Counted}
 use Rattle.sets.proofs.Tests.{and_left, T-ext}
-use Rattle.image.specs.Rows.{Room}
-use Rattle.graph.specs.Graph.{edge_words, EdgeSet}
-use Rattle.graph.specs.ForProofs.{WordOf, passes_near, Dropped}
-use Rattle.graph.proofs.Words.{word_cong, first_word, others_word, filled_none, filled_more, filled_end}
-use Rattle.graph.proofs.Edges.{word_passes, dropped_start, dropped_word, dropped_end}
+use Rattle.graph.specs.ForProofs.{WordOf, passes_near}
+use Rattle.graph.proofs.Words.{word_cong, first_word, others_word, filled_none, filled_more}
+use Rattle.graph.proofs.Edges.{word_passes, dropped_start, dropped_word}
 use Rattle.graph.proofs.drop_far.Goals.{then-m-j-lt64, else-m-j-lt64}
 use Rattle.graph.proofs.drop_far.Goals as goal
 
@@ -54,8 +49,8 @@ drop_edges-requires c =
                   | else-m-j-lt64 w ↦ omega (arith, h, w.count-is)
                 ])))))
                 (others_word c.near_word-word.result all (λ i. ltb i n) (λ i. (passes_near c.args.handsets.now c.args.edges.now c.args.limit (64 * c.loop-j.j + i))) (first_word n ((let it : (1 ≤ c.if-m-j-lt64.count) × (c.if-m-j-lt64.count ≤ 64) × (64 * c.loop-j.j + c.if-m-j-lt64.count ≤ c.args.m) = elim c.if-m-j-lt64.branch [
-                  | then-m-j-lt64 w ↦ (omega (arith, w.FIXME1-is, c.loop-j-test.true), omega (arith, w.if-m-j-lt64.true, w.FIXME1-is), omega (arith, w.FIXME1-is, c.loop-j-test.true))
-                  | else-m-j-lt64 w ↦ (omega (arith, w.FIXME1-is), omega (arith, w.FIXME1-is), omega (arith, w.if-m-j-lt64.false, w.FIXME1-is, c.loop-j-test.true))
+                  | then-m-j-lt64 w ↦ (omega (arith, w.count-is, c.loop-j-test.true), omega (arith, w.if-m-j-lt64.true, w.count-is), omega (arith, w.count-is, c.loop-j-test.true))
+                  | else-m-j-lt64 w ↦ (omega (arith, w.count-is), omega (arith, w.count-is), omega (arith, w.if-m-j-lt64.false, w.count-is, c.loop-j-test.true))
                 ] in it)).1)
                 c.near_word-word.ensures),
           ) in it)).0 ((let it : (((let it : ℕ = bit_xor c.near_word-word.result (18446744073709551615 / 2 ^ (64 - c.if-m-j-lt64.count)) in it) < 2 ^ 64) × WordOf ((let it : ℕ = bit_xor c.near_word-word.result (18446744073709551615 / 2 ^ (64 - c.if-m-j-lt64.count)) in it)) (λ i. ltb (64 * c.loop-j.j + i) c.args.m && not ((passes_near c.args.handsets.now c.args.edges.now c.args.limit (64 * c.loop-j.j + i))))) = let n : ℕ = c.if-m-j-lt64.count in
@@ -68,17 +63,17 @@ drop_edges-requires c =
                   arith,
                   ltb→lt i c.if-m-j-lt64.count t,
                   ((let it : (1 ≤ c.if-m-j-lt64.count) × (c.if-m-j-lt64.count ≤ 64) × (64 * c.loop-j.j + c.if-m-j-lt64.count ≤ c.args.m) = elim c.if-m-j-lt64.branch [
-                    | then-m-j-lt64 w ↦ (omega (arith, w.FIXME1-is, c.loop-j-test.true), omega (arith, w.if-m-j-lt64.true, w.FIXME1-is), omega (arith, w.FIXME1-is, c.loop-j-test.true))
-                    | else-m-j-lt64 w ↦ (omega (arith, w.FIXME1-is), omega (arith, w.FIXME1-is), omega (arith, w.if-m-j-lt64.false, w.FIXME1-is, c.loop-j-test.true))
+                    | then-m-j-lt64 w ↦ (omega (arith, w.count-is, c.loop-j-test.true), omega (arith, w.if-m-j-lt64.true, w.count-is), omega (arith, w.count-is, c.loop-j-test.true))
+                    | else-m-j-lt64 w ↦ (omega (arith, w.count-is), omega (arith, w.count-is), omega (arith, w.if-m-j-lt64.false, w.count-is, c.loop-j-test.true))
                   ] in it)).2,
                 )))
                 (λ t. lt→ltb i c.if-m-j-lt64.count (elim c.if-m-j-lt64.branch [
-                  | then-m-j-lt64 w ↦ omega (arith, ltb→lt (b + i) m t, w.FIXME1-is)
-                  | else-m-j-lt64 w ↦ omega (arith, h, w.FIXME1-is)
+                  | then-m-j-lt64 w ↦ omega (arith, ltb→lt (b + i) m t, w.count-is)
+                  | else-m-j-lt64 w ↦ omega (arith, h, w.count-is)
                 ])))))
                 (others_word c.near_word-word.result all (λ i. ltb i n) (λ i. (passes_near c.args.handsets.now c.args.edges.now c.args.limit (64 * c.loop-j.j + i))) (first_word n ((let it : (1 ≤ c.if-m-j-lt64.count) × (c.if-m-j-lt64.count ≤ 64) × (64 * c.loop-j.j + c.if-m-j-lt64.count ≤ c.args.m) = elim c.if-m-j-lt64.branch [
-                  | then-m-j-lt64 w ↦ (omega (arith, w.FIXME1-is, c.loop-j-test.true), omega (arith, w.if-m-j-lt64.true, w.FIXME1-is), omega (arith, w.FIXME1-is, c.loop-j-test.true))
-                  | else-m-j-lt64 w ↦ (omega (arith, w.FIXME1-is), omega (arith, w.FIXME1-is), omega (arith, w.if-m-j-lt64.false, w.FIXME1-is, c.loop-j-test.true))
+                  | then-m-j-lt64 w ↦ (omega (arith, w.count-is, c.loop-j-test.true), omega (arith, w.if-m-j-lt64.true, w.count-is), omega (arith, w.count-is, c.loop-j-test.true))
+                  | else-m-j-lt64 w ↦ (omega (arith, w.count-is), omega (arith, w.count-is), omega (arith, w.if-m-j-lt64.false, w.count-is, c.loop-j-test.true))
                 ] in it)).1)
                 c.near_word-word.ensures),
           ) in it)).1 k t in
@@ -124,8 +119,8 @@ loop-j-preserved c =
                   | else-m-j-lt64 w ↦ omega (arith, h, w.count-is)
                 ])))))
                 (others_word c.near_word-word.result all (λ i. ltb i n) (λ i. (passes_near c.args.handsets.now c.args.edges.now c.args.limit (64 * c.loop-j.j + i))) (first_word n ((let it : (1 ≤ c.if-m-j-lt64.count) × (c.if-m-j-lt64.count ≤ 64) × (64 * c.loop-j.j + c.if-m-j-lt64.count ≤ c.args.m) = elim c.if-m-j-lt64.branch [
-                  | then-m-j-lt64 w ↦ (omega (arith, w.FIXME1-is, c.loop-j-test.true), omega (arith, w.if-m-j-lt64.true, w.FIXME1-is), omega (arith, w.FIXME1-is, c.loop-j-test.true))
-                  | else-m-j-lt64 w ↦ (omega (arith, w.FIXME1-is), omega (arith, w.FIXME1-is), omega (arith, w.if-m-j-lt64.false, w.FIXME1-is, c.loop-j-test.true))
+                  | then-m-j-lt64 w ↦ (omega (arith, w.count-is, c.loop-j-test.true), omega (arith, w.if-m-j-lt64.true, w.count-is), omega (arith, w.count-is, c.loop-j-test.true))
+                  | else-m-j-lt64 w ↦ (omega (arith, w.count-is), omega (arith, w.count-is), omega (arith, w.if-m-j-lt64.false, w.count-is, c.loop-j-test.true))
                 ] in it)).1)
                 c.near_word-word.ensures),
           ) in it)).0 ((let it : (((let it : ℕ = bit_xor c.near_word-word.result (18446744073709551615 / 2 ^ (64 - c.if-m-j-lt64.count)) in it) < 2 ^ 64) × WordOf ((let it : ℕ = bit_xor c.near_word-word.result (18446744073709551615 / 2 ^ (64 - c.if-m-j-lt64.count)) in it)) (λ i. ltb (64 * c.loop-j.j + i) c.args.m && not ((passes_near c.args.handsets.now c.args.edges.now c.args.limit (64 * c.loop-j.j + i))))) = let n : ℕ = c.if-m-j-lt64.count in
@@ -138,20 +133,20 @@ loop-j-preserved c =
                   arith,
                   ltb→lt i c.if-m-j-lt64.count t,
                   ((let it : (1 ≤ c.if-m-j-lt64.count) × (c.if-m-j-lt64.count ≤ 64) × (64 * c.loop-j.j + c.if-m-j-lt64.count ≤ c.args.m) = elim c.if-m-j-lt64.branch [
-                    | then-m-j-lt64 w ↦ (omega (arith, w.FIXME1-is, c.loop-j-test.true), omega (arith, w.if-m-j-lt64.true, w.FIXME1-is), omega (arith, w.FIXME1-is, c.loop-j-test.true))
-                    | else-m-j-lt64 w ↦ (omega (arith, w.FIXME1-is), omega (arith, w.FIXME1-is), omega (arith, w.if-m-j-lt64.false, w.FIXME1-is, c.loop-j-test.true))
+                    | then-m-j-lt64 w ↦ (omega (arith, w.count-is, c.loop-j-test.true), omega (arith, w.if-m-j-lt64.true, w.count-is), omega (arith, w.count-is, c.loop-j-test.true))
+                    | else-m-j-lt64 w ↦ (omega (arith, w.count-is), omega (arith, w.count-is), omega (arith, w.if-m-j-lt64.false, w.count-is, c.loop-j-test.true))
                   ] in it)).2,
                 )))
                 (λ t. lt→ltb i c.if-m-j-lt64.count (elim c.if-m-j-lt64.branch [
-                  | then-m-j-lt64 w ↦ omega (arith, ltb→lt (b + i) m t, w.FIXME1-is)
-                  | else-m-j-lt64 w ↦ omega (arith, h, w.FIXME1-is)
+                  | then-m-j-lt64 w ↦ omega (arith, ltb→lt (b + i) m t, w.count-is)
+                  | else-m-j-lt64 w ↦ omega (arith, h, w.count-is)
                 ])))))
                 (others_word c.near_word-word.result all (λ i. ltb i n) (λ i. (passes_near c.args.handsets.now c.args.edges.now c.args.limit (64 * c.loop-j.j + i))) (first_word n ((let it : (1 ≤ c.if-m-j-lt64.count) × (c.if-m-j-lt64.count ≤ 64) × (64 * c.loop-j.j + c.if-m-j-lt64.count ≤ c.args.m) = elim c.if-m-j-lt64.branch [
-                  | then-m-j-lt64 w ↦ (omega (arith, w.FIXME1-is, c.loop-j-test.true), omega (arith, w.if-m-j-lt64.true, w.FIXME1-is), omega (arith, w.FIXME1-is, c.loop-j-test.true))
-                  | else-m-j-lt64 w ↦ (omega (arith, w.FIXME1-is), omega (arith, w.FIXME1-is), omega (arith, w.if-m-j-lt64.false, w.FIXME1-is, c.loop-j-test.true))
+                  | then-m-j-lt64 w ↦ (omega (arith, w.count-is, c.loop-j-test.true), omega (arith, w.if-m-j-lt64.true, w.count-is), omega (arith, w.count-is, c.loop-j-test.true))
+                  | else-m-j-lt64 w ↦ (omega (arith, w.count-is), omega (arith, w.count-is), omega (arith, w.if-m-j-lt64.false, w.count-is, c.loop-j-test.true))
                 ] in it)).1)
                 c.near_word-word.ensures),
           ) in it)).1 c.loop-j.invariant.2 c.drop_edges.ensures.dropped,
-      (c.drop_edges.auto.sizes ∙ c.loop-j.invariant.3.0, c.drop_edges.auto.sizes ∙ c.loop-j.invariant.3.1),
+      (c.drop_edges.auto.table ∙ c.loop-j.invariant.3.0, c.drop_edges.auto.sizes ∙ c.loop-j.invariant.3.1),
       c.drop_edges.ensures.counted,
     )

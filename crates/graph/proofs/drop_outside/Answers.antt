@@ -1,20 +1,17 @@
-use Prim.Native.Nat.{ℕ, ◌*◌, ◌+◌, ◌-◌, ◌≤◌, ◌<◌, ◌^◌}
+use Prim.Native.Nat.{ℕ, ◌*◌, ◌+◌, ◌<◌, ◌^◌}
 use native.Mathlib.Omega.{arith}
 use mathlib.Core.Path.{◌≡◌, sym, ap, ◌∙◌}
 use mathlib.Core.Bool.{Bool, ◌&&◌, not}
 use lib.Bits.{bit_xor, xor_lt}
-use lib.Dec.{T, ltb, eqb, eqb→eq}
+use lib.Dec.{eqb, eqb→eq}
 use lib.ListN.{get_or}
 use borrow.Author.Rules.{rules}
 use Rattle.sets.specs.Bits.{bit_of, bit_at}
-use Rattle.sets.specs.Rows.{Counted}
 use Rattle.sets.proofs.Tests.{and_left}
 use Rattle.sets.proofs.Bits.{bit_of_lt, bit_at_lt, word_bit}
-use Rattle.image.specs.Rows.{Room}
-use Rattle.graph.specs.Graph.{EdgeSet}
-use Rattle.graph.specs.ForProofs.{WordOf, both_within, Dropped}
-use Rattle.graph.proofs.Words.{bit_of_lem, word_cong, others_word, partly, partly_start, partly_at, partly_on, partly_end}
-use Rattle.graph.proofs.Edges.{word_passes, dropped_start, dropped_word, dropped_end}
+use Rattle.graph.specs.ForProofs.{WordOf, both_within}
+use Rattle.graph.proofs.Words.{bit_of_lem, word_cong, others_word, partly_start, partly_at, partly_on}
+use Rattle.graph.proofs.Edges.{word_passes, dropped_start, dropped_word}
 use Rattle.graph.proofs.drop_outside.Goals as goal
 
 pub loop-j-init : goal.loop-j-init
@@ -43,14 +40,14 @@ drop_edges-requires c = (
   c.loop-j.invariant.3,
   c.loop-j.invariant.4,
   λ k t.
-      let p = word_passes ((let it : ℕ = bit_xor c.Within-word.result ((let it : ℕ = get_or c.loop-j.near c.loop-j.j 0 in it)) in it)) c.loop-j.j (((λ k. eqb ((let it : ℕ → ℕ = bit_at c.args.near.now in it) k) 1 && not ((both_within c.args.within.now c.args.edges.now k))))) ((let it : (let it : ℕ = bit_xor c.Within-word.result ((let it : ℕ = get_or c.loop-j.near c.loop-j.j 0 in it)) in it) < 2 ^ 64 = xor_lt 64 c.Within-word.result ((let it : ℕ = get_or c.loop-j.near c.loop-j.j 0 in it)) (omega arith) ((let it : (let it : ℕ = get_or c.loop-j.near c.loop-j.j 0 in it) < 2 ^ 64 = (c.slice_known-in-loop-j-1.given c.loop-j.j).fits in it)) in it)) ((let it : (WordOf ((let it : ℕ = bit_xor c.Within-word.result ((let it : ℕ = get_or c.loop-j.near c.loop-j.j 0 in it)) in it)) (λ i. (eqb ((let it : ℕ → ℕ = bit_at c.args.near.now in it) (64 * c.loop-j.j + i)) 1 && not ((both_within c.args.within.now c.args.edges.now (64 * c.loop-j.j + i)))))) = let w : ℕ = (let it : ℕ = get_or c.loop-j.near c.loop-j.j 0 in it) in
+      let p = word_passes ((let it : ℕ = bit_xor c.within_word-inside.result ((let it : ℕ = get_or c.loop-j.near c.loop-j.j 0 in it)) in it)) c.loop-j.j (((λ k. eqb ((let it : ℕ → ℕ = bit_at c.args.near.now in it) k) 1 && not ((both_within c.args.within.now c.args.edges.now k))))) ((let it : (let it : ℕ = bit_xor c.within_word-inside.result ((let it : ℕ = get_or c.loop-j.near c.loop-j.j 0 in it)) in it) < 2 ^ 64 = xor_lt 64 c.within_word-inside.result ((let it : ℕ = get_or c.loop-j.near c.loop-j.j 0 in it)) (omega arith) ((let it : (let it : ℕ = get_or c.loop-j.near c.loop-j.j 0 in it) < 2 ^ 64 = (c.slice_known-in-loop-j-1.given c.loop-j.j).fits in it)) in it)) ((let it : (WordOf ((let it : ℕ = bit_xor c.within_word-inside.result ((let it : ℕ = get_or c.loop-j.near c.loop-j.j 0 in it)) in it)) (λ i. (eqb ((let it : ℕ → ℕ = bit_at c.args.near.now in it) (64 * c.loop-j.j + i)) 1 && not ((both_within c.args.within.now c.args.edges.now (64 * c.loop-j.j + i)))))) = let w : ℕ = (let it : ℕ = get_or c.loop-j.near c.loop-j.j 0 in it) in
       let f : ℕ → Bool = λ i. (both_within c.args.within.now c.args.edges.now (64 * c.loop-j.j + i)) in
       word_cong (λ i. eqb (bit_of w i) 1 && not (f i)) (λ i. (eqb ((let it : ℕ → ℕ = bit_at c.args.near.now in it) (64 * c.loop-j.j + i)) 1 && not ((both_within c.args.within.now c.args.edges.now (64 * c.loop-j.j + i)))))
       (λ i h. ap (λ (x : ℕ). eqb x 1 && not (f i)) ((let j : ℕ = c.loop-j.j in
       let p : j * 64 + i ≡ 64 * j + i = omega arith in
       sym (word_bit c.loop-j.near j i h) ∙ ap (bit_at c.loop-j.near) p
       ∙ partly_at c.args.near.now (((λ k. both_within c.args.within.now c.args.edges.now k))) j (64 * j + i) c.loop-j.invariant.1 (omega (arith, (let it : c.loop-j.j < 64 = search rules in it), h)) (omega arith))))
-      (others_word c.Within-word.result w (λ i. eqb (bit_of w i) 1) f (record { bits = λ i h. bit_of_lem (bit_of w i) (bit_of_lt w i) }) c.Within-word.ensures) in it)) k t in
+      (others_word c.within_word-inside.result w (λ i. eqb (bit_of w i) 1) f (record { bits = λ i h. bit_of_lem (bit_of w i) (bit_of_lt w i) }) c.within_word-inside.ensures) in it)) k t in
       (c.requires.4 k (eqb→eq ((let it : ℕ → ℕ = bit_at c.args.near.now in it) k) 1 (and_left (eqb ((let it : ℕ → ℕ = bit_at c.args.near.now in it) k) 1) (not ((both_within c.args.within.now c.args.edges.now k))) p.2))).1,
 )
 
@@ -58,15 +55,15 @@ pub loop-j-preserved : goal.loop-j-preserved
 loop-j-preserved c =
     let j : ℕ = c.loop-j.j in (
       omega (arith, (let it : c.loop-j.j < 64 = search rules in it)),
-      partly_on c.args.near.now (((λ k. both_within c.args.within.now c.args.edges.now k))) j c.Within-word.result ((let it : c.loop-j.j < 64 = search rules in it)) c.loop-j.invariant.1 c.Within-word.ensures,
-      dropped_word ((let it : ℕ = bit_xor c.Within-word.result ((let it : ℕ = get_or c.loop-j.near c.loop-j.j 0 in it)) in it)) j (((λ k. eqb ((let it : ℕ → ℕ = bit_at c.args.near.now in it) k) 1 && not ((both_within c.args.within.now c.args.edges.now k))))) ((let it : (let it : ℕ = bit_xor c.Within-word.result ((let it : ℕ = get_or c.loop-j.near c.loop-j.j 0 in it)) in it) < 2 ^ 64 = xor_lt 64 c.Within-word.result ((let it : ℕ = get_or c.loop-j.near c.loop-j.j 0 in it)) (omega arith) ((let it : (let it : ℕ = get_or c.loop-j.near c.loop-j.j 0 in it) < 2 ^ 64 = (c.slice_known-in-loop-j-1.given c.loop-j.j).fits in it)) in it)) ((let it : (WordOf ((let it : ℕ = bit_xor c.Within-word.result ((let it : ℕ = get_or c.loop-j.near c.loop-j.j 0 in it)) in it)) (λ i. (eqb ((let it : ℕ → ℕ = bit_at c.args.near.now in it) (64 * c.loop-j.j + i)) 1 && not ((both_within c.args.within.now c.args.edges.now (64 * c.loop-j.j + i)))))) = let w : ℕ = (let it : ℕ = get_or c.loop-j.near c.loop-j.j 0 in it) in
+      partly_on c.args.near.now (((λ k. both_within c.args.within.now c.args.edges.now k))) j c.within_word-inside.result ((let it : c.loop-j.j < 64 = search rules in it)) c.loop-j.invariant.1 c.within_word-inside.ensures,
+      dropped_word ((let it : ℕ = bit_xor c.within_word-inside.result ((let it : ℕ = get_or c.loop-j.near c.loop-j.j 0 in it)) in it)) j (((λ k. eqb ((let it : ℕ → ℕ = bit_at c.args.near.now in it) k) 1 && not ((both_within c.args.within.now c.args.edges.now k))))) ((let it : (let it : ℕ = bit_xor c.within_word-inside.result ((let it : ℕ = get_or c.loop-j.near c.loop-j.j 0 in it)) in it) < 2 ^ 64 = xor_lt 64 c.within_word-inside.result ((let it : ℕ = get_or c.loop-j.near c.loop-j.j 0 in it)) (omega arith) ((let it : (let it : ℕ = get_or c.loop-j.near c.loop-j.j 0 in it) < 2 ^ 64 = (c.slice_known-in-loop-j-1.given c.loop-j.j).fits in it)) in it)) ((let it : (WordOf ((let it : ℕ = bit_xor c.within_word-inside.result ((let it : ℕ = get_or c.loop-j.near c.loop-j.j 0 in it)) in it)) (λ i. (eqb ((let it : ℕ → ℕ = bit_at c.args.near.now in it) (64 * c.loop-j.j + i)) 1 && not ((both_within c.args.within.now c.args.edges.now (64 * c.loop-j.j + i)))))) = let w : ℕ = (let it : ℕ = get_or c.loop-j.near c.loop-j.j 0 in it) in
           let f : ℕ → Bool = λ i. (both_within c.args.within.now c.args.edges.now (64 * c.loop-j.j + i)) in
           word_cong (λ i. eqb (bit_of w i) 1 && not (f i)) (λ i. (eqb ((let it : ℕ → ℕ = bit_at c.args.near.now in it) (64 * c.loop-j.j + i)) 1 && not ((both_within c.args.within.now c.args.edges.now (64 * c.loop-j.j + i)))))
           (λ i h. ap (λ (x : ℕ). eqb x 1 && not (f i)) ((let j : ℕ = c.loop-j.j in
           let p : j * 64 + i ≡ 64 * j + i = omega arith in
           sym (word_bit c.loop-j.near j i h) ∙ ap (bit_at c.loop-j.near) p
           ∙ partly_at c.args.near.now (((λ k. both_within c.args.within.now c.args.edges.now k))) j (64 * j + i) c.loop-j.invariant.1 (omega (arith, (let it : c.loop-j.j < 64 = search rules in it), h)) (omega arith))))
-          (others_word c.Within-word.result w (λ i. eqb (bit_of w i) 1) f (record { bits = λ i h. bit_of_lem (bit_of w i) (bit_of_lt w i) }) c.Within-word.ensures) in it)) c.loop-j.invariant.2 c.drop_edges.ensures.dropped,
-      (c.drop_edges.auto.sizes ∙ c.loop-j.invariant.3.0, c.drop_edges.auto.sizes ∙ c.loop-j.invariant.3.1),
+          (others_word c.within_word-inside.result w (λ i. eqb (bit_of w i) 1) f (record { bits = λ i h. bit_of_lem (bit_of w i) (bit_of_lt w i) }) c.within_word-inside.ensures) in it)) c.loop-j.invariant.2 c.drop_edges.ensures.dropped,
+      (c.drop_edges.auto.table ∙ c.loop-j.invariant.3.0, c.drop_edges.auto.sizes ∙ c.loop-j.invariant.3.1),
       c.drop_edges.ensures.counted,
     )

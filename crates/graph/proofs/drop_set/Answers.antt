@@ -1,17 +1,14 @@
-use Prim.Native.Nat.{ℕ, ◌*◌, ◌+◌, ◌-◌, ◌≤◌, ◌<◌, ◌^◌}
+use Prim.Native.Nat.{ℕ, ◌*◌, ◌+◌, ◌<◌, ◌^◌}
 use native.Mathlib.Omega.{arith}
-use mathlib.Core.Path.{◌≡◌, sym, ap, ◌∙◌}
-use mathlib.Core.Bool.{Bool, ◌&&◌}
-use lib.Dec.{T, ltb, eqb, eqb→eq}
+use mathlib.Core.Path.{◌≡◌, ap, ◌∙◌}
+use lib.Dec.{eqb, eqb→eq}
 use lib.ListN.{get_or}
 use borrow.Author.Rules.{rules}
 use Rattle.sets.specs.Bits.{bit_at}
-use Rattle.sets.specs.Rows.{Counted}
 use Rattle.sets.proofs.Bits.{bit_at_lt}
-use Rattle.image.specs.Rows.{Room}
-use Rattle.graph.specs.ForProofs.{WordOf, Dropped}
+use Rattle.graph.specs.ForProofs.{WordOf}
 use Rattle.graph.proofs.Words.{bit_of_lem, word_at}
-use Rattle.graph.proofs.Edges.{word_passes, dropped_start, dropped_word, dropped_end}
+use Rattle.graph.proofs.Edges.{word_passes, dropped_word}
 use Rattle.graph.proofs.drop_set.Goals as goal
 
 pub drop_edges-requires : goal.drop_edges-requires
@@ -39,6 +36,6 @@ loop-j-preserved c = (
     (c.shared_slice_known-in-loop-j-1.given j).fits,
     word_at c.args.set.now j (((λ k. eqb (bit_at c.args.set.now k) 1))) (λ i h. let p : j * 64 + i ≡ 64 * j + i = omega arith in ap (bit_at c.args.set.now) p ∙ bit_of_lem (bit_at c.args.set.now (64 * j + i)) (bit_at_lt c.args.set.now (64 * j + i))),
   ) in it)).1 c.loop-j.invariant.1 c.drop_edges.ensures.dropped,
-  (c.drop_edges.auto.sizes ∙ c.loop-j.invariant.2.0, c.drop_edges.auto.sizes ∙ c.loop-j.invariant.2.1),
+  (c.drop_edges.auto.table ∙ c.loop-j.invariant.2.0, c.drop_edges.auto.sizes ∙ c.loop-j.invariant.2.1),
   c.drop_edges.ensures.counted,
 )

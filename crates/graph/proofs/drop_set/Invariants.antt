@@ -1,17 +1,10 @@
-use Prim.Native.Nat.{ℕ, ◌*◌, ◌+◌, ◌-◌, ◌≤◌, ◌<◌, ◌^◌}
-use native.Mathlib.Omega.{arith}
-use mathlib.Core.Path.{◌≡◌, sym, ap, ◌∙◌}
-use mathlib.Core.Bool.{Bool, ◌&&◌}
-use lib.Dec.{T, ltb, eqb, eqb→eq}
-use lib.ListN.{get_or}
-use borrow.Author.Rules.{rules}
+use Prim.Native.Nat.{◌*◌, ◌-◌, ◌≤◌}
+use mathlib.Core.Bool.{◌&&◌}
+use lib.Dec.{ltb, eqb}
 use Rattle.sets.specs.Bits.{bit_at}
 use Rattle.sets.specs.Rows.{Counted}
-use Rattle.sets.proofs.Bits.{bit_at_lt}
 use Rattle.image.specs.Rows.{Room}
-use Rattle.graph.specs.ForProofs.{WordOf, Dropped}
-use Rattle.graph.proofs.Words.{bit_of_lem, word_at}
-use Rattle.graph.proofs.Edges.{word_passes, dropped_start, dropped_word, dropped_end}
+use Rattle.graph.specs.ForProofs.{Dropped}
 use Rattle.graph.proofs.drop_set.Given as goal
 
 -- `graph::drop_set` meets its contract. After j words the table is that without the edges of the first 64 j that are in the set. The measure is how

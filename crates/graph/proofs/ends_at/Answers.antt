@@ -1,3 +1,4 @@
+-- `graph::ends_at` meets its contract: the two numbers of a record are those at its place in the table.
 use mathlib.Core.Path.{ap, ◌∙◌}
 use Rattle.fields.specs.declared.Ends.{Ends}
 use Rattle.image.proofs.Records.{ends_slice}

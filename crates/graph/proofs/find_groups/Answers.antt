@@ -1,6 +1,6 @@
-use native.Mathlib.Omega.{arith}
+-- `graph::find_groups` meets its contract. The edges dropped are just those of the neighbour table whose ends are not similar; without them the
+-- table is that of the similarity relation, and its sizes tell the cores. The search over these two finds the communities.
 use mathlib.Core.Path.{◌∙◌}
-use borrow.Author.Rules.{rules}
 use Rattle.graph.proofs.GraphLaws.{Read, header_is, near_ready, dissimilar_ready, surveyed, found_in}
 use Rattle.graph.proofs.find_groups.Goals as goal
 
@@ -31,7 +31,7 @@ returns c =
             found_in
             (surveyed c.args.image.now c.args.h c.requires.0.accepted c.requires.0.header c.requires.0 c.keep_dissimilar-tests.ensures.kept g holds c.drop_set.ensures.dropped c.drop_set.ensures.counted
             c.core_size.ensures c.mark_cores.ensures)
-            (c.drop_set.auto.sizes ∙ c.requires.1.0) c.find_communities-groups.ensures;
+            (c.drop_set.auto.table ∙ c.requires.1.0) c.find_communities-groups.ensures;
       };
       counted = c.keep_dissimilar-tests.ensures.counted;
     }

@@ -1,5 +1,5 @@
+-- `graph::find_rows` meets its contract, as `find_site` does: the near edges and the sizes are those that were read.
 use mathlib.Core.Path.{◌≡◌, refl, sym, ◌∙◌}
-use borrow.Author.Rules.{rules}
 use Rattle.image.specs.Image.{header_of}
 use Rattle.image.specs.Questions.{Accepted}
 use Rattle.image.proofs.Acceptance.{accepted}
@@ -8,7 +8,7 @@ use Rattle.graph.proofs.GraphLaws.{edges_most_lem, neighbours_drawn, neighbours_
 use Rattle.graph.proofs.find_rows.Goals as goal
 
 pub returns-in_default : goal.returns-in_default
-returns-in_default c = record { near = _; sizes = _; site = site_no c.open_neighbours-opened.ensures refl c.enum_told-1.given.0.0 c.enum_told-1.given.1 }
+returns-in_default c = record { near = _; sizes = _; site = site_no c.open_neighbours-opened.ensures refl _ c.in_default.is }
 
 pub find_groups-found-requires : goal.find_groups-found-requires
 find_groups-found-requires c = (neighbours_drawn c.args.image.now c.in-Site.h ((let it : Accepted c.args.image.now × (c.in-Site.h ≡ header_of c.args.image.now) = accepted c.args.image.now c.in-Site.h (sym c.open_neighbours-opened.ensures.answered ∙ c.in-Site.is) in it)).0 ((let it : Accepted c.args.image.now × (c.in-Site.h ≡ header_of c.args.image.now) = accepted c.args.image.now c.in-Site.h (sym c.open_neighbours-opened.ensures.answered ∙ c.in-Site.is) in it)).1 (c.open_neighbours-opened.ensures.neighbours c.in-Site.h c.in-Site.is), c.open_neighbours-opened.ensures.room, refl)
@@ -19,7 +19,7 @@ returns c =
     record {
       near = _;
       sizes = _;
-      site = site_yes c.in-Site.h (sym c.in-Site.is ∙ c.open_neighbours-opened.ensures.answered) (c.find_groups-found.auto.1.1.1.1.0 ∙ c.open_neighbours-opened.ensures.room.0, c.open_neighbours-opened.ensures.room.1)
+      site = site_yes c.in-Site.h (sym c.in-Site.is ∙ c.open_neighbours-opened.ensures.answered) (c.find_groups-found.auto.table ∙ c.open_neighbours-opened.ensures.room.0, c.open_neighbours-opened.ensures.room.1)
           (groups_are ((let it : Accepted c.args.image.now × (c.in-Site.h ≡ header_of c.args.image.now) = accepted c.args.image.now c.in-Site.h (sym c.open_neighbours-opened.ensures.answered ∙ c.in-Site.is) in it)).0 c.open_neighbours-opened.ensures.room.1 n (c.find_groups-found.ensures.found.each (network c.args.image.now) (neighbours_hold c.args.image.now c.in-Site.h ((let it : Accepted c.args.image.now × (c.in-Site.h ≡ header_of c.args.image.now) = accepted c.args.image.now c.in-Site.h (sym c.open_neighbours-opened.ensures.answered ∙ c.in-Site.is) in it)).0 ((let it : Accepted c.args.image.now × (c.in-Site.h ≡ header_of c.args.image.now) = accepted c.args.image.now c.in-Site.h (sym c.open_neighbours-opened.ensures.answered ∙ c.in-Site.is) in it)).1 n))
           (c.find_groups-found.ensures.counted ∙ near_count c.args.image.now (network c.args.image.now) (edges_most_lem c.args.image.now c.in-Site.h ((let it : Accepted c.args.image.now × (c.in-Site.h ≡ header_of c.args.image.now) = accepted c.args.image.now c.in-Site.h (sym c.open_neighbours-opened.ensures.answered ∙ c.in-Site.is) in it)).0 ((let it : Accepted c.args.image.now × (c.in-Site.h ≡ header_of c.args.image.now) = accepted c.args.image.now c.in-Site.h (sym c.open_neighbours-opened.ensures.answered ∙ c.in-Site.is) in it)).1) n.near_set));
     }

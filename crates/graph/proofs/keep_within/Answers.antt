@@ -1,6 +1,5 @@
-use native.Mathlib.Omega.{arith}
-use mathlib.Core.Path.{◌∙◌}
-use borrow.Author.Rules.{rules}
+-- `graph::keep_within` meets its contract. The edges dropped are just the near edges with an end outside the set, and the handsets outside are taken out of
+-- their own rows; what is left is the network among the handsets within the set.
 use Rattle.graph.proofs.GraphLaws.{Read, header_is, near_ready}
 use Rattle.graph.proofs.Within.{drawn_within, held_within}
 use Rattle.graph.proofs.keep_within.Goals as goal

@@ -1,12 +1,10 @@
-use Prim.Native.Nat.{ℕ, zero, suc, ◌+◌, ◌*◌, ◌-◌, ◌%◌, ◌^◌, ◌≤◌, ◌<◌}
+use Prim.Native.Nat.{ℕ, zero, suc, ◌+◌, ◌*◌, ◌-◌, ◌%◌, ◌^◌, ◌<◌}
 use native.Mathlib.Omega.{arith}
 use mathlib.Core.Path.{◌≡◌, sym, ap, ◌∙◌, subst}
-use mathlib.Core.Logic.{⊎_elim}
 use mathlib.Core.Bool.{Bool, true, false, ◌&&◌}
 use lib.Bits.{bit_or}
 use lib.Dec.{ltb}
 use lib.Pow.{pow_pos}
-use borrow.Author.Rules.{rules}
 use borrow.Author.Tests.{lt-ltb, le-ltb}
 use Rattle.sets.specs.Below.{bit}
 use Rattle.sets.specs.Bits.{bit_of}
@@ -15,7 +13,7 @@ use Rattle.near.specs.Near.{is_near}
 use Rattle.near.specs.declared.Proximity.{Proximity}
 use Rattle.graph.specs.ForProofs.{passes_near}
 use Rattle.graph.proofs.Words.{below_lt, below_first, below_rest}
-use Rattle.graph.proofs.near_word.Goals.{then-match-tested, else-match-tested}
+use Rattle.graph.proofs.near_word.Goals.{in-Near, in-NotNear}
 use Rattle.graph.proofs.near_word.Goals as goal
 
 bit-small : (b : Bool) → bit b < 2
@@ -47,15 +45,15 @@ loop-k-preserved c =
     let room : n - c.loop-k.k < 64 = omega (arith, c.loop-k-test.true, c.loop-k.invariant.0, c.requires.0) in
     let small : one < 2 = subst (λ (x : ℕ). x < 2) (sym ((let it : (c.match-tested.one ≡ bit ((passes_near c.args.handsets.now c.args.edges.now c.args.limit (c.args.base + (c.loop-k.k - 1))))) = let near : Proximity → ℕ = λ p. bit (is_near p) in
     elim c.match-tested.branch [
-      | then-match-tested w ↦ w.FIXME2-is ∙ ap near (sym w.FIXME1-is.given.1 ∙ c.test_edge-tested.ensures)
-      | else-match-tested w ↦ w.FIXME2-is ∙ ap near (sym w.FIXME1-is.given.1 ∙ c.test_edge-tested.ensures)
+      | in-Near w ↦ w.one-is ∙ ap near (sym w.in-Near.is ∙ c.test_edge-tested.ensures)
+      | in-NotNear w ↦ w.one-is ∙ ap near (sym w.in-NotNear.is ∙ c.test_edge-tested.ensures)
     ] in it))) (bit-small ((passes_near c.args.handsets.now c.args.edges.now c.args.limit (c.args.base + (c.loop-k.k - 1))))) in (
       omega (arith, c.loop-k.invariant.0),
       subst (λ (x : ℕ). bit_or (c.loop-k.word * 2 ^ 1 % 2 ^ 64) one < 2 ^ x) (sym step) (below_lt (n - c.loop-k.k) c.loop-k.word one c.loop-k.invariant.1 room small),
       bits c.loop-k.word one c.loop-k.k (n - c.loop-k.k) held c.loop-k-test.true c.loop-k.invariant.1 room small
           ((let it : (c.match-tested.one ≡ bit ((passes_near c.args.handsets.now c.args.edges.now c.args.limit (c.args.base + (c.loop-k.k - 1))))) = let near : Proximity → ℕ = λ p. bit (is_near p) in
           elim c.match-tested.branch [
-            | then-match-tested w ↦ w.FIXME2-is ∙ ap near (sym w.FIXME1-is.given.1 ∙ c.test_edge-tested.ensures)
-            | else-match-tested w ↦ w.FIXME2-is ∙ ap near (sym w.FIXME1-is.given.1 ∙ c.test_edge-tested.ensures)
+            | in-Near w ↦ w.one-is ∙ ap near (sym w.in-Near.is ∙ c.test_edge-tested.ensures)
+            | in-NotNear w ↦ w.one-is ∙ ap near (sym w.in-NotNear.is ∙ c.test_edge-tested.ensures)
           ] in it) ∙ sym (ap (λ (b : Bool). bit (b && (passes_near c.args.handsets.now c.args.edges.now c.args.limit (c.args.base + (c.loop-k.k - 1))))) (lt-ltb (c.loop-k.k - 1) n (omega (arith, c.loop-k-test.true, c.loop-k.invariant.0))))) c.loop-k.invariant.2,
     )

@@ -1,9 +1,10 @@
+-- `graph::open_neighbours` meets its contract. The slices handed on are the records of the image, so the edges dropped are just those whose ends are not
+-- near; without them the table of all edges is that of the neighbour relation.
 use native.Mathlib.Omega.{arith}
 use mathlib.Core.Path.{◌≡◌, refl, ◌∙◌}
-use borrow.Author.Rules.{rules}
 use Rattle.image.specs.Image.{header_of}
 use Rattle.image.specs.Questions.{Accepted}
-use Rattle.graph.proofs.GraphLaws.{Read, header_is, told_yes, read_no, read_yes, edges_ready, handset_slice_length, neighbours_kept}
+use Rattle.graph.proofs.GraphLaws.{Read, header_is, told_yes, read_yes, edges_ready, handset_slice_length, neighbours_kept}
 use Rattle.graph.proofs.open_neighbours.Goals as goal
 
 pub slice_bounds-drop_far-end : goal.slice_bounds-drop_far-end
@@ -24,5 +25,5 @@ drop_far-requires c = (
 
 pub returns : goal.returns
 returns c =
-    read_yes c.open_rows-opened.ensures c.in-Site.h c.in-Site.is (c.drop_far.auto.1.1.1.1.1.0 ∙ c.open_rows-opened.ensures.room.0, c.drop_far.auto.1.1.1.1.1.1.0 ∙ c.open_rows-opened.ensures.room.1)
+    read_yes c.open_rows-opened.ensures c.in-Site.h c.in-Site.is (c.drop_far.auto.table ∙ c.open_rows-opened.ensures.room.0, c.drop_far.auto.sizes ∙ c.open_rows-opened.ensures.room.1)
     (neighbours_kept c.args.image.now c.in-Site.h ((let it : Accepted c.args.image.now × (c.in-Site.h ≡ header_of c.args.image.now) = told_yes c.open_rows-opened.ensures c.in-Site.h c.in-Site.is in it)).0 ((let it : Accepted c.args.image.now × (c.in-Site.h ≡ header_of c.args.image.now) = told_yes c.open_rows-opened.ensures c.in-Site.h c.in-Site.is in it)).1 (c.open_rows-opened.ensures.held.table c.in-Site.h c.in-Site.is) c.drop_far.ensures.kept c.drop_far.ensures.dropped c.drop_far.ensures.counted)

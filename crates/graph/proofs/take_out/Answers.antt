@@ -1,3 +1,4 @@
+-- `graph::take_out` meets its contract: the word written is the one without the bit, and the row's size goes down by it.
 use Prim.Native.Nat.{◌*◌, ◌+◌}
 use Rattle.sets.specs.Bits.{bit_of, bit_at}
 use Rattle.sets.proofs.Bits.{stored_without}

@@ -1,15 +1,7 @@
-use Prim.Native.Nat.{◌-◌, ◌≤◌, ◌<◌}
-use native.Mathlib.Omega.{arith}
-use mathlib.Core.Path.{◌≡◌, sym, ap, ◌∙◌, subst}
-use mathlib.Core.Logic.{⊎_elim}
-use mathlib.Core.Bool.{Bool, true, false, not}
-use lib.Dec.{T}
-use lib.ListN.{length}
-use borrow.Author.Rules.{rules}
+use Prim.Native.Nat.{◌-◌, ◌≤◌}
 use Rattle.sets.specs.Rows.{Counted}
 use Rattle.image.specs.Rows.{Room}
 use Rattle.graph.specs.ForProofs.{SelfTaken}
-use Rattle.graph.proofs.Within.{self_start, self_in, self_out}
 use Rattle.graph.proofs.take_outside.Given as goal
 
 -- `graph::take_outside` meets its contract: each handset below v outside the set is out of its own row, and nothing else differs. The measure is how many

@@ -1,3 +1,4 @@
+-- `graph::test_edge` meets its contract: the slices handed on are the records of the two ends.
 use Prim.Native.Nat.{ℕ}
 use mathlib.Core.Path.{ap₂, ◌∙◌}
 use mathlib.Core.List.{List}

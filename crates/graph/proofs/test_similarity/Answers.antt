@@ -1,3 +1,5 @@
+-- `graph::test_similarity` meets its contract: the slices handed on are the two rows, and the marks that these have in common are tested against their sizes,
+-- none of which is above 512.
 use Prim.Native.Nat.{ℕ, ◌+◌, ◌*◌, ◌-◌, ◌≤◌}
 use native.Mathlib.Omega.{arith}
 use mathlib.Core.Path.{◌≡◌, refl, ◌∙◌, ap, ap₂}
