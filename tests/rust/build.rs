@@ -1,10 +1,10 @@
 //! With the feature `proved`, links the proved static library: the archive named by the environment
-//! variable DIVANEGRET_LIB, or target/staticlib/libdivanegret.a of the repository.
+//! variable DIVANEGRET_LIB, or crates/divanegret/out/libdivanegret.a of the repository.
 
 use std::env;
 use std::path::{Path, PathBuf};
 
-const ARCHIVE: &str = "../../target/staticlib/libdivanegret.a";
+const ARCHIVE: &str = "../../crates/divanegret/out/libdivanegret.a";
 
 fn main() {
     println!("cargo:rerun-if-changed=build.rs");

@@ -1,6 +1,8 @@
 // The report program: an image on standard input, its report on standard output. The stored example is site S with mu 4.
 #![tactic(auto)]
 
-fn main() {
-    report_run::print_report(0);
+use std::io;
+
+fn main(rt: HostRuntime) -> io::Result<()> {
+    report_run::print_report(&rt, &mut rt.stdin())
 }

@@ -11,31 +11,22 @@
 //     totals.image     four totals that differ: borders in one, two and three groups, and two outliers
 #![tactic(auto)]
 
-// Prints the report of the file that argument i names, or says on standard error why it cannot.
-fn print_example(i: usize) {
-    let mut path = io::buffer();
-    let length = os::arg(i, &mut path);
-    if os::errno() != 0 {
-        os::fail(b"path");
-        return;
-    }
-    let fd = os::open_read(&path[..length]);
-    if fd < 0 {
-        os::fail(&path[..length]);
-        return;
-    }
-    io::write_all(1, b"== ");
-    io::write_all(1, &path[..length]);
-    io::write_all(1, b"\n");
-    report_run::print_report(fd);
-    libc::close(fd);
+use std::fs::File;
+use std::{env, io};
+
+// Prints the report of the file of that name, or says on standard error why it cannot be opened.
+fn print_example(rt: &HostRuntime, name: &str) -> io::Result<()> {
+    let mut file = match File::open(rt, name) {
+        Ok(file) => file,
+        Err(error) => return eprintln!(rt; "{name}: {error}"),
+    };
+    println!(rt; "== {name}")?;
+    report_run::print_report(rt, &mut file)
 }
 
-fn main() {
-    let count = os::arg_count();
-    let mut i = 1;
-    while i < count {
-        print_example(i);
-        i += 1;
+fn main(rt: HostRuntime) -> io::Result<()> {
+    for name in env::args(&rt)?.skip(1) {
+        print_example(&rt, name.as_str())?;
     }
+    Ok(())
 }

@@ -1,12 +1,16 @@
-// Reads an image from a descriptor and prints its report, or its refusal. One byte more than an image may have is read, so that a longer input is recognised.
+// Reads an image and prints its report, or its refusal. One byte more than an image may have is read, so that a longer input is recognised.
 #![tactic(auto)]
 
-pub fn print_report(fd: i32) {
-    let mut image = [0u8; 65537];
-    let n = io::read_full(fd, &mut image);
-    let mut text = io::large_buffer();
-    let length = reporting::program_text(&image[..n], &mut text);
+use std::io;
+use std::io::Read;
+
+pub fn print_report<R: Print + Alloc>(rt: &R, input: &mut impl Read) -> io::Result<()> {
+    let mut image = Vec::new(rt.alloc());
+    input.take(65537).read_to_end(&mut image)?;
+    let mut text = [0u8; 65536];
+    let length = reporting::program_text(&image, &mut text);
     if length <= 65536 {
-        io::write_all(1, &text[0..length]);
+        rt.write_all(&text[..length])?;
     }
+    Ok(())
 }

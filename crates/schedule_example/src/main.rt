@@ -3,6 +3,7 @@
 #![tactic(auto)]
 
 use schedule::{Time, Window};
+use std::io;
 
 const WORKDAY_STARTS: [u32; 3] = [0, 4, 8];
 
@@ -13,7 +14,14 @@ const RESTDAY_STARTS: [u32; 2] = [0, 7];
 const RESTDAY_MEMBERS: [u16; 7] = [0, 1, 2, 3, 4, 5, 6];
 
 // Prints what is asked (year, month, day, minute and group), a colon, and the members.
-fn print_members(year: u16, month: u16, day: u16, minute: u16, k: u16) {
+fn print_members(
+    rt: &impl Print,
+    year: u16,
+    month: u16,
+    day: u16,
+    minute: u16,
+    k: u16,
+) -> io::Result<()> {
     let time = Time {
         year: year as u32,
         month: month as u32,
@@ -34,32 +42,34 @@ fn print_members(year: u16, month: u16, day: u16, minute: u16, k: u16) {
         &RESTDAY_MEMBERS,
     );
     let asked = [year, month, day, minute, k];
-    let mut line = io::buffer();
+    let mut line = [0u8; 4096];
     let mut at = text::put_all(&mut line, 0, b"members");
     at = text::put_numbers(&mut line, at, &asked);
     at = text::put_all(&mut line, at, b":");
     at = text::put_numbers(&mut line, at, members);
     at = text::put_all(&mut line, at, b"\n");
     if at <= line.len() {
-        io::write_all(1, &line[0..at]);
+        rt.write_all(&line[0..at])?;
     }
+    Ok(())
 }
 
-fn main() {
+fn main(rt: HostRuntime) -> io::Result<()> {
     // Thursday, 29 February 2024: before opening, at opening, before closing, at closing.
-    print_members(2024, 2, 29, 479, 0);
-    print_members(2024, 2, 29, 480, 0);
-    print_members(2024, 2, 29, 1019, 1);
-    print_members(2024, 2, 29, 1020, 0);
+    print_members(&rt, 2024, 2, 29, 479, 0)?;
+    print_members(&rt, 2024, 2, 29, 480, 0)?;
+    print_members(&rt, 2024, 2, 29, 1019, 1)?;
+    print_members(&rt, 2024, 2, 29, 1020, 0)?;
     // Group 1 is in the first plan alone, and group 2 in neither.
-    print_members(2024, 2, 29, 1020, 1);
-    print_members(2024, 2, 29, 480, 2);
+    print_members(&rt, 2024, 2, 29, 1020, 1)?;
+    print_members(&rt, 2024, 2, 29, 480, 2)?;
     // Friday to Monday.
-    print_members(2024, 3, 1, 600, 1);
-    print_members(2024, 3, 2, 600, 0);
-    print_members(2024, 3, 3, 600, 0);
-    print_members(2024, 3, 4, 600, 1);
+    print_members(&rt, 2024, 3, 1, 600, 1)?;
+    print_members(&rt, 2024, 3, 2, 600, 0)?;
+    print_members(&rt, 2024, 3, 3, 600, 0)?;
+    print_members(&rt, 2024, 3, 4, 600, 1)?;
     // No such date, and no such minute.
-    print_members(1900, 2, 29, 480, 0);
-    print_members(2024, 2, 29, 1440, 0);
+    print_members(&rt, 1900, 2, 29, 480, 0)?;
+    print_members(&rt, 2024, 2, 29, 1440, 0)?;
+    Ok(())
 }
