@@ -1,0 +1,9 @@
+use mathlib.Core.Path.{sym, ◌∙◌}
+use Rattle.rows.proofs.Rows.{contains_row, contains_past}
+use Rattle.tables.proofs.in_row.Goals as goal
+
+pub returns-then-v-lt512 : goal.returns-then-v-lt512
+returns-then-v-lt512 c = c.has.ensures ∙ sym (contains_row c.args.rows.now c.args.k c.args.v c.if-v-lt512.true)
+
+pub returns : goal.returns
+returns c = sym (contains_past c.args.rows.now c.args.k c.args.v c.if-v-lt512.false)
