@@ -1,0 +1,19 @@
+use Prim.Native.Nat.{◌-◌, ◌≤◌}
+use mathlib.Core.Path.{ap, ◌∙◌}
+use native.Mathlib.Omega.{arith}
+use lib.ListN.{length, take}
+use lib.Seq.{length-sets, take_all}
+use borrow.Author.Rules.{rules}
+use Rattle.text.specs.Text.{Wrote, numbers}
+use Rattle.text.proofs.Writing.{chain, nothing, numbers_one}
+use Rattle.text.proofs.put_numbers.Goals as goal
+
+pub loop-i-init : goal.loop-i-init
+unfolding numbers
+loop-i-init c = (omega arith, nothing _ _ _ c.capped-next.ensures)
+
+pub loop-i-preserved : goal.loop-i-preserved
+loop-i-preserved c = (
+  omega arith,
+  rw (numbers_one c.args.table.now c.loop-i.i (omega arith)) (chain (omega arith) c.loop-i.invariant.1 c.put_number-next.ensures),
+)

@@ -1,0 +1,16 @@
+use Prim.Native.Nat.{◌-◌, ◌≤◌}
+use mathlib.Core.Path.{ap, ◌∙◌}
+use native.Mathlib.Omega.{arith}
+use lib.ListN.{length, take}
+use lib.Seq.{length-sets, take_all}
+use borrow.Author.Rules.{rules}
+use Rattle.text.specs.Text.{Wrote, numbers}
+use Rattle.text.proofs.Writing.{chain, nothing, numbers_one}
+use Rattle.text.proofs.put_numbers.Given as goal
+
+-- `text::put_numbers` meets its contract. After i steps the first i numbers are written. The measure is the count of numbers left.
+abbrev pub invariant-loop-i : goal.invariant-loop-i
+invariant-loop-i l = (l.i ≤ length l.table) × Wrote l.initial.text l.at (numbers (take l.i l.table)) l.text l.next
+
+abbrev pub decreases-loop-i : goal.decreases-loop-i
+decreases-loop-i l = length l.table - l.i
