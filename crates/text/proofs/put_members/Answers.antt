@@ -1,11 +1,6 @@
-use Prim.Native.Nat.{◌*◌, ◌-◌, ◌≤◌}
 use native.Mathlib.Omega.{arith}
-use mathlib.Core.Path.{ap, ◌∙◌}
-use lib.ListN.{length}
-use lib.Seq.{length-sets}
 use Rattle.sets.specs.Below.{select}
-use Rattle.text.specs.Text.{Wrote, numbers}
-use Rattle.text.specs.ForProofs.{is_member}
+use Rattle.text.specs.Text.{numbers}
 use Rattle.text.proofs.Writing.{nothing}
 use Rattle.text.proofs.Members.{members_word, elements_are}
 use Rattle.text.proofs.put_members.Goals as goal

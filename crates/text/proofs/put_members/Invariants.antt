@@ -1,13 +1,7 @@
 use Prim.Native.Nat.{◌*◌, ◌-◌, ◌≤◌}
-use native.Mathlib.Omega.{arith}
-use mathlib.Core.Path.{ap, ◌∙◌}
-use lib.ListN.{length}
-use lib.Seq.{length-sets}
 use Rattle.sets.specs.Below.{select}
 use Rattle.text.specs.Text.{Wrote, numbers}
 use Rattle.text.specs.ForProofs.{is_member}
-use Rattle.text.proofs.Writing.{nothing}
-use Rattle.text.proofs.Members.{members_word, elements_are}
 use Rattle.text.proofs.put_members.Given as goal
 
 -- `text::put_members` meets its contract. After j words the members below 64 j are written; past the last word there is none. The measure is the count of words

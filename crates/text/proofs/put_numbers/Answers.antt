@@ -1,10 +1,5 @@
-use Prim.Native.Nat.{◌-◌, ◌≤◌}
-use mathlib.Core.Path.{ap, ◌∙◌}
 use native.Mathlib.Omega.{arith}
-use lib.ListN.{length, take}
-use lib.Seq.{length-sets, take_all}
-use borrow.Author.Rules.{rules}
-use Rattle.text.specs.Text.{Wrote, numbers}
+use Rattle.text.specs.Text.{numbers}
 use Rattle.text.proofs.Writing.{chain, nothing, numbers_one}
 use Rattle.text.proofs.put_numbers.Goals as goal
 

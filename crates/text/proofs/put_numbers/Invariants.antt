@@ -1,11 +1,6 @@
 use Prim.Native.Nat.{◌-◌, ◌≤◌}
-use mathlib.Core.Path.{ap, ◌∙◌}
-use native.Mathlib.Omega.{arith}
 use lib.ListN.{length, take}
-use lib.Seq.{length-sets, take_all}
-use borrow.Author.Rules.{rules}
 use Rattle.text.specs.Text.{Wrote, numbers}
-use Rattle.text.proofs.Writing.{chain, nothing, numbers_one}
 use Rattle.text.proofs.put_numbers.Given as goal
 
 -- `text::put_numbers` meets its contract. After i steps the first i numbers are written. The measure is the count of numbers left.
