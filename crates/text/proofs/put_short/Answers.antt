@@ -19,7 +19,7 @@ returns c =
       ]
       | else-n-ge100 a ↦ elim c.if-n-ge10.branch [
         | then-n-ge10 b ↦
-            rw (decimal_two c.args.n b.if-n-ge10.true a.if-n-ge100.false)
+            rw (decimal_two c.args.n (omega (arith, b.if-n-ge10.true)) a.if-n-ge100.false)
             (chain_from small b.text-is b.next-is (from_start a.text-is a.next-is b.put-next-then-n-ge10.ensures) c.put.ensures)
         | else-n-ge10 b ↦ rw (decimal_one c.args.n b.if-n-ge10.false) (from_start (b.text-is ∙ a.text-is) (b.next-is ∙ a.next-is) c.put.ensures)
       ]
