@@ -1,0 +1,18 @@
+-- `reporting::program_text` meets its contract: an input that is too long, a text that is written, and a refusal.
+use native.Mathlib.Omega.{arith}
+use Prim.Native.Nat.{◌<◌}
+use lib.ListN.{length}
+use Rattle.reporting.proofs.Answers.{program_long, program_written, program_refused}
+use borrow.Author.Rules.{rules}
+use Rattle.reporting.proofs.program_text.Goals as goal
+
+pub returns-then-input-gt65536 : goal.returns-then-input-gt65536
+returns-then-input-gt65536 c = rw (program_long c.args.input.now (length c.args.out.now) c.if-input-gt65536.true) c.put_refusal.ensures
+
+pub returns-in-Written : goal.returns-in-Written
+returns-in-Written c =
+    let small : length c.args.out.now < 9223372036854775808 = omega (arith, c.well_formed.1.0.1) in
+    program_written c.args.input.now c.args.out.now c.if-input-gt65536.false _ _ _ small c.in-Written.is c.report-reported.ensures
+
+pub returns-in-Refused : goal.returns-in-Refused
+returns-in-Refused c = program_refused c.args.input.now c.args.out.now c.if-input-gt65536.false _ _ _ _ _ c.in-Refused.is c.report-reported.ensures c.put_refusal-in-Refused.ensures

@@ -1,0 +1,15 @@
+-- `reporting::report_groups` meets its contract: the tables that its calls make are those of the image, and the text from them is the report's.
+use native.Mathlib.Omega.{arith}
+use Rattle.image.proofs.Acceptance.{handsets_fit, edges_fit}
+use Rattle.reporting.proofs.Whole.{rows_counted, text_held}
+use Rattle.reporting.proofs.Answers.{filled_same}
+use Rattle.reporting.proofs.report_groups.Goals as goal
+
+pub write_text-requires : goal.write_text-requires
+write_text-requires c = rows_counted c.args.rows.now c.args.groups c.counts_of.result c.counts_of.ensures
+
+pub returns : goal.returns
+returns c =
+    filled_same
+    (text_held c.requires c.counts_of.result c.count_roles-totals.result _ _ _ c.counts_of.ensures c.count_groups.ensures.counted c.count_groups.ensures.raised c.count_roles-totals.ensures)
+    c.write_text.ensures
