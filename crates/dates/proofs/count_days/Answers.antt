@@ -1,3 +1,4 @@
+-- `dates::count_days` meets its contract: a date that exists keeps every sum small.
 -- `dates::count_days` meets its contract: a date that exists keeps every sum small, and the three results make up the day number.
 use native.Mathlib.Omega.{arith}
 use Rattle.dates.specs.Dates.{march_month, day_number}

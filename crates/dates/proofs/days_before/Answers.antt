@@ -1,3 +1,4 @@
+-- `dates::days_before` meets its contract: the code is the definition.
 use mathlib.Core.Path.{refl}
 use Rattle.dates.specs.Dates.{days_before}
 use borrow.Author.Rules.{rules}

@@ -1,9 +1,9 @@
+-- `dates::exists` meets its contract: a month out of limits is no month, and else the code is the rest of the test.
 use borrow.Author.Tests.{le-leb, lt-leb}
 use Rattle.dates.specs.Dates.{date_exists}
 use borrow.Author.Rules.{rules}
 use Rattle.dates.proofs.exists.Goals as goal
 
--- `dates::exists` meets its contract: a month out of limits is no month, and else the code is the rest of the test.
 pub returns-then-month-lt1 : goal.returns-then-month-lt1
 unfolding date_exists
 returns-then-month-lt1 c = simp (lt-leb _ _ c.if-month-lt1.true)

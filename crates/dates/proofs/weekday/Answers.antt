@@ -1,3 +1,4 @@
+-- `dates::weekday` meets its contract, by the test of the date.
 use native.Mathlib.Omega.{arith}
 use Rattle.dates.specs.Dates.{weekday_of}
 use Rattle.dates.proofs.Limits.{number_small}

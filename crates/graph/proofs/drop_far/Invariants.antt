@@ -1,3 +1,5 @@
+-- `graph::drop_far` meets its contract. After j words the set has those of the first 64 j edges that are near, and the table is that without the
+-- others of them. The measure is how many words are left.
 use Prim.Native.Nat.{◌*◌, ◌-◌, ◌≤◌}
 use mathlib.Core.Bool.{◌&&◌, not}
 use lib.Dec.{ltb}
@@ -7,8 +9,6 @@ use Rattle.graph.specs.Graph.{EdgeSet}
 use Rattle.graph.specs.ForProofs.{passes_near, Dropped}
 use Rattle.graph.proofs.drop_far.Given as goal
 
--- `graph::drop_far` meets its contract. After j words the set has those of the first 64 j edges that are near, and the table is that without the
--- others of them. The measure is how many words are left.
 abbrev pub invariant-loop-j : goal.invariant-loop-j
 invariant-loop-j l = (l.j ≤ 64)
     × EdgeSet l.near (λ k. ltb k (64 * l.j) && (ltb k l.m && passes_near l.handsets l.edges l.limit k))

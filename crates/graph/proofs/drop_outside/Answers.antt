@@ -26,12 +26,12 @@ loop-j-init c = (
 pub within_word-inside-requires : goal.within_word-inside-requires
 within_word-inside-requires c = (
   omega (arith, (let it : c.loop-j.j < 64 = search rules in it)),
-  λ k t. (c.requires.4 k (eqb→eq ((let it : ℕ → ℕ = bit_at c.args.near.now in it) k) 1 (word_passes ((let it : ℕ = get_or c.loop-j.near c.loop-j.j 0 in it)) c.loop-j.j (λ i. eqb ((let it : ℕ → ℕ = bit_at c.args.near.now in it) i) 1) ((let it : (let it : ℕ = get_or c.loop-j.near c.loop-j.j 0 in it) < 2 ^ 64 = (c.slice_known-in-loop-j-1.given c.loop-j.j).fits in it)) ((let it : WordOf ((let it : ℕ = get_or c.loop-j.near c.loop-j.j 0 in it)) (λ i. eqb ((let it : ℕ → ℕ = bit_at c.args.near.now in it) (64 * c.loop-j.j + i)) 1) = record {
+  λ k t. (c.requires.4 k (eqb→eq ((bit_at c.args.near.now) k) 1 (word_passes (get_or c.loop-j.near c.loop-j.j 0) c.loop-j.j (λ i. eqb ((bit_at c.args.near.now) i) 1) (let it : (get_or c.loop-j.near c.loop-j.j 0) < 2 ^ 64 = (c.slice_known-in-loop-j-1.given c.loop-j.j).fits in it) (let it : WordOf (get_or c.loop-j.near c.loop-j.j 0) (λ i. eqb ((bit_at c.args.near.now) (64 * c.loop-j.j + i)) 1) = record {
     bits = λ i h. (let j : ℕ = c.loop-j.j in
         let p : j * 64 + i ≡ 64 * j + i = omega arith in
         sym (word_bit c.loop-j.near j i h) ∙ ap (bit_at c.loop-j.near) p
-        ∙ partly_at c.args.near.now (((λ k. both_within c.args.within.now c.args.edges.now k))) j (64 * j + i) c.loop-j.invariant.1 (omega (arith, (let it : c.loop-j.j < 64 = search rules in it), h)) (omega arith)) ∙ bit_of_lem _ (bit_at_lt c.args.near.now (64 * c.loop-j.j + i));
-  } in it)) k t).2)).1,
+        ∙ partly_at c.args.near.now (λ k. both_within c.args.within.now c.args.edges.now k) j (64 * j + i) c.loop-j.invariant.1 (omega (arith, (let it : c.loop-j.j < 64 = search rules in it), h)) (omega arith)) ∙ bit_of_lem _ (bit_at_lt c.args.near.now (64 * c.loop-j.j + i));
+  } in it) k t).2)).1,
 )
 
 pub drop_edges-requires : goal.drop_edges-requires
@@ -40,30 +40,30 @@ drop_edges-requires c = (
   c.loop-j.invariant.3,
   c.loop-j.invariant.4,
   λ k t.
-      let p = word_passes ((let it : ℕ = bit_xor c.within_word-inside.result ((let it : ℕ = get_or c.loop-j.near c.loop-j.j 0 in it)) in it)) c.loop-j.j (((λ k. eqb ((let it : ℕ → ℕ = bit_at c.args.near.now in it) k) 1 && not ((both_within c.args.within.now c.args.edges.now k))))) ((let it : (let it : ℕ = bit_xor c.within_word-inside.result ((let it : ℕ = get_or c.loop-j.near c.loop-j.j 0 in it)) in it) < 2 ^ 64 = xor_lt 64 c.within_word-inside.result ((let it : ℕ = get_or c.loop-j.near c.loop-j.j 0 in it)) (omega arith) ((let it : (let it : ℕ = get_or c.loop-j.near c.loop-j.j 0 in it) < 2 ^ 64 = (c.slice_known-in-loop-j-1.given c.loop-j.j).fits in it)) in it)) ((let it : (WordOf ((let it : ℕ = bit_xor c.within_word-inside.result ((let it : ℕ = get_or c.loop-j.near c.loop-j.j 0 in it)) in it)) (λ i. (eqb ((let it : ℕ → ℕ = bit_at c.args.near.now in it) (64 * c.loop-j.j + i)) 1 && not ((both_within c.args.within.now c.args.edges.now (64 * c.loop-j.j + i)))))) = let w : ℕ = (let it : ℕ = get_or c.loop-j.near c.loop-j.j 0 in it) in
+      let p = word_passes (bit_xor c.within_word-inside.result (get_or c.loop-j.near c.loop-j.j 0)) c.loop-j.j (λ k. eqb ((bit_at c.args.near.now) k) 1 && not (both_within c.args.within.now c.args.edges.now k)) (let it : (bit_xor c.within_word-inside.result (get_or c.loop-j.near c.loop-j.j 0)) < 2 ^ 64 = xor_lt 64 c.within_word-inside.result (get_or c.loop-j.near c.loop-j.j 0) (omega arith) (let it : (get_or c.loop-j.near c.loop-j.j 0) < 2 ^ 64 = (c.slice_known-in-loop-j-1.given c.loop-j.j).fits in it) in it) (let it : (WordOf (bit_xor c.within_word-inside.result (get_or c.loop-j.near c.loop-j.j 0)) (λ i. (eqb ((bit_at c.args.near.now) (64 * c.loop-j.j + i)) 1 && not (both_within c.args.within.now c.args.edges.now (64 * c.loop-j.j + i))))) = let w : ℕ = (get_or c.loop-j.near c.loop-j.j 0) in
       let f : ℕ → Bool = λ i. (both_within c.args.within.now c.args.edges.now (64 * c.loop-j.j + i)) in
-      word_cong (λ i. eqb (bit_of w i) 1 && not (f i)) (λ i. (eqb ((let it : ℕ → ℕ = bit_at c.args.near.now in it) (64 * c.loop-j.j + i)) 1 && not ((both_within c.args.within.now c.args.edges.now (64 * c.loop-j.j + i)))))
-      (λ i h. ap (λ (x : ℕ). eqb x 1 && not (f i)) ((let j : ℕ = c.loop-j.j in
+      word_cong (λ i. eqb (bit_of w i) 1 && not (f i)) (λ i. (eqb ((bit_at c.args.near.now) (64 * c.loop-j.j + i)) 1 && not (both_within c.args.within.now c.args.edges.now (64 * c.loop-j.j + i))))
+      (λ i h. ap (λ (x : ℕ). eqb x 1 && not (f i)) (let j : ℕ = c.loop-j.j in
       let p : j * 64 + i ≡ 64 * j + i = omega arith in
       sym (word_bit c.loop-j.near j i h) ∙ ap (bit_at c.loop-j.near) p
-      ∙ partly_at c.args.near.now (((λ k. both_within c.args.within.now c.args.edges.now k))) j (64 * j + i) c.loop-j.invariant.1 (omega (arith, (let it : c.loop-j.j < 64 = search rules in it), h)) (omega arith))))
-      (others_word c.within_word-inside.result w (λ i. eqb (bit_of w i) 1) f (record { bits = λ i h. bit_of_lem (bit_of w i) (bit_of_lt w i) }) c.within_word-inside.ensures) in it)) k t in
-      (c.requires.4 k (eqb→eq ((let it : ℕ → ℕ = bit_at c.args.near.now in it) k) 1 (and_left (eqb ((let it : ℕ → ℕ = bit_at c.args.near.now in it) k) 1) (not ((both_within c.args.within.now c.args.edges.now k))) p.2))).1,
+      ∙ partly_at c.args.near.now (λ k. both_within c.args.within.now c.args.edges.now k) j (64 * j + i) c.loop-j.invariant.1 (omega (arith, (let it : c.loop-j.j < 64 = search rules in it), h)) (omega arith)))
+      (others_word c.within_word-inside.result w (λ i. eqb (bit_of w i) 1) f (record { bits = λ i h. bit_of_lem (bit_of w i) (bit_of_lt w i) }) c.within_word-inside.ensures) in it) k t in
+      (c.requires.4 k (eqb→eq ((bit_at c.args.near.now) k) 1 (and_left (eqb ((bit_at c.args.near.now) k) 1) (not (both_within c.args.within.now c.args.edges.now k)) p.2))).1,
 )
 
 pub loop-j-preserved : goal.loop-j-preserved
 loop-j-preserved c =
     let j : ℕ = c.loop-j.j in (
       omega (arith, (let it : c.loop-j.j < 64 = search rules in it)),
-      partly_on c.args.near.now (((λ k. both_within c.args.within.now c.args.edges.now k))) j c.within_word-inside.result ((let it : c.loop-j.j < 64 = search rules in it)) c.loop-j.invariant.1 c.within_word-inside.ensures,
-      dropped_word ((let it : ℕ = bit_xor c.within_word-inside.result ((let it : ℕ = get_or c.loop-j.near c.loop-j.j 0 in it)) in it)) j (((λ k. eqb ((let it : ℕ → ℕ = bit_at c.args.near.now in it) k) 1 && not ((both_within c.args.within.now c.args.edges.now k))))) ((let it : (let it : ℕ = bit_xor c.within_word-inside.result ((let it : ℕ = get_or c.loop-j.near c.loop-j.j 0 in it)) in it) < 2 ^ 64 = xor_lt 64 c.within_word-inside.result ((let it : ℕ = get_or c.loop-j.near c.loop-j.j 0 in it)) (omega arith) ((let it : (let it : ℕ = get_or c.loop-j.near c.loop-j.j 0 in it) < 2 ^ 64 = (c.slice_known-in-loop-j-1.given c.loop-j.j).fits in it)) in it)) ((let it : (WordOf ((let it : ℕ = bit_xor c.within_word-inside.result ((let it : ℕ = get_or c.loop-j.near c.loop-j.j 0 in it)) in it)) (λ i. (eqb ((let it : ℕ → ℕ = bit_at c.args.near.now in it) (64 * c.loop-j.j + i)) 1 && not ((both_within c.args.within.now c.args.edges.now (64 * c.loop-j.j + i)))))) = let w : ℕ = (let it : ℕ = get_or c.loop-j.near c.loop-j.j 0 in it) in
+      partly_on c.args.near.now (λ k. both_within c.args.within.now c.args.edges.now k) j c.within_word-inside.result (let it : c.loop-j.j < 64 = search rules in it) c.loop-j.invariant.1 c.within_word-inside.ensures,
+      dropped_word (bit_xor c.within_word-inside.result (get_or c.loop-j.near c.loop-j.j 0)) j (λ k. eqb ((bit_at c.args.near.now) k) 1 && not (both_within c.args.within.now c.args.edges.now k)) (let it : (bit_xor c.within_word-inside.result (get_or c.loop-j.near c.loop-j.j 0)) < 2 ^ 64 = xor_lt 64 c.within_word-inside.result (get_or c.loop-j.near c.loop-j.j 0) (omega arith) (let it : (get_or c.loop-j.near c.loop-j.j 0) < 2 ^ 64 = (c.slice_known-in-loop-j-1.given c.loop-j.j).fits in it) in it) (let it : (WordOf (bit_xor c.within_word-inside.result (get_or c.loop-j.near c.loop-j.j 0)) (λ i. (eqb ((bit_at c.args.near.now) (64 * c.loop-j.j + i)) 1 && not (both_within c.args.within.now c.args.edges.now (64 * c.loop-j.j + i))))) = let w : ℕ = (get_or c.loop-j.near c.loop-j.j 0) in
           let f : ℕ → Bool = λ i. (both_within c.args.within.now c.args.edges.now (64 * c.loop-j.j + i)) in
-          word_cong (λ i. eqb (bit_of w i) 1 && not (f i)) (λ i. (eqb ((let it : ℕ → ℕ = bit_at c.args.near.now in it) (64 * c.loop-j.j + i)) 1 && not ((both_within c.args.within.now c.args.edges.now (64 * c.loop-j.j + i)))))
-          (λ i h. ap (λ (x : ℕ). eqb x 1 && not (f i)) ((let j : ℕ = c.loop-j.j in
+          word_cong (λ i. eqb (bit_of w i) 1 && not (f i)) (λ i. (eqb ((bit_at c.args.near.now) (64 * c.loop-j.j + i)) 1 && not (both_within c.args.within.now c.args.edges.now (64 * c.loop-j.j + i))))
+          (λ i h. ap (λ (x : ℕ). eqb x 1 && not (f i)) (let j : ℕ = c.loop-j.j in
           let p : j * 64 + i ≡ 64 * j + i = omega arith in
           sym (word_bit c.loop-j.near j i h) ∙ ap (bit_at c.loop-j.near) p
-          ∙ partly_at c.args.near.now (((λ k. both_within c.args.within.now c.args.edges.now k))) j (64 * j + i) c.loop-j.invariant.1 (omega (arith, (let it : c.loop-j.j < 64 = search rules in it), h)) (omega arith))))
-          (others_word c.within_word-inside.result w (λ i. eqb (bit_of w i) 1) f (record { bits = λ i h. bit_of_lem (bit_of w i) (bit_of_lt w i) }) c.within_word-inside.ensures) in it)) c.loop-j.invariant.2 c.drop_edges.ensures.dropped,
+          ∙ partly_at c.args.near.now (λ k. both_within c.args.within.now c.args.edges.now k) j (64 * j + i) c.loop-j.invariant.1 (omega (arith, (let it : c.loop-j.j < 64 = search rules in it), h)) (omega arith)))
+          (others_word c.within_word-inside.result w (λ i. eqb (bit_of w i) 1) f (record { bits = λ i h. bit_of_lem (bit_of w i) (bit_of_lt w i) }) c.within_word-inside.ensures) in it) c.loop-j.invariant.2 c.drop_edges.ensures.dropped,
       (c.drop_edges.auto.table ∙ c.loop-j.invariant.3.0, c.drop_edges.auto.sizes ∙ c.loop-j.invariant.3.1),
       c.drop_edges.ensures.counted,
     )

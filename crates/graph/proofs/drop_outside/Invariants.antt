@@ -1,3 +1,5 @@
+-- `graph::drop_outside` meets its contract. The first j words have those of their edges that have both ends within the set, and the others are as before; the
+-- table is that without the other edges of the first j words. The measure is how many words are left.
 use Prim.Native.Nat.{◌*◌, ◌-◌, ◌≤◌}
 use mathlib.Core.Bool.{◌&&◌, not}
 use lib.Dec.{ltb, eqb}
@@ -9,8 +11,6 @@ use Rattle.graph.specs.ForProofs.{both_within, Dropped}
 use Rattle.graph.proofs.Words.{partly}
 use Rattle.graph.proofs.drop_outside.Given as goal
 
--- `graph::drop_outside` meets its contract. The first j words have those of their edges that have both ends within the set, and the others are as before; the
--- table is that without the other edges of the first j words. The measure is how many words are left.
 abbrev pub invariant-loop-j : goal.invariant-loop-j
 invariant-loop-j l = (l.j ≤ 64)
     × EdgeSet l.near (partly l.initial.near (both_within l.within l.edges) l.j)

@@ -16,7 +16,7 @@ keep_dissimilar-tests-requires c =
 
 pub drop_set-requires : goal.drop_set-requires
 drop_set-requires c = (
-  ((let it : Read c.args.image.now c.args.h = header_is c.args.image.now c.args.h c.requires.0.accepted c.requires.0.header in it)).fits.m_limit,
+  (let it : Read c.args.image.now c.args.h = header_is c.args.image.now c.args.h c.requires.0.accepted c.requires.0.header in it).fits.m_limit,
   c.keep_dissimilar-tests.ensures.kept.size,
   c.requires.1,
   c.requires.0.counted,

@@ -5,7 +5,7 @@ use Rattle.graph.proofs.Within.{drawn_within, held_within}
 use Rattle.graph.proofs.keep_within.Goals as goal
 
 pub drop_outside-requires : goal.drop_outside-requires
-drop_outside-requires c = (((let it : Read c.args.image.now c.args.h = header_is c.args.image.now c.args.h c.requires.0.accepted c.requires.0.header in it)).fits.m_limit, c.requires.0.near_size, c.requires.1, c.requires.0.counted, near_ready c.args.image.now c.args.h c.requires.0.accepted c.requires.0.header c.requires.0)
+drop_outside-requires c = ((let it : Read c.args.image.now c.args.h = header_is c.args.image.now c.args.h c.requires.0.accepted c.requires.0.header in it).fits.m_limit, c.requires.0.near_size, c.requires.1, c.requires.0.counted, near_ready c.args.image.now c.args.h c.requires.0.accepted c.requires.0.header c.requires.0)
 
 pub returns : goal.returns
 returns c =

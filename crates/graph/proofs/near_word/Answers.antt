@@ -43,15 +43,15 @@ loop-k-preserved c =
     let held : ℕ → ℕ = λ i. bit (ltb i n && (passes_near c.args.handsets.now c.args.edges.now c.args.limit (c.args.base + i))) in
     let step : n - (c.loop-k.k - 1) ≡ suc (n - c.loop-k.k) = omega (arith, c.loop-k-test.true, c.loop-k.invariant.0) in
     let room : n - c.loop-k.k < 64 = omega (arith, c.loop-k-test.true, c.loop-k.invariant.0, c.requires.0) in
-    let small : one < 2 = subst (λ (x : ℕ). x < 2) (sym ((let it : (c.match-tested.one ≡ bit ((passes_near c.args.handsets.now c.args.edges.now c.args.limit (c.args.base + (c.loop-k.k - 1))))) = let near : Proximity → ℕ = λ p. bit (is_near p) in
+    let small : one < 2 = subst (λ (x : ℕ). x < 2) (sym (let it : (c.match-tested.one ≡ bit (passes_near c.args.handsets.now c.args.edges.now c.args.limit (c.args.base + (c.loop-k.k - 1)))) = let near : Proximity → ℕ = λ p. bit (is_near p) in
     elim c.match-tested.branch [
       | in-Near w ↦ w.one-is ∙ ap near (sym w.in-Near.is ∙ c.test_edge-tested.ensures)
       | in-NotNear w ↦ w.one-is ∙ ap near (sym w.in-NotNear.is ∙ c.test_edge-tested.ensures)
-    ] in it))) (bit-small ((passes_near c.args.handsets.now c.args.edges.now c.args.limit (c.args.base + (c.loop-k.k - 1))))) in (
+    ] in it)) (bit-small (passes_near c.args.handsets.now c.args.edges.now c.args.limit (c.args.base + (c.loop-k.k - 1)))) in (
       omega (arith, c.loop-k.invariant.0),
       subst (λ (x : ℕ). bit_or (c.loop-k.word * 2 ^ 1 % 2 ^ 64) one < 2 ^ x) (sym step) (below_lt (n - c.loop-k.k) c.loop-k.word one c.loop-k.invariant.1 room small),
       bits c.loop-k.word one c.loop-k.k (n - c.loop-k.k) held c.loop-k-test.true c.loop-k.invariant.1 room small
-          ((let it : (c.match-tested.one ≡ bit ((passes_near c.args.handsets.now c.args.edges.now c.args.limit (c.args.base + (c.loop-k.k - 1))))) = let near : Proximity → ℕ = λ p. bit (is_near p) in
+          ((let it : (c.match-tested.one ≡ bit (passes_near c.args.handsets.now c.args.edges.now c.args.limit (c.args.base + (c.loop-k.k - 1)))) = let near : Proximity → ℕ = λ p. bit (is_near p) in
           elim c.match-tested.branch [
             | in-Near w ↦ w.one-is ∙ ap near (sym w.in-Near.is ∙ c.test_edge-tested.ensures)
             | in-NotNear w ↦ w.one-is ∙ ap near (sym w.in-NotNear.is ∙ c.test_edge-tested.ensures)

@@ -1,3 +1,5 @@
+-- `graph::near_word` meets its contract. At k the word has the edges from k on that are near, each k places down: a turn puts the bit of one more
+-- below them. The measure is k.
 use Prim.Native.Nat.{ℕ, ◌+◌, ◌-◌, ◌^◌, ◌≤◌, ◌<◌}
 use mathlib.Core.Path.{◌≡◌}
 use mathlib.Core.Bool.{◌&&◌}
@@ -7,8 +9,6 @@ use Rattle.sets.specs.Bits.{bit_of}
 use Rattle.graph.specs.ForProofs.{passes_near}
 use Rattle.graph.proofs.near_word.Given as goal
 
--- `graph::near_word` meets its contract. At k the word has the edges from k on that are near, each k places down: a turn puts the bit of one more
--- below them. The measure is k.
 abbrev pub invariant-loop-k : goal.invariant-loop-k
 invariant-loop-k l = (l.k ≤ l.count) × (l.word < 2 ^ (l.count - l.k)) × ((i : ℕ) → bit_of l.word i ≡ bit (ltb (l.k + i) l.count && passes_near l.handsets l.edges l.limit (l.base + (l.k + i))))
 

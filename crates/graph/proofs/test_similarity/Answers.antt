@@ -16,13 +16,13 @@ row-handed : (ws : List ℕ) (u : ℕ) → take (u * 8 + 8 - u * 8) (drop (u * 8
 row-handed ws u = let e : u * 8 + 8 - u * 8 ≡ 8 = omega arith in ap (λ (n : ℕ). take n (drop (u * 8) ws)) e
 
 pub overflow_cast-c : goal.overflow_cast-c
-overflow_cast-c c = record { fits = omega (arith, (let it : c.common-c.result ≤ 512 = rw ((let it : (c.common-c.result ≡ in_both (take 8 (drop (c.args.u * 8) c.args.table.now)) (take 8 (drop (c.args.v * 8) c.args.table.now))) = c.common-c.ensures ∙ ap₂ in_both (row-handed c.args.table.now c.args.u) (row-handed c.args.table.now c.args.v) in it)) (in_both_most _ _) in it)) }
+overflow_cast-c c = record { fits = omega (arith, (let it : c.common-c.result ≤ 512 = rw (let it : (c.common-c.result ≡ in_both (take 8 (drop (c.args.u * 8) c.args.table.now)) (take 8 (drop (c.args.v * 8) c.args.table.now))) = c.common-c.ensures ∙ ap₂ in_both (row-handed c.args.table.now c.args.u) (row-handed c.args.table.now c.args.v) in it) (in_both_most _ _) in it)) }
 
 pub overflow_cast-sizes : goal.overflow_cast-sizes
-overflow_cast-sizes c = record { fits = omega (arith, ((let it : (get_or c.args.sizes.now c.args.u 0 ≤ 512) × (get_or c.args.sizes.now c.args.v 0 ≤ 512) = (row_most c.requires.3 c.args.u c.requires.0, row_most c.requires.3 c.args.v c.requires.1) in it)).0) }
+overflow_cast-sizes c = record { fits = omega (arith, (let it : (get_or c.args.sizes.now c.args.u 0 ≤ 512) × (get_or c.args.sizes.now c.args.v 0 ≤ 512) = (row_most c.requires.3 c.args.u c.requires.0, row_most c.requires.3 c.args.v c.requires.1) in it).0) }
 
 pub overflow_cast-sizes-2 : goal.overflow_cast-sizes-2
-overflow_cast-sizes-2 c = record { fits = omega (arith, ((let it : (get_or c.args.sizes.now c.args.u 0 ≤ 512) × (get_or c.args.sizes.now c.args.v 0 ≤ 512) = (row_most c.requires.3 c.args.u c.requires.0, row_most c.requires.3 c.args.v c.requires.1) in it)).1) }
+overflow_cast-sizes-2 c = record { fits = omega (arith, (let it : (get_or c.args.sizes.now c.args.u 0 ≤ 512) × (get_or c.args.sizes.now c.args.v 0 ≤ 512) = (row_most c.requires.3 c.args.u c.requires.0, row_most c.requires.3 c.args.v c.requires.1) in it).1) }
 
 pub returns : goal.returns
 returns c =

@@ -1,3 +1,4 @@
+-- `image::add` meets its contract: the row's size goes up by one, and the word written is the one with the bit.
 use Prim.Native.Nat.{ℕ, ◌*◌, ◌+◌, ◌/◌, ◌%◌, ◌^◌}
 use mathlib.Core.Path.{◌≡◌, ap}
 use lib.Bits.{bit_or}

@@ -1,3 +1,5 @@
+-- `image::add_edges` meets its contract. At k no edge before is at fault, and the table holds each handset with itself and the first k edges, counted.
+-- A bit that is set already is the loop or the repeat. The measure is what is left of m.
 use Prim.Native.Nat.{ℕ, ◌+◌, ◌*◌, ◌≤◌, ◌-◌, ◌<◌}
 use native.Mathlib.Omega.{arith}
 use mathlib.Core.Path.{◌≡◌, sym, ap, ap₂, ◌∙◌, subst}
@@ -19,8 +21,6 @@ use Rattle.image.proofs.Rows.{zero_is, table_has}
 use Rattle.image.proofs.Edges.{linked_none, linked_more, second_new, end_told, fault_end, fault_linked, added_no, added_yes}
 use Rattle.image.proofs.add_edges.Given as goal
 
--- `image::add_edges` meets its contract. At k no edge before is at fault, and the table holds each handset with itself and the first k edges, counted.
--- A bit that is set already is the loop or the repeat. The measure is what is left of m.
 abbrev pub invariant-loop-k : goal.invariant-loop-k
 invariant-loop-k l = (l.k ≤ l.m) × T (not (any l.k (faulty l.records l.n))) × Room l.rows l.sizes × Table l.rows (linked l.n l.records l.k) × Counted l.rows l.sizes
 

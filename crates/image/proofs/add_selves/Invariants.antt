@@ -1,3 +1,5 @@
+-- `image::add_selves` meets its contract. At u the table holds each handset below u with itself, counted; the cleared table holds none. The
+-- measure is what is left of n.
 use Prim.Native.Nat.{ℕ, ◌≤◌, ◌-◌}
 use native.Mathlib.Omega.{arith}
 use mathlib.Core.Path.{◌≡◌, sym, ◌∙◌, subst}
@@ -9,8 +11,6 @@ use Rattle.image.proofs.Rows.{cleared_room, cleared_counted}
 use Rattle.image.proofs.Edges.{selves_none, selves_more, selves_new}
 use Rattle.image.proofs.add_selves.Given as goal
 
--- `image::add_selves` meets its contract. At u the table holds each handset below u with itself, counted; the cleared table holds none. The
--- measure is what is left of n.
 abbrev pub invariant-loop-u : goal.invariant-loop-u
 invariant-loop-u l = (l.u ≤ l.n) × Room l.rows l.sizes × Table l.rows (λ x y. ltb x l.u && eqb x y) × Counted l.rows l.sizes
 

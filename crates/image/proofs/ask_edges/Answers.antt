@@ -1,3 +1,5 @@
+-- `image::ask_edges` meets its contract. Where the pass comes to the end, no edge is at fault, and the table has them all. Where it does not, a scan for
+-- question 8 or 9 that stops before the end is the refusal, and else the first fault is the first repeat.
 use native.Mathlib.Omega.{arith}
 use mathlib.Core.Path.{◌≡◌, sym, ◌∙◌}
 use borrow.Author.Rules.{rules}
@@ -20,7 +22,7 @@ pub returns-then-bad-m : goal.returns-then-bad-m
 unfolding ask_edges
 returns-then-bad-m c =
     record {
-      answer = c.refused.ensures ∙ sym (each_no _ _ _ ((end_found c.args.records.now c.args.h.n c.args.h.m c.first_bad-bad.result c.first_bad-bad.ensures)) 8 _ c.if-bad-m.true);
+      answer = c.refused.ensures ∙ sym (each_no _ _ _ (end_found c.args.records.now c.args.h.n c.args.h.m c.first_bad-bad.result c.first_bad-bad.ensures) 8 _ c.if-bad-m.true);
       held = held_no _ c.refused.ensures;
     }
 
@@ -28,7 +30,7 @@ pub returns-then-own-m : goal.returns-then-own-m
 unfolding ask_edges
 returns-then-own-m c =
     record {
-      answer = c.refused-then-own-m.ensures ∙ sym ((each_yes _ _ _ ((end_found c.args.records.now c.args.h.n c.args.h.m c.first_bad-bad.result c.first_bad-bad.ensures)) 8 _ c.if-bad-m.false) ∙ each_no _ _ _ ((loop_found c.args.records.now c.args.h.n c.args.h.m c.first_bad-own.result c.first_bad-own.ensures)) 9 _ c.if-own-m.true);
+      answer = c.refused-then-own-m.ensures ∙ sym ((each_yes _ _ _ (end_found c.args.records.now c.args.h.n c.args.h.m c.first_bad-bad.result c.first_bad-bad.ensures) 8 _ c.if-bad-m.false) ∙ each_no _ _ _ (loop_found c.args.records.now c.args.h.n c.args.h.m c.first_bad-own.result c.first_bad-own.ensures) 9 _ c.if-own-m.true);
       held = held_no _ c.refused-then-own-m.ensures;
     }
 
@@ -37,6 +39,6 @@ returns c =
     record {
       answer = c.refused-2.ensures
           ∙ sym (edges_repeat c.args.records.now c.args.h c.add_edges-fault.result c.add_edges-fault.ensures.first c.if-m-fault.false
-          (each_passed _ _ _ ((end_found c.args.records.now c.args.h.n c.args.h.m c.first_bad-bad.result c.first_bad-bad.ensures)) c.if-bad-m.false) (each_passed _ _ _ ((loop_found c.args.records.now c.args.h.n c.args.h.m c.first_bad-own.result c.first_bad-own.ensures)) c.if-own-m.false));
+          (each_passed _ _ _ (end_found c.args.records.now c.args.h.n c.args.h.m c.first_bad-bad.result c.first_bad-bad.ensures) c.if-bad-m.false) (each_passed _ _ _ (loop_found c.args.records.now c.args.h.n c.args.h.m c.first_bad-own.result c.first_bad-own.ensures) c.if-own-m.false));
       held = held_no _ c.refused-2.ensures;
     }

@@ -1,3 +1,4 @@
+-- `image::ask_header` meets its contract: each question is asked of what the questions after it answer.
 use mathlib.Core.Path.{ap, ap₂, ◌∙◌}
 use mathlib.Core.Bool.{Bool}
 use borrow.Author.Rules.{rules}

@@ -1,3 +1,4 @@
+-- `image::ask_records` meets its contract: a scan that stops before the end is the refusal, and one that comes to the end goes on to the edges.
 use native.Mathlib.Omega.{arith}
 use mathlib.Core.Path.{◌≡◌, refl, sym, ◌∙◌}
 use borrow.Author.Rules.{rules}
@@ -13,7 +14,7 @@ pub returns-then-far-h : goal.returns-then-far-h
 unfolding ask_records
 returns-then-far-h c =
     record {
-      answer = c.refused.ensures ∙ sym (each_no _ _ _ ((handset_found c.args.handsets.now c.args.h.n c.args.h.n c.first_bad-far.result c.first_bad-far.ensures)) 7 _ c.if-far-h.true);
+      answer = c.refused.ensures ∙ sym (each_no _ _ _ (handset_found c.args.handsets.now c.args.h.n c.args.h.n c.first_bad-far.result c.first_bad-far.ensures) 7 _ c.if-far-h.true);
       held = held_no _ c.refused.ensures;
     }
 
@@ -21,6 +22,6 @@ pub returns : goal.returns
 unfolding ask_records
 returns c =
     record {
-      answer = c.ask_edges.ensures.answer ∙ sym (each_yes _ _ _ ((handset_found c.args.handsets.now c.args.h.n c.args.h.n c.first_bad-far.result c.first_bad-far.ensures)) 7 _ c.if-far-h.false);
+      answer = c.ask_edges.ensures.answer ∙ sym (each_yes _ _ _ (handset_found c.args.handsets.now c.args.h.n c.args.h.n c.first_bad-far.result c.first_bad-far.ensures) 7 _ c.if-far-h.false);
       held = c.ask_edges.ensures.held;
     }

@@ -1,3 +1,4 @@
+-- `image::ends_at` meets its contract: the two numbers of a record are those at its place in the table.
 use mathlib.Core.Path.{◌∙◌}
 use native.Mathlib.Omega.{arith}
 use borrow.Author.Rules.{rules}

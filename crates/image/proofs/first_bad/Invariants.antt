@@ -1,3 +1,5 @@
+-- `image::first_bad` meets its contract. No record passed is bad, so the first that is, or the end, is what `find` finds. The measure is what is left of
+-- the records.
 use Prim.Native.Nat.{◌≤◌, ◌-◌}
 use native.Mathlib.Omega.{arith}
 use mathlib.Core.Bool.{not}
@@ -9,8 +11,6 @@ use Rattle.image.specs.ForProofs.{bad_record}
 use Rattle.image.proofs.Scanning.{scan_none, scan_more, scan_found, scan_ended}
 use Rattle.image.proofs.first_bad.Given as goal
 
--- `image::first_bad` meets its contract. No record passed is bad, so the first that is, or the end, is what `find` finds. The measure is what is left of
--- the records.
 abbrev pub invariant-loop-k : goal.invariant-loop-k
 invariant-loop-k l = (l.k ≤ l.count) × T (not (any l.k (bad_record l.question l.records l.n)))
 

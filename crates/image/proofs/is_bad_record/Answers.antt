@@ -1,3 +1,4 @@
+-- `image::is_bad_record` meets its contract: the record is the slice from its place on, and the question's test of it is the definition's.
 use Prim.Native.Nat.{◌+◌, ◌*◌, ◌≤◌}
 use native.Mathlib.Omega.{arith}
 use mathlib.Core.Path.{sym, ap, ◌∙◌}

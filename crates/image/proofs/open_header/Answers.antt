@@ -1,3 +1,4 @@
+-- `image::open_header` meets its contract. Questions 1 and 2 are the two tests, and then the header is what questions 3 to 6 are put to.
 use mathlib.Core.Path.{sym, ap, ◌∙◌}
 use borrow.Author.Rules.{rules}
 use Rattle.image.specs.declared.Header.{Header}

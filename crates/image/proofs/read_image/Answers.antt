@@ -1,3 +1,5 @@
+-- `image::read_image` meets its contract. A no to one of questions 1 to 6 is the answer; where they all get a yes the tables lie in the image, and the
+-- rest is what questions 7 to 10 answer and leave.
 use native.Mathlib.Omega.{arith}
 use mathlib.Core.Path.{sym, ◌∙◌}
 use borrow.Author.Rules.{rules}

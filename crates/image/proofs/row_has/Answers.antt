@@ -1,3 +1,4 @@
+-- `image::row_has` meets its contract: the bit looked at is the cell's.
 use mathlib.Core.Path.{refl}
 use borrow.Author.Rules.{rules}
 use Rattle.sets.specs.Bits.{bit_of, bit_at}

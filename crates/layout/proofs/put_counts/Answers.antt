@@ -1,3 +1,4 @@
+-- `layout::put_counts` meets its contract: each field is written where the last ended.
 use native.Mathlib.Omega.{arith}
 use mathlib.Core.Path.{refl}
 use Rattle.little_endian.specs.Bytes.{le_bytes}

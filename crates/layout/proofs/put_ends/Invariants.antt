@@ -1,3 +1,4 @@
+-- `layout::put_ends` meets its contract. After i steps the first i ends are written. The measure is the count of those left.
 use Prim.Native.Nat.{◌+◌, ◌*◌, ◌-◌, ◌≤◌}
 use mathlib.Core.Path.{◌≡◌}
 use lib.ListN.{length, take}
@@ -6,7 +7,6 @@ use Rattle.little_endian.specs.Bytes.{table_bytes}
 use Rattle.fields.specs.Fields.{end_bytes}
 use Rattle.layout.proofs.put_ends.Given as goal
 
--- `layout::put_ends` meets its contract. After i steps the first i ends are written. The measure is the count of those left.
 abbrev pub invariant-loop-i : goal.invariant-loop-i
 invariant-loop-i l = (l.i ≤ length l.ends) × (l.from + end_bytes * length l.ends ≤ length l.initial.s) × (l.s ≡ sets l.initial.s l.from (table_bytes end_bytes (take l.i l.ends)))
 

@@ -1,3 +1,4 @@
+-- `layout::word` meets its contract: a raised coordinate, shifted once more, is the coordinate's word.
 use mathlib.Core.Path.{ap, ◌∙◌}
 use mir.Facts.{to_z-of_z}
 use Rattle.fields.specs.Fields.{shifted}

@@ -1,3 +1,5 @@
+-- `limits::out_of_limits` meets its contract. At i the flag says whether one of the first i coordinates is out of its limits. The measure is what is left of
+-- the coordinates.
 use Prim.Native.Nat.{ℕ, ◌-◌, ◌≤◌}
 use native.Mathlib.Omega.{arith}
 use native.Mathlib.Numerals.{add-one}
@@ -11,8 +13,6 @@ use Rattle.fields.specs.Fields.{coordinate_count, in_limits, coordinate_of}
 use Rattle.limits.specs.Limits.{out_of_limits}
 use Rattle.limits.proofs.out_of_limits.Given as goal
 
--- `limits::out_of_limits` meets its contract. At i the flag says whether one of the first i coordinates is out of its limits. The measure is what is left of
--- the coordinates.
 abbrev pub out : List ℕ → ℕ → Bool
 out r i = not (in_limits (coordinate_of r i))
 

@@ -15,7 +15,7 @@ unfolding table_lines
 loop-k-init c = (omega arith, nothing _ _ _ (omega (arith, c.put_head-next.ensures.next)))
 
 pub group_tally-tally-requires : goal.group_tally-tally-requires
-group_tally-tally-requires c = ((let it : c.loop-k.k < 512 = omega (arith, c.smaller-groups.ensures, c.loop-k-test.true) in it), (let it : c.row_size.result ≤ 512 = omega (arith, c.row_size.ensures, row_few c.args.rows.now c.loop-k.k ((let it : c.loop-k.k < 512 = omega (arith, c.smaller-groups.ensures, c.loop-k-test.true) in it))) in it))
+group_tally-tally-requires c = ((let it : c.loop-k.k < 512 = omega (arith, c.smaller-groups.ensures, c.loop-k-test.true) in it), (let it : c.row_size.result ≤ 512 = omega (arith, c.row_size.ensures, row_few c.args.rows.now c.loop-k.k (let it : c.loop-k.k < 512 = omega (arith, c.smaller-groups.ensures, c.loop-k-test.true) in it)) in it))
 
 pub loop-k-preserved : goal.loop-k-preserved
 loop-k-preserved c =
@@ -23,7 +23,7 @@ loop-k-preserved c =
       omega arith,
       rw (lines_more rows c.args.tallies.now c.args.reaches.now c.loop-k.k)
           (chain (omega (arith, c.put_head-next.auto.text, c.well_formed.0.1)) c.loop-k.invariant.1
-          (rw (c.group_tally-tally.ensures, c.row_size.ensures, c.group_reach-reach.ensures, c.row_of.ensures, row_elements rows c.loop-k.k ((let it : c.loop-k.k < 512 = omega (arith, c.smaller-groups.ensures, c.loop-k-test.true) in it))) at c.put_group-next.ensures)),
+          (rw (c.group_tally-tally.ensures, c.row_size.ensures, c.group_reach-reach.ensures, c.row_of.ensures, row_elements rows c.loop-k.k (let it : c.loop-k.k < 512 = omega (arith, c.smaller-groups.ensures, c.loop-k-test.true) in it)) at c.put_group-next.ensures)),
     )
 
 pub returns : goal.returns

@@ -1,3 +1,4 @@
+-- `little_endian::read2` meets its contract. Where both bytes are there the number is that of two bytes, else it is 0.
 use mathlib.Core.Path.{sym, ◌∙◌}
 use borrow.Author.Rules.{rules}
 use borrow.Author.Tests.{leb-true}

@@ -1,3 +1,4 @@
+-- `little_endian::read4` meets its contract. Where all bytes are there the number is that of four bytes, else it is 0.
 use mathlib.Core.Path.{sym, ◌∙◌}
 use borrow.Author.Rules.{rules}
 use borrow.Author.Tests.{leb-true}

@@ -1,3 +1,5 @@
+-- `little_endian::write` meets its contract. After i steps the first i bytes are written, and what is left of the number is its quotient. The measure is the count of
+-- bytes left.
 use borrow.Author.Rules.{rules}
 use Prim.Native.Nat.{ℕ, ◌+◌, ◌/◌, ◌^◌, ◌-◌, ◌≤◌}
 use native.Mathlib.Omega.{arith}
@@ -10,8 +12,6 @@ use Rattle.little_endian.specs.Bytes.{le_bytes}
 use Rattle.little_endian.proofs.Writing.{write_none, write_more, stored_there, stored_none}
 use Rattle.little_endian.proofs.write.Given as goal
 
--- `little_endian::write` meets its contract. After i steps the first i bytes are written, and what is left of the number is its quotient. The measure is the count of
--- bytes left.
 abbrev pub invariant-loop-i : goal.invariant-loop-i
 invariant-loop-i l = (l.i ≤ l.w) × (l.at + l.w ≤ length l.initial.s) × (l.rest ≡ l.v / 256 ^ l.i) × (l.s ≡ sets l.initial.s l.at (le_bytes l.i l.v))
 

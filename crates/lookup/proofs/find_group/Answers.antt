@@ -1,3 +1,4 @@
+-- `lookup::find_group` meets its contract: its answer is the one of the span that it found.
 use Prim.Native.Nat.{◌-◌}
 use native.Mathlib.Omega.{arith}
 use mathlib.Core.Path.{◌≡◌, sym, ap, ◌∙◌}
@@ -11,10 +12,10 @@ use Rattle.lookup.proofs.find_group.Goals as goal
 
 pub returns-then-s : goal.returns-then-s
 returns-then-s c =
-    ap look_answer ((ap (λ (x : Bool). cond x (Found (c.find_span-s.result.past - c.find_span-s.result.first)) (Refused (refusal 14))) (sym c.if-s.true)
-    ∙ sym (looked_span c.args.starts.now c.args.table.now c.args.k c.find_span-s.result c.find_span-s.ensures.0 c.find_span-s.ensures.1.1)))
+    ap look_answer (ap (λ (x : Bool). cond x (Found (c.find_span-s.result.past - c.find_span-s.result.first)) (Refused (refusal 14))) (sym c.if-s.true)
+    ∙ sym (looked_span c.args.starts.now c.args.table.now c.args.k c.find_span-s.result c.find_span-s.ensures.0 c.find_span-s.ensures.1.1))
 
 pub returns-else-s : goal.returns-else-s
 returns-else-s c =
-    ap look_answer ((ap (λ (x : Bool). cond x (Found (c.find_span-s.result.past - c.find_span-s.result.first)) (Refused (refusal 14))) (sym c.if-s.false)
-    ∙ sym (looked_span c.args.starts.now c.args.table.now c.args.k c.find_span-s.result c.find_span-s.ensures.0 c.find_span-s.ensures.1.1)))
+    ap look_answer (ap (λ (x : Bool). cond x (Found (c.find_span-s.result.past - c.find_span-s.result.first)) (Refused (refusal 14))) (sym c.if-s.false)
+    ∙ sym (looked_span c.args.starts.now c.args.table.now c.args.k c.find_span-s.result c.find_span-s.ensures.0 c.find_span-s.ensures.1.1))

@@ -1,3 +1,4 @@
+-- `lookup::find_span` meets its contract: each way through the tests is one case of question 14.
 use native.Mathlib.Omega.{arith}
 use Prim.Native.Nat.{◌+◌}
 use mathlib.Core.Path.{sym}

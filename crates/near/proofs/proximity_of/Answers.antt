@@ -38,16 +38,16 @@ loop-i-init c = (omega arith, left_none _)
 
 pub loop-i-preserved : goal.loop-i-preserved
 unfolding coordinate_of sum
-loop-i-preserved c = (omega arith, rw (add-one c.loop-i.i) (left-more _ _ c.loop-i.room _ _ _ c.loop-i.fits c.loop-i.invariant.1 (c.squared_gap_at-d.ensures) c.squared_gap_at-d.type_inv c.wrapping_sub_u64-room.type_inv c.wrapping_sub_u64-room.ensures.value))
+loop-i-preserved c = (omega arith, rw (add-one c.loop-i.i) (left-more _ _ c.loop-i.room _ _ _ c.loop-i.fits c.loop-i.invariant.1 c.squared_gap_at-d.ensures c.squared_gap_at-d.type_inv c.wrapping_sub_u64-room.type_inv c.wrapping_sub_u64-room.ensures.value))
 
 pub returns-then-fits : goal.returns-then-fits
 unfolding distance_between
 returns-then-fits c =
-    ap proximity_answer (left_near _ _ _ _ _ ((let it : (Left (distance_between c.args.a.now c.args.b.now) c.args.limit c.loop-i.fits c.loop-i.room) = let e : c.loop-i.i ≡ coordinate_count = omega (arith, c.loop-i.invariant.0, c.loop-i-test.false) in
-    subst (λ (n : ℕ). Left (sum n ((gap_squared (coordinate_of c.args.a.now) (coordinate_of c.args.b.now)))) c.args.limit c.loop-i.fits c.loop-i.room) e c.loop-i.invariant.1 in it)) c.if-fits.true)
+    ap proximity_answer (left_near _ _ _ _ _ (let it : (Left (distance_between c.args.a.now c.args.b.now) c.args.limit c.loop-i.fits c.loop-i.room) = let e : c.loop-i.i ≡ coordinate_count = omega (arith, c.loop-i.invariant.0, c.loop-i-test.false) in
+    subst (λ (n : ℕ). Left (sum n (gap_squared (coordinate_of c.args.a.now) (coordinate_of c.args.b.now))) c.args.limit c.loop-i.fits c.loop-i.room) e c.loop-i.invariant.1 in it) c.if-fits.true)
 
 pub returns-else-fits : goal.returns-else-fits
 unfolding distance_between
 returns-else-fits c =
-    ap proximity_answer (left_far _ _ _ _ _ ((let it : (Left (distance_between c.args.a.now c.args.b.now) c.args.limit c.loop-i.fits c.loop-i.room) = let e : c.loop-i.i ≡ coordinate_count = omega (arith, c.loop-i.invariant.0, c.loop-i-test.false) in
-    subst (λ (n : ℕ). Left (sum n ((gap_squared (coordinate_of c.args.a.now) (coordinate_of c.args.b.now)))) c.args.limit c.loop-i.fits c.loop-i.room) e c.loop-i.invariant.1 in it)) c.if-fits.false)
+    ap proximity_answer (left_far _ _ _ _ _ (let it : (Left (distance_between c.args.a.now c.args.b.now) c.args.limit c.loop-i.fits c.loop-i.room) = let e : c.loop-i.i ≡ coordinate_count = omega (arith, c.loop-i.invariant.0, c.loop-i-test.false) in
+    subst (λ (n : ℕ). Left (sum n (gap_squared (coordinate_of c.args.a.now) (coordinate_of c.args.b.now))) c.args.limit c.loop-i.fits c.loop-i.room) e c.loop-i.invariant.1 in it) c.if-fits.false)

@@ -1,3 +1,6 @@
+-- `near::proximity_of` meets its contract. While the squares so far fit, what is left of the limit and their sum make the limit, so the next square fits in
+-- what is left just where the sum with it keeps the limit, and a sum past the limit stays past it; in the end the sum is what is gone of the limit. The
+-- measure is what is left of the coordinates.
 use Rattle.std.proofs.Common.{◌≡◌, ℕ, ◌+◌, ◌-◌, ◌%◌, ◌^◌, ◌<◌, ◌≤◌, Bool, true, false, cond, ◌&&◌, T, leb, List, sym, ap, ◌∙◌, subst, add-one, arith, le→leb, leb→le, rules}
 use Rattle.sets.specs.Below.{sum}
 use Rattle.sets.proofs.Tests.{T_true, T-ext, and_make, and_left, and_right}
@@ -7,9 +10,6 @@ use Rattle.near.specs.Near.{proximity_of, proximity_answer}
 use Rattle.near.specs.declared.Proximity.TheVariants.{Near, NotNear}
 use Rattle.near.proofs.proximity_of.Given as goal
 
--- `near::proximity_of` meets its contract. While the squares so far fit, what is left of the limit and their sum make the limit, so the next square fits in
--- what is left just where the sum with it keeps the limit, and a sum past the limit stays past it; in the end the sum is what is gone of the limit. The
--- measure is what is left of the coordinates.
 -- whether a sum of squares keeps the limit, and what is left of it
 pub record Left (total limit : ℕ) (fits : Bool) (room : ℕ) : Type 0 where
   pub answer : fits ≡ leb total limit

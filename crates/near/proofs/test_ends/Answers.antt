@@ -1,3 +1,4 @@
+-- `near::test_ends` meets its contract: where both records are there, those handed on are these.
 use Rattle.std.proofs.Common.{◌≡◌, ℕ, ◌+◌, ◌*◌, ◌<◌, ◌≤◌, Bool, true, false, cond, not, ◌&&◌, T, ltb, List, length, sym, refl, ap, ◌∙◌, subst, ap₂, arith, ltb→lt, rules}
 use Rattle.sets.proofs.Tests.{and_left, and_right}
 use Rattle.fields.specs.Fields.{handset_bytes}
@@ -9,7 +10,6 @@ use Rattle.image.proofs.Records.{handset_slice_lem}
 use Rattle.near.proofs.Near.{proximity_same}
 use Rattle.near.proofs.test_ends.Goals as goal
 
--- `near::test_ends` meets its contract: where both records are there, those handed on are these.
 -- a test by its negation
 not-false : (b : Bool) → not b ≡ false → b ≡ true
 not-false true e = refl
@@ -21,11 +21,11 @@ not-true false e = refl
 
 pub returns-then-not-both : goal.returns-then-not-both
 unfolding ends_proximity
-returns-then-not-both c = ap (λ (b : Bool). cond b (proximity_of (handset_record c.args.handsets.now c.args.u) (handset_record c.args.handsets.now c.args.v) c.args.limit) NotNear) (sym (not-true ((let n : ℕ = handsets_in c.args.handsets.now in ltb c.args.u n && ltb c.args.v n)) (ap not c.if-not-both.true)))
+returns-then-not-both c = ap (λ (b : Bool). cond b (proximity_of (handset_record c.args.handsets.now c.args.u) (handset_record c.args.handsets.now c.args.v) c.args.limit) NotNear) (sym (not-true (let n : ℕ = handsets_in c.args.handsets.now in ltb c.args.u n && ltb c.args.v n) (ap not c.if-not-both.true)))
 
 pub returns : goal.returns
 unfolding ends_proximity
 returns c =
     let test : List ℕ → List ℕ → Proximity = λ a b. proximity_of a b c.args.limit in
     proximity_same _ _ c.proximity_of.ensures ∙ ap₂ test (handset_slice_lem c.args.handsets.now c.args.u) (handset_slice_lem c.args.handsets.now c.args.v)
-    ∙ ap (λ (b : Bool). cond b (test (handset_record c.args.handsets.now c.args.u) (handset_record c.args.handsets.now c.args.v)) NotNear) (sym (not-false ((let n : ℕ = handsets_in c.args.handsets.now in ltb c.args.u n && ltb c.args.v n)) (ap not c.if-not-both.false)))
+    ∙ ap (λ (b : Bool). cond b (test (handset_record c.args.handsets.now c.args.u) (handset_record c.args.handsets.now c.args.v)) NotNear) (sym (not-false (let n : ℕ = handsets_in c.args.handsets.now in ltb c.args.u n && ltb c.args.v n) (ap not c.if-not-both.false)))

@@ -10,4 +10,4 @@ loop-j-init c =
     (omega arith, closest_none f (passed f c.args.set.now 0) (passed_none f c.args.set.now))
 
 pub loop-j-preserved : goal.loop-j-preserved
-loop-j-preserved c = (omega arith, closest_word ((let it : ℕ → ℕ = wrapped c.args.point.now c.args.handsets.now in it)) c.args.set.now c.loop-j.j c.loop-j.least c.loop-j.closest _ _ c.loop-j.invariant.1 c.take_word-least.ensures)
+loop-j-preserved c = (omega arith, closest_word (wrapped c.args.point.now c.args.handsets.now) c.args.set.now c.loop-j.j c.loop-j.least c.loop-j.closest _ _ c.loop-j.invariant.1 c.take_word-least.ensures)

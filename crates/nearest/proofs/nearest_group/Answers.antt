@@ -20,7 +20,7 @@ pub returns-in_default : goal.returns-in_default
 returns-in_default c =
     let e : open_of c.args.image.now ≡ O.Refused c.refusal_of.result =
     sym c.find_rows-found.ensures.site.answered ∙ c.in_default.is ∙ ap O.Refused (sym (c.refusal_of.ensures ∙ ap refusal_of c.in_default.is)) in
-    ap nearest_answer (refused_answer c.args.image.now ((let it : List ℤ = c.args.x ∷ c.args.y ∷ c.args.z ∷ [] in it)) c.refusal_of.result e)
+    ap nearest_answer (refused_answer c.args.image.now (c.args.x ∷ c.args.y ∷ c.args.z ∷ []) c.refusal_of.result e)
 
 pub nearest_site-requires : goal.nearest_site-requires
 nearest_site-requires c =
@@ -30,4 +30,4 @@ nearest_site-requires c =
 pub returns : goal.returns
 returns c =
     ap nearest_answer
-    (past_answer c.args.image.now ((let it : List ℤ = c.args.x ∷ c.args.y ∷ c.args.z ∷ [] in it)) ((let it : Accepted c.args.image.now × (c.in-Site.h ≡ header_of c.args.image.now) = accepted c.args.image.now c.in-Site.h (sym c.find_rows-found.ensures.site.answered ∙ c.in-Site.is) in it)).0 (sym (ap point_in_limits (handed c.ranges.x c.ranges.y c.ranges.z)) ∙ sym c.in_limits.ensures ∙ c.if-in_limits.false))
+    (past_answer c.args.image.now (c.args.x ∷ c.args.y ∷ c.args.z ∷ []) (let it : Accepted c.args.image.now × (c.in-Site.h ≡ header_of c.args.image.now) = accepted c.args.image.now c.in-Site.h (sym c.find_rows-found.ensures.site.answered ∙ c.in-Site.is) in it).0 (sym (ap point_in_limits (handed c.ranges.x c.ranges.y c.ranges.z)) ∙ sym c.in_limits.ensures ∙ c.if-in_limits.false))

@@ -26,13 +26,13 @@ pub loop-i-preserved : goal.loop-i-preserved
 unfolding sum
 loop-i-preserved c = (
   omega arith,
-  rw (add-one c.loop-i.i) (wrap-more c.loop-i.total c.wrapping_add_u64-total.result c.squared_gap.result _ _ c.loop-i.invariant.1 ((let it : c.squared_gap.result ≡ (let it : ℕ → ℕ = squares c.args.point.now c.args.handsets.now c.args.v in it) c.loop-i.i = let x : ℕ = get_or c.args.point.now c.loop-i.i 0 in
+  rw (add-one c.loop-i.i) (wrap-more c.loop-i.total c.wrapping_add_u64-total.result c.squared_gap.result _ _ c.loop-i.invariant.1 (let it : c.squared_gap.result ≡ (squares c.args.point.now c.args.handsets.now c.args.v) c.loop-i.i = let x : ℕ = get_or c.args.point.now c.loop-i.i 0 in
       c.squared_gap.ensures
-      ∙ ap (λ (y : ℕ). gap x y * gap x y) (c.coordinate-coordinate.ensures ∙ coordinate_at c.args.handsets.now c.args.v c.loop-i.i (omega (arith, c.loop-i-test.true))) in it)) c.wrapping_add_u64-total.ensures.value),
+      ∙ ap (λ (y : ℕ). gap x y * gap x y) (c.coordinate-coordinate.ensures ∙ coordinate_at c.args.handsets.now c.args.v c.loop-i.i (omega (arith, c.loop-i-test.true))) in it) c.wrapping_add_u64-total.ensures.value),
 )
 
 pub returns : goal.returns
 unfolding distance_from
 returns c =
     let e : c.loop-i.i ≡ coordinate_count = omega (arith, c.loop-i.invariant.0, c.loop-i-test.false) in
-    c.loop-i.invariant.1 ∙ ap (λ (n : ℕ). sum n ((let it : ℕ → ℕ = squares c.args.point.now c.args.handsets.now c.args.v in it)) % 2 ^ 64) e
+    c.loop-i.invariant.1 ∙ ap (λ (n : ℕ). sum n (squares c.args.point.now c.args.handsets.now c.args.v) % 2 ^ 64) e

@@ -1,9 +1,9 @@
+-- `points::raise` meets its contract. A number of 32 bits and its sum with 2 ^ 31 fit 64 bits; the sum is not negative, and fits 32.
 use Rattle.std.proofs.Common.{◌≡◌, ◌<◌, ℤ, pos, negsuc, ◌+ℤ◌, nat_abs, sym, refl, ap, ◌∙◌, subst, arith, to_z-of_z, w32, w64, SFits, to_z, of_z, le-ltb}
 use lib.Signed.{mag}
 use Rattle.image.specs.Signed.{raised}
 use Rattle.points.proofs.raise.Goals as goal
 
--- `points::raise` meets its contract. A number of 32 bits and its sum with 2 ^ 31 fit 64 bits; the sum is not negative, and fits 32.
 raised-sum : (z : ℤ) → mag z < 2147483648 → (z +ℤ pos 2147483648 ≡ pos (raised z)) × (raised z < 4294967296)
 unfolding raised
 raised-sum (pos x) h = (refl, omega arith)

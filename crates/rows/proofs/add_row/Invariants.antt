@@ -1,3 +1,5 @@
+-- `rows::add_row` meets its contract. The invariant: the words passed have the row added, and the others are as they were. The measure is the number of words
+-- left.
 use Prim.Native.Nat.{ℕ, ◌+◌, ◌*◌, ◌-◌, ◌≤◌, ◌<◌}
 use native.Mathlib.Omega.{arith}
 use native.Mathlib.Decide.{ℕ_discrete}
@@ -8,8 +10,6 @@ use lib.ListN.{length, get_or, set, length-set}
 use lib.Seq.{get_or-set_same, get_or-set_other}
 use Rattle.rows.proofs.add_row.Given as goal
 
--- `rows::add_row` meets its contract. The invariant: the words passed have the row added, and the others are as they were. The measure is the number of words
--- left.
 -- the first j words hold what f says, and the others what they held
 pub record Stored (f : ℕ → ℕ) (ws₀ : List ℕ) (j : ℕ) (ws : List ℕ) : Type 0 where
   pub new : (i : ℕ) → i < j → get_or ws i 0 ≡ f i

@@ -15,13 +15,13 @@ pub overflow_add-total : goal.overflow_add-total
 overflow_add-total c =
     omega (
       arith,
-      ((let it : ((c.loop-k.total + c.count_ones_of-size.result ≡ length (member_table (rows_of c.args.rows.now (c.loop-k.k + 1)))) × (c.loop-k.total + c.count_ones_of-size.result ≤ (c.loop-k.k + 1) * 512)) = let e : c.loop-k.total + c.count_ones_of-size.result ≡ length (member_table (rows_of c.args.rows.now (c.loop-k.k + 1))) = omega (arith, c.count_ones_of-size.ensures, c.loop-k.invariant.1, members_length c.args.rows.now c.loop-k.k) in
-          (e, omega (arith, e, members_small c.args.rows.now (c.loop-k.k + 1))) in it)).1,
+      (let it : ((c.loop-k.total + c.count_ones_of-size.result ≡ length (member_table (rows_of c.args.rows.now (c.loop-k.k + 1)))) × (c.loop-k.total + c.count_ones_of-size.result ≤ (c.loop-k.k + 1) * 512)) = let e : c.loop-k.total + c.count_ones_of-size.result ≡ length (member_table (rows_of c.args.rows.now (c.loop-k.k + 1))) = omega (arith, c.count_ones_of-size.ensures, c.loop-k.invariant.1, members_length c.args.rows.now c.loop-k.k) in
+          (e, omega (arith, e, members_small c.args.rows.now (c.loop-k.k + 1))) in it).1,
     )
 
 pub loop-k-preserved : goal.loop-k-preserved
 loop-k-preserved c = (
   omega arith,
-  ((let it : ((c.loop-k.total + c.count_ones_of-size.result ≡ length (member_table (rows_of c.args.rows.now (c.loop-k.k + 1)))) × (c.loop-k.total + c.count_ones_of-size.result ≤ (c.loop-k.k + 1) * 512)) = let e : c.loop-k.total + c.count_ones_of-size.result ≡ length (member_table (rows_of c.args.rows.now (c.loop-k.k + 1))) = omega (arith, c.count_ones_of-size.ensures, c.loop-k.invariant.1, members_length c.args.rows.now c.loop-k.k) in
-      (e, omega (arith, e, members_small c.args.rows.now (c.loop-k.k + 1))) in it)).0,
+  (let it : ((c.loop-k.total + c.count_ones_of-size.result ≡ length (member_table (rows_of c.args.rows.now (c.loop-k.k + 1)))) × (c.loop-k.total + c.count_ones_of-size.result ≤ (c.loop-k.k + 1) * 512)) = let e : c.loop-k.total + c.count_ones_of-size.result ≡ length (member_table (rows_of c.args.rows.now (c.loop-k.k + 1))) = omega (arith, c.count_ones_of-size.ensures, c.loop-k.invariant.1, members_length c.args.rows.now c.loop-k.k) in
+      (e, omega (arith, e, members_small c.args.rows.now (c.loop-k.k + 1))) in it).0,
 )

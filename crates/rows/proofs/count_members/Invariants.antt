@@ -1,3 +1,5 @@
+-- `rows::count_members` meets its contract. The invariant: the count is the length of the member table of the rows passed. The measure is the number of
+-- rows left.
 use mathlib.Core.Path.{◌≡◌, sym, ap, ◌∙◌}
 use Prim.Native.Nat.{ℕ, ◌+◌, ◌*◌, ◌-◌, ◌≤◌}
 use native.Mathlib.Omega.{arith}
@@ -8,8 +10,6 @@ use Rattle.rows.specs.Rows.{rows_of}
 use Rattle.rows.proofs.Listing.{members_none, members_length, members_small}
 use Rattle.rows.proofs.count_members.Given as goal
 
--- `rows::count_members` meets its contract. The invariant: the count is the length of the member table of the rows passed. The measure is the number of
--- rows left.
 abbrev pub invariant-loop-k : goal.invariant-loop-k
 invariant-loop-k l = (l.k ≤ l.count) × (l.total ≡ length (member_table (rows_of l.rows l.k)))
 

@@ -18,20 +18,20 @@ loop-j-preserved c = (
   omega (arith, c.loop-j-test.true),
   omega (
     arith,
-    ((let it : (let w = get_or c.args.rows.now (c.args.k * 8 + c.loop-j.j) 0 in
+    (let it : (let w = get_or c.args.rows.now (c.args.k * 8 + c.loop-j.j) 0 in
         (ones w ≤ 64) × (sum ((c.loop-j.j + 1) * 64) (cell c.args.rows.now c.args.k) ≡ sum (c.loop-j.j * 64) (cell c.args.rows.now c.args.k) + ones w)) = let j : ℕ = c.loop-j.j in
         let w : ℕ = get_or c.args.rows.now (c.args.k * 8 + j) 0 in
         let h = (c.shared_slice_known-1.given (c.args.k * 8 + j)).fits in
-        (ones-le 64 w h, sum_word (cell c.args.rows.now c.args.k) j w h (λ i l. cell_word c.args.rows.now c.args.k j i l)) in it)).0,
+        (ones-le 64 w h, sum_word (cell c.args.rows.now c.args.k) j w h (λ i l. cell_word c.args.rows.now c.args.k j i l)) in it).0,
     c.loop-j.invariant.1,
   ),
   omega (
     arith,
-    ((let it : (let w = get_or c.args.rows.now (c.args.k * 8 + c.loop-j.j) 0 in
+    (let it : (let w = get_or c.args.rows.now (c.args.k * 8 + c.loop-j.j) 0 in
         (ones w ≤ 64) × (sum ((c.loop-j.j + 1) * 64) (cell c.args.rows.now c.args.k) ≡ sum (c.loop-j.j * 64) (cell c.args.rows.now c.args.k) + ones w)) = let j : ℕ = c.loop-j.j in
         let w : ℕ = get_or c.args.rows.now (c.args.k * 8 + j) 0 in
         let h = (c.shared_slice_known-1.given (c.args.k * 8 + j)).fits in
-        (ones-le 64 w h, sum_word (cell c.args.rows.now c.args.k) j w h (λ i l. cell_word c.args.rows.now c.args.k j i l)) in it)).1,
+        (ones-le 64 w h, sum_word (cell c.args.rows.now c.args.k) j w h (λ i l. cell_word c.args.rows.now c.args.k j i l)) in it).1,
     c.loop-j.invariant.2,
   ),
 )

@@ -1,3 +1,5 @@
+-- `rows::count_ones_of` meets its contract. The invariant: the count is the sum of the bits of the words passed, and at most 64 for each.
+-- The measure is the number of words left.
 use mathlib.Core.Path.{◌≡◌, refl, sym, ap, ◌∙◌}
 use Prim.Native.Nat.{ℕ, ◌+◌, ◌*◌, ◌-◌, ◌≤◌}
 use native.Mathlib.Omega.{arith}
@@ -9,8 +11,6 @@ use Rattle.sets.proofs.Bits.{cell_word, sum_word}
 use Rattle.rows.proofs.Listing.{row_length}
 use Rattle.rows.proofs.count_ones_of.Given as goal
 
--- `rows::count_ones_of` meets its contract. The invariant: the count is the sum of the bits of the words passed, and at most 64 for each.
--- The measure is the number of words left.
 abbrev pub invariant-loop-j : goal.invariant-loop-j
 invariant-loop-j l = (l.j ≤ 8) × (l.n ≤ l.j * 64) × (l.n ≡ sum (l.j * 64) (cell l.rows l.k))
 

@@ -1,3 +1,4 @@
+-- `rows::counts_of` meets its contract: the count of rows and the length of their member table.
 use Prim.Native.Nat.{ℕ}
 use mathlib.Core.Path.{◌≡◌, sym, ap, ◌∙◌}
 use lib.ListN.{length}

@@ -1,3 +1,5 @@
+-- `rows::find_members` meets its contract. The invariant: the sets have the handsets in one or more, and in two or more, of the rows passed. The measure is the
+-- number of rows left.
 use Prim.Native.Nat.{ℕ, ◌-◌, ◌≤◌, min}
 use native.Mathlib.Omega.{arith}
 use mathlib.Core.Path.{◌≡◌, subst}
@@ -6,8 +8,6 @@ use Rattle.rows.specs.Rows.{MembersFound}
 use Rattle.rows.proofs.Rows.{found_none, found_more}
 use Rattle.rows.proofs.find_members.Given as goal
 
--- `rows::find_members` meets its contract. The invariant: the sets have the handsets in one or more, and in two or more, of the rows passed. The measure is the
--- number of rows left.
 abbrev pub invariant-loop-k : goal.invariant-loop-k
 invariant-loop-k l = (l.k ≤ l.groups) × MembersFound (rows_of l.rows l.k) l.once l.twice
 

@@ -1,3 +1,4 @@
+-- `rows::first_meeting` meets its contract. The invariant: none of the rows passed meets the set. The measure is the number of rows left.
 use Prim.Native.Nat.{ℕ, ◌-◌, ◌≤◌}
 use native.Mathlib.Omega.{arith}
 use mathlib.Core.Path.{◌≡◌, sym, ap, ◌∙◌, subst}
@@ -10,7 +11,6 @@ use Rattle.rows.proofs.Rows.{meets_at, first_found, first_none, none_before, non
 use borrow.Author.Rules.{rules}
 use Rattle.rows.proofs.first_meeting.Given as goal
 
--- `rows::first_meeting` meets its contract. The invariant: none of the rows passed meets the set. The measure is the number of rows left.
 abbrev pub invariant-loop-k : goal.invariant-loop-k
 invariant-loop-k l = (l.k ≤ l.groups) × T (not (any l.k (meets_at l.set l.rows l.groups)))
 

@@ -1,3 +1,5 @@
+-- `rows::row_meets` meets its contract. The invariant: what was gathered is 0 just where no member in the words passed is in the set. The measure is the number
+-- of words left.
 use Prim.Native.Nat.{ℕ, ◌+◌, ◌*◌, ◌-◌, ◌≤◌}
 use native.Mathlib.Omega.{arith}
 use mathlib.Core.Path.{◌≡◌, ap, ◌∙◌}
@@ -7,8 +9,6 @@ use Rattle.sets.specs.Below.{any}
 use Rattle.rows.proofs.Rows.{common, meets_none, meets_word, meets_row}
 use Rattle.rows.proofs.row_meets.Given as goal
 
--- `rows::row_meets` meets its contract. The invariant: what was gathered is 0 just where no member in the words passed is in the set. The measure is the number
--- of words left.
 abbrev pub invariant-loop-j : goal.invariant-loop-j
 invariant-loop-j l = (l.j ≤ 8) × (eqb l.both 0 ≡ not (any (l.j * 64) (common l.set l.rows l.k)))
 

@@ -1,3 +1,4 @@
+-- `rows::row_of` meets its contract: the slice has the eight words of the row, or none.
 use mathlib.Core.Path.{ap}
 use Prim.Native.Nat.{ℕ, ◌+◌, ◌*◌}
 use native.Mathlib.Omega.{arith}

@@ -1,3 +1,4 @@
+-- `rows::row_size` meets its contract: below 512 the row's bits are counted, and from 512 on there is none.
 use mathlib.Core.Path.{sym, ap, ◌∙◌}
 use lib.ListN.{length}
 use Rattle.rows.proofs.Rows.{row_in_lem, row_in_past}

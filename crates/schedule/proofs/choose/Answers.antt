@@ -1,3 +1,4 @@
+-- `schedule::choose` meets its contract: each way through the tests is one case of the definition.
 use mathlib.Core.Path.{◌≡◌, sym, ◌∙◌}
 use borrow.Author.Tests.{not-true, not-false}
 use Rattle.schedule.specs.Schedule.{date_fits, plan_at, choice_of}

@@ -1,3 +1,4 @@
+-- `schedule::find_group_at` meets its contract: each case of the choice has the answer of the lookup's companion in its plan.
 use mathlib.Core.Path.{◌≡◌, sym, ap, ◌∙◌}
 use Rattle.lookup.specs.Lookup.{looked_of}
 use Rattle.lookup.specs.declared.Looked.{Looked}

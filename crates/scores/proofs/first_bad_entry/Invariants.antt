@@ -1,3 +1,4 @@
+-- `scores::first_bad_entry` meets its contract. No entry passed was bad, so the place where the scan stops is the first bad one, or the end.
 use Prim.Native.Nat.{◌≤◌, ◌-◌}
 use native.Mathlib.Omega.{arith}
 use mathlib.Core.Path.{sym, ◌∙◌}
@@ -10,7 +11,6 @@ use Rattle.image.proofs.Scanning.{scan_none, scan_more, scan_found, scan_ended}
 use Rattle.scores.specs.Scored.{bad_entry}
 use Rattle.scores.proofs.first_bad_entry.Given as goal
 
--- `scores::first_bad_entry` meets its contract. No entry passed was bad, so the place where the scan stops is the first bad one, or the end.
 abbrev pub invariant-loop-i : goal.invariant-loop-i
 invariant-loop-i l = (l.i ≤ length l.list) × T (not (any l.i (bad_entry l.n l.list)))
 

@@ -1,3 +1,4 @@
+-- `scores::pairs_of` meets its contract: twice the pairs, and the places, make the square of the places, which is at most 512 * 512.
 use Prim.Native.Nat.{ℕ, ◌+◌, ◌*◌, ◌≤◌, min}
 use native.Mathlib.Omega.{arith}
 use native.Mathlib.Nat.{mul-le-mul}

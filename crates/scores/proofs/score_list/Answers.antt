@@ -1,3 +1,4 @@
+-- `scores::score_list` meets its contract: each arm is one case of the scores for an answered tally.
 use mathlib.Core.Path.{◌≡◌, sym, ap, ◌∙◌}
 use Rattle.scores.specs.Scored.{tallied_of, scored_for, scored_of}
 use Rattle.scores.specs.Answers.{score_answer}

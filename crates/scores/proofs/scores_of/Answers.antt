@@ -1,3 +1,4 @@
+-- `scores::scores_of` meets its contract: each score is made of the tally's numbers as its definition has them.
 use Prim.Native.Nat.{ℕ}
 use mathlib.Core.Path.{ap, ap₂, ◌∙◌}
 use Rattle.scores.specs.Scored.{score, scores_for}

@@ -1,3 +1,5 @@
+-- `scores::tally_edges` meets its contract. After k edges the two sums are t and o over them; each edge adds at most 512 * 512 to t and 1 to o,
+-- so that 4,096 edges stay below 2 ^ 32.
 use Prim.Native.Nat.{ℕ, ◌+◌, ◌*◌, ◌-◌, ◌≤◌}
 use native.Mathlib.Omega.{arith}
 use mathlib.Core.Path.{◌≡◌, sym, ap, ap₂, ◌∙◌}
@@ -13,8 +15,6 @@ use Rattle.sets.proofs.Counting.{bit_le}
 use Rattle.scores.proofs.Entries.{joined_none, leaving_none, joined_more, leaving_more, joined_le, leaving_le, ties_le}
 use Rattle.scores.proofs.tally_edges.Given as goal
 
--- `scores::tally_edges` meets its contract. After k edges the two sums are t and o over them; each edge adds at most 512 * 512 to t and 1 to o,
--- so that 4,096 edges stay below 2 ^ 32.
 abbrev pub invariant-loop-k : goal.invariant-loop-k
 invariant-loop-k l = (l.k ≤ l.m) × (l.joined ≡ joined_sum l.table l.edges every_edge l.k) × (l.leaving ≡ leaving_sum l.table l.edges every_edge l.k)
 

@@ -1,3 +1,4 @@
+-- `scores::tally_listed` meets its contract: the table holds the list's multiplicities, and the counts by it are the tally.
 use Prim.Native.Nat.{ℕ}
 use mathlib.Core.List.{List}
 use mathlib.Core.Path.{refl}
@@ -9,9 +10,9 @@ use borrow.Author.Rules.{rules}
 use Rattle.scores.proofs.tally_listed.Goals as goal
 
 pub tally_edges-requires : goal.tally_edges-requires
-tally_edges-requires c = (c.requires.0, table_le (c.args.list.now) (c.count_entries.new.table) c.requires.1 ((let it : Multiplicities (c.count_entries.new.table) (c.args.list.now) = counted (c.args.list.now) (c.count_entries.new.table) c.requires.1 c.count_entries.ensures in it)))
+tally_edges-requires c = (c.requires.0, table_le c.args.list.now c.count_entries.new.table c.requires.1 (let it : Multiplicities c.count_entries.new.table c.args.list.now = counted c.args.list.now c.count_entries.new.table c.requires.1 c.count_entries.ensures in it))
 
 pub returns : goal.returns
 returns c =
-    rw (c.tally_edges.ensures, c.pairs_of.ensures, pairs_few (c.args.list.now) _ refl c.requires.1.short)
-    (table_tally c.args.edges.now c.args.m every_edge (c.args.list.now) (c.count_entries.new.table) ((let it : Multiplicities (c.count_entries.new.table) (c.args.list.now) = counted (c.args.list.now) (c.count_entries.new.table) c.requires.1 c.count_entries.ensures in it)))
+    rw (c.tally_edges.ensures, c.pairs_of.ensures, pairs_few c.args.list.now _ refl c.requires.1.short)
+    (table_tally c.args.edges.now c.args.m every_edge c.args.list.now c.count_entries.new.table (let it : Multiplicities c.count_entries.new.table c.args.list.now = counted c.args.list.now c.count_entries.new.table c.requires.1 c.count_entries.ensures in it))

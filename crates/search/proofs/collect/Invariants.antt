@@ -1,3 +1,5 @@
+-- `search::collect` meets its contract. The set has the row of each number taken out of left, and nothing else, so when no number of the set is left the
+-- set is closed. The measure is how many numbers are left.
 use Prim.Native.Nat.{ℕ, ◌/◌, ◌<◌}
 use mathlib.Core.Path.{◌≡◌, refl, sym, ap, ◌∙◌, subst}
 use mathlib.Core.List.{List}
@@ -10,8 +12,6 @@ use Rattle.sets.proofs.Bits.{length_without_bit}
 use Rattle.search.proofs.Growth.{Growing, growing_start, growing_on, growing_falls, growing_end}
 use Rattle.search.proofs.collect.Given as goal
 
--- `search::collect` meets its contract. The set has the row of each number taken out of left, and nothing else, so when no number of the set is left the
--- set is closed. The measure is how many numbers are left.
 abbrev pub invariant-loop-w : goal.invariant-loop-w
 invariant-loop-w l = Growing l.table l.initial.left l.u l.set l.left l.w
 

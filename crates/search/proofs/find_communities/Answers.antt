@@ -34,12 +34,12 @@ loop-u-smaller c =
 pub loop-u-preserved : goal.loop-u-preserved
 loop-u-preserved c =
     finding_on c.args.table.now c.args.cores.now c.loop-u.table c.loop-u.left c.loop-u.k c.loop-u.u c.loop-u.invariant c.loop-u-test.true c.collect-set.new.left c.collect-set.result
-    c.collect-set.ensures c.store_row.new.rows c.first_common-u-in-loop-u.result ((let it : length c.collect-set.new.left ≡ 8 = c.collect-set.auto.left ∙ c.loop-u.invariant.left_size in it)) c.store_row.ensures c.first_common-u-in-loop-u.ensures
+    c.collect-set.ensures c.store_row.new.rows c.first_common-u-in-loop-u.result (let it : length c.collect-set.new.left ≡ 8 = c.collect-set.auto.left ∙ c.loop-u.invariant.left_size in it) c.store_row.ensures c.first_common-u-in-loop-u.ensures
 
 pub returns : goal.returns
 returns c =
     record {
       searched = λ s. finding_end c.args.table.now c.args.cores.now c.loop-u.table c.loop-u.left c.loop-u.k c.loop-u.u c.loop-u.invariant c.loop-u-test.false;
-      left_alone = λ n. absurd (n ((let it : Sized c.args.table.now c.args.cores.now = let g = guard-fails (eqb (length c.args.table.now) 4096) (eqb (length c.args.cores.now) 8) c.if-table-cores.false in
-          (eqb→eq (length c.args.table.now) 4096 g.0, eqb→eq (length c.args.cores.now) 8 g.1) in it)));
+      left_alone = λ n. absurd (n (let it : Sized c.args.table.now c.args.cores.now = let g = guard-fails (eqb (length c.args.table.now) 4096) (eqb (length c.args.cores.now) 8) c.if-table-cores.false in
+          (eqb→eq (length c.args.table.now) 4096 g.0, eqb→eq (length c.args.cores.now) 8 g.1) in it));
     }

@@ -1,3 +1,5 @@
+-- `search::first_common` meets its contract. No number of the words passed is in both sets, and the lowest bit of the first `and` that
+-- is not 0 is the first number in both. The measure is the number of words left.
 use Prim.Native.Nat.{ℕ, ◌≤◌, ◌<◌, ◌-◌}
 use mathlib.Core.Path.{◌≡◌}
 use lib.Bits.{bit_and, and_lt}
@@ -8,8 +10,6 @@ use Rattle.sets.proofs.Lowest.{Lowest, lowest}
 use Rattle.search.proofs.Growth.{NoneCommon, none_more, common_found}
 use Rattle.search.proofs.first_common.Given as goal
 
--- `search::first_common` meets its contract. No number of the words passed is in both sets, and the lowest bit of the first `and` that
--- is not 0 is the first number in both. The measure is the number of words left.
 abbrev pub invariant-loop-j : goal.invariant-loop-j
 invariant-loop-j l = (l.j ≤ 8) × NoneCommon l.a l.b l.j
 

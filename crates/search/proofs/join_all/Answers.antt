@@ -10,11 +10,11 @@ use Rattle.search.proofs.Growth.{Adding, adding_start, adding_on, adding_end}
 use Rattle.search.proofs.join_all.Goals as goal
 
 pub loop-w-smaller : goal.loop-w-smaller
-loop-w-smaller c = cleared_falls c.loop-w.w ((let it : ℕ = count_trailing_zeros 64 c.loop-w.w in it)) ((let it : ((let it : ℕ = count_trailing_zeros 64 c.loop-w.w in it) < 64) × Lowest c.loop-w.w ((let it : ℕ = count_trailing_zeros 64 c.loop-w.w in it)) = lowest 64 c.loop-w.w (omega (arith, c.loop-w-test.true)) c.loop-w.invariant.fits in it)).1 ((let it : ((let it : ℕ = count_trailing_zeros 64 c.loop-w.w in it) < 64) × Lowest c.loop-w.w ((let it : ℕ = count_trailing_zeros 64 c.loop-w.w in it)) = lowest 64 c.loop-w.w (omega (arith, c.loop-w-test.true)) c.loop-w.invariant.fits in it)).0
+loop-w-smaller c = cleared_falls c.loop-w.w (count_trailing_zeros 64 c.loop-w.w) (let it : ((count_trailing_zeros 64 c.loop-w.w) < 64) × Lowest c.loop-w.w (count_trailing_zeros 64 c.loop-w.w) = lowest 64 c.loop-w.w (omega (arith, c.loop-w-test.true)) c.loop-w.invariant.fits in it).1 (let it : ((count_trailing_zeros 64 c.loop-w.w) < 64) × Lowest c.loop-w.w (count_trailing_zeros 64 c.loop-w.w) = lowest 64 c.loop-w.w (omega (arith, c.loop-w-test.true)) c.loop-w.invariant.fits in it).0
 
 pub loop-w-preserved : goal.loop-w-preserved
 loop-w-preserved c =
-    adding_on c.args.table.now c.args.word c.args.base c.args.set.now c.loop-w.w c.loop-w.set c.loop-w.invariant ((let it : ℕ = count_trailing_zeros 64 c.loop-w.w in it)) c.join_row.new.set ((let it : ((let it : ℕ = count_trailing_zeros 64 c.loop-w.w in it) < 64) × Lowest c.loop-w.w ((let it : ℕ = count_trailing_zeros 64 c.loop-w.w in it)) = lowest 64 c.loop-w.w (omega (arith, c.loop-w-test.true)) c.loop-w.invariant.fits in it)).0 ((let it : ((let it : ℕ = count_trailing_zeros 64 c.loop-w.w in it) < 64) × Lowest c.loop-w.w ((let it : ℕ = count_trailing_zeros 64 c.loop-w.w in it)) = lowest 64 c.loop-w.w (omega (arith, c.loop-w-test.true)) c.loop-w.invariant.fits in it)).1
+    adding_on c.args.table.now c.args.word c.args.base c.args.set.now c.loop-w.w c.loop-w.set c.loop-w.invariant (count_trailing_zeros 64 c.loop-w.w) c.join_row.new.set (let it : ((count_trailing_zeros 64 c.loop-w.w) < 64) × Lowest c.loop-w.w (count_trailing_zeros 64 c.loop-w.w) = lowest 64 c.loop-w.w (omega (arith, c.loop-w-test.true)) c.loop-w.invariant.fits in it).0 (let it : ((count_trailing_zeros 64 c.loop-w.w) < 64) × Lowest c.loop-w.w (count_trailing_zeros 64 c.loop-w.w) = lowest 64 c.loop-w.w (omega (arith, c.loop-w-test.true)) c.loop-w.invariant.fits in it).1
     c.join_row.ensures
 
 pub returns : goal.returns

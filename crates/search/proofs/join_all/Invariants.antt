@@ -1,3 +1,5 @@
+-- `search::join_all` meets its contract. The rows of the bits that are not in w are added to the set, and nothing else: a turn adds the row of the lowest set
+-- bit and clears the bit. The measure is how many bits are left.
 use Prim.Native.Nat.{ℕ, ◌<◌}
 use mathlib.Core.Path.{sym, ◌∙◌}
 use native.Mathlib.Omega.{arith}
@@ -9,8 +11,6 @@ use Rattle.sets.proofs.Lowest.{Lowest, lowest, cleared_falls}
 use Rattle.search.proofs.Growth.{Adding, adding_start, adding_on, adding_end}
 use Rattle.search.proofs.join_all.Given as goal
 
--- `search::join_all` meets its contract. The rows of the bits that are not in w are added to the set, and nothing else: a turn adds the row of the lowest set
--- bit and clears the bit. The measure is how many bits are left.
 abbrev pub invariant-loop-w : goal.invariant-loop-w
 invariant-loop-w l = Adding l.table l.word l.base l.initial.set l.w l.set
 

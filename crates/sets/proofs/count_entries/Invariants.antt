@@ -1,3 +1,5 @@
+-- `sets::count_entries` meets its contract. After i entries place v holds how often v stands among them, which is at most i. The measure is the count of
+-- entries left.
 use Prim.Native.Nat.{ℕ, ◌≤◌, ◌<◌, ◌-◌}
 use native.Mathlib.Omega.{arith}
 use mathlib.Core.Path.{◌≡◌, ap, ◌∙◌}
@@ -8,8 +10,6 @@ use borrow.Author.Rules.{rules}
 use Rattle.sets.proofs.Entries.{counted_to, counted_none, counted_more, counted_past, counted_room, counted_all}
 use Rattle.sets.proofs.count_entries.Given as goal
 
--- `sets::count_entries` meets its contract. After i entries place v holds how often v stands among them, which is at most i. The measure is the count of
--- entries left.
 abbrev pub invariant-loop-i : goal.invariant-loop-i
 invariant-loop-i l = (l.i ≤ l.bound) × (length l.table ≡ 512) × ((v : ℕ) → v < 512 → get_or l.table v 0 ≡ counted_to l.list l.i v)
 

@@ -1,3 +1,4 @@
+-- `sets::has` meets its contract: a bit past the last word is 0.
 use mathlib.Core.Path.{refl, sym, ap}
 use Prim.Native.Nat.{ℕ}
 use native.Mathlib.Omega.{arith}

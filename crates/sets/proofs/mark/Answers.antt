@@ -1,3 +1,4 @@
+-- `sets::mark` meets its contract: where the word is there the store is that of `with_bit`, and past the last word a store is none.
 use mathlib.Core.Path.{sym}
 use Prim.Native.Nat.{◌/◌}
 use native.Mathlib.Omega.{arith}

@@ -26,7 +26,7 @@ loop-j-preserved c = (
   omega arith,
   omega (
     arith,
-    ((let it : (let more = ones (bit_and (get_or c.args.a.now c.loop-j.j 0) (get_or c.args.b.now c.loop-j.j 0)) in
+    (let it : (let more = ones (bit_and (get_or c.args.a.now c.loop-j.j 0) (get_or c.args.b.now c.loop-j.j 0)) in
         (more ≤ 64) × (shared c.args.a.now c.args.b.now ((c.loop-j.j + 1) * 64) ≡ shared c.args.a.now c.args.b.now (c.loop-j.j * 64) + more)) = let j : ℕ = c.loop-j.j in
         let x : ℕ = get_or c.args.a.now j 0 in
         let y : ℕ = get_or c.args.b.now j 0 in
@@ -34,12 +34,12 @@ loop-j-preserved c = (
           ones-le 64 (bit_and x y) fits,
           sum_word (λ v. min (bit_at c.args.a.now v) (bit_at c.args.b.now v)) j (bit_and x y) fits
               (λ k h. ap₂ min (word_bit c.args.a.now j k h) (word_bit c.args.b.now j k h) ∙ sym (bit_of_and x y k)),
-        ) in it)).0,
+        ) in it).0,
     c.loop-j.invariant.1,
   ),
   omega (
     arith,
-    ((let it : (let more = ones (bit_and (get_or c.args.a.now c.loop-j.j 0) (get_or c.args.b.now c.loop-j.j 0)) in
+    (let it : (let more = ones (bit_and (get_or c.args.a.now c.loop-j.j 0) (get_or c.args.b.now c.loop-j.j 0)) in
         (more ≤ 64) × (shared c.args.a.now c.args.b.now ((c.loop-j.j + 1) * 64) ≡ shared c.args.a.now c.args.b.now (c.loop-j.j * 64) + more)) = let j : ℕ = c.loop-j.j in
         let x : ℕ = get_or c.args.a.now j 0 in
         let y : ℕ = get_or c.args.b.now j 0 in
@@ -47,7 +47,7 @@ loop-j-preserved c = (
           ones-le 64 (bit_and x y) fits,
           sum_word (λ v. min (bit_at c.args.a.now v) (bit_at c.args.b.now v)) j (bit_and x y) fits
               (λ k h. ap₂ min (word_bit c.args.a.now j k h) (word_bit c.args.b.now j k h) ∙ sym (bit_of_and x y k)),
-        ) in it)).1,
+        ) in it).1,
     c.loop-j.invariant.2,
   ),
 )
@@ -55,4 +55,4 @@ loop-j-preserved c = (
 pub returns : goal.returns
 returns c =
     let e : c.loop-j.j ≡ c.smaller-words.result = omega (arith, c.loop-j.invariant.0) in
-    c.loop-j.invariant.2 ∙ ap (λ (k : ℕ). shared c.args.a.now c.args.b.now (k * 64)) e ∙ sym (past c.args.a.now c.args.b.now _ ((c.smaller-words.ensures ∙ ap (λ (k : ℕ). min k 8) c.smaller.ensures)))
+    c.loop-j.invariant.2 ∙ ap (λ (k : ℕ). shared c.args.a.now c.args.b.now (k * 64)) e ∙ sym (past c.args.a.now c.args.b.now _ (c.smaller-words.ensures ∙ ap (λ (k : ℕ). min k 8) c.smaller.ensures))

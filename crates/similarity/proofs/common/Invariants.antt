@@ -1,3 +1,5 @@
+-- `similarity::common` meets its contract. After j words the count is that of the first 64 j numbers in both sets, since the ones of the `and` of two words are
+-- the places where both have a one; past the shorter set's last word nothing is in both. The measure is what is left of the words.
 use Prim.Native.Nat.{ℕ, ◌≤◌, ◌<◌, ◌+◌, ◌*◌, ◌-◌, ◌/◌, min}
 use native.Mathlib.Omega.{arith}
 use native.Mathlib.Nat.{add-zero}
@@ -16,8 +18,6 @@ use Rattle.sets.proofs.Bits.{bit_at_past, bit_of_and, word_bit, sum_word, sum_sp
 use Rattle.similarity.specs.Similarity.{in_both}
 use Rattle.similarity.proofs.common.Given as goal
 
--- `similarity::common` meets its contract. After j words the count is that of the first 64 j numbers in both sets, since the ones of the `and` of two words are
--- the places where both have a one; past the shorter set's last word nothing is in both. The measure is what is left of the words.
 -- of the numbers below a bound, those in both sets
 abbrev pub shared : List ℕ → List ℕ → ℕ → ℕ
 shared a b n = sum n (λ v. min (bit_at a v) (bit_at b v))

@@ -1,3 +1,4 @@
+-- `similarity::meets_epsilon` meets its contract: no product of four numbers of 16 bits wraps.
 use native.Mathlib.Nat.{mul-le-mul}
 use mir.Facts.{Fits-le, Fits-lit}
 use Prim.Native.Nat.{ℕ, ◌*◌, ◌≤◌}
@@ -8,7 +9,6 @@ use mathlib.Core.Path.{refl}
 use Rattle.community.specs.Network.{meets_epsilon}
 use Rattle.similarity.proofs.meets_epsilon.Goals as goal
 
--- `similarity::meets_epsilon` meets its contract: no product of four numbers of 16 bits wraps.
 -- the largest number of 16 bits
 abbrev most : ℕ
 most = 65535

@@ -1,3 +1,4 @@
+-- `tables::in_row` meets its contract: below 512 a row contains what its bits say, and from 512 on nothing.
 use mathlib.Core.Path.{sym, ◌∙◌}
 use Rattle.rows.proofs.Rows.{contains_row, contains_past}
 use Rattle.tables.proofs.in_row.Goals as goal

@@ -1,3 +1,4 @@
+-- `tables::role_in` meets its contract, by the cases of a core, a border and an outlier.
 use Prim.Native.Nat.{ℕ, min}
 use mathlib.Core.Path.{◌≡◌, sym, ap, ◌∙◌}
 use Rattle.community.specs.Network.{community_number, membership_count, border_of, role_values}

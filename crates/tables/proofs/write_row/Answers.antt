@@ -23,9 +23,9 @@ write_word-place-requires c =
       omega (
         arith,
         (let it : (length (select ((c.loop-j.j + 1) * 64) (in_row c.args.rows.now c.args.k))
-            ≡ length (select (c.loop-j.j * 64) (in_row c.args.rows.now c.args.k)) + length (word_members (c.loop-j.j * 64) ((let it : ℕ = get_or c.args.rows.now (c.args.k * 8 + c.loop-j.j) 0 in it)))) = let j : ℕ = c.loop-j.j in
-            ap length ((let it : (select ((c.loop-j.j + 1) * 64) (in_row c.args.rows.now c.args.k) ≡ select (c.loop-j.j * 64) (in_row c.args.rows.now c.args.k) ++ word_members (c.loop-j.j * 64) ((let it : ℕ = get_or c.args.rows.now (c.args.k * 8 + c.loop-j.j) 0 in it))) = let j : ℕ = c.loop-j.j in
-            row_word c.args.rows.now c.args.k j in it)) ∙ length-append (select (j * 64) (in_row c.args.rows.now c.args.k)) (word_members (j * 64) ((let it : ℕ = get_or c.args.rows.now (c.args.k * 8 + c.loop-j.j) 0 in it))) in it),
+            ≡ length (select (c.loop-j.j * 64) (in_row c.args.rows.now c.args.k)) + length (word_members (c.loop-j.j * 64) (get_or c.args.rows.now (c.args.k * 8 + c.loop-j.j) 0))) = let j : ℕ = c.loop-j.j in
+            ap length (let it : (select ((c.loop-j.j + 1) * 64) (in_row c.args.rows.now c.args.k) ≡ select (c.loop-j.j * 64) (in_row c.args.rows.now c.args.k) ++ word_members (c.loop-j.j * 64) (get_or c.args.rows.now (c.args.k * 8 + c.loop-j.j) 0)) = let j : ℕ = c.loop-j.j in
+            row_word c.args.rows.now c.args.k j in it) ∙ length-append (select (j * 64) (in_row c.args.rows.now c.args.k)) (word_members (j * 64) (get_or c.args.rows.now (c.args.k * 8 + c.loop-j.j) 0)) in it),
         row_room c.args.rows.now c.args.k ((c.loop-j.j + 1) * 64) few,
         c.loop-j.invariant.1,
         c.requires.2,
@@ -37,22 +37,22 @@ write_word-place-requires c =
 pub loop-j-preserved : goal.loop-j-preserved
 loop-j-preserved c =
     let old : List ℕ = select (c.loop-j.j * 64) (in_row c.args.rows.now c.args.k) in
-    let new : List ℕ = word_members (c.loop-j.j * 64) ((let it : ℕ = get_or c.args.rows.now (c.args.k * 8 + c.loop-j.j) 0 in it)) in (
+    let new : List ℕ = word_members (c.loop-j.j * 64) (get_or c.args.rows.now (c.args.k * 8 + c.loop-j.j) 0) in (
       omega arith,
       omega (
         arith,
         c.write_word-place.ensures.next,
         (let it : (length (select ((c.loop-j.j + 1) * 64) (in_row c.args.rows.now c.args.k))
-            ≡ length (select (c.loop-j.j * 64) (in_row c.args.rows.now c.args.k)) + length (word_members (c.loop-j.j * 64) ((let it : ℕ = get_or c.args.rows.now (c.args.k * 8 + c.loop-j.j) 0 in it)))) = let j : ℕ = c.loop-j.j in
-            ap length ((let it : (select ((c.loop-j.j + 1) * 64) (in_row c.args.rows.now c.args.k) ≡ select (c.loop-j.j * 64) (in_row c.args.rows.now c.args.k) ++ word_members (c.loop-j.j * 64) ((let it : ℕ = get_or c.args.rows.now (c.args.k * 8 + c.loop-j.j) 0 in it))) = let j : ℕ = c.loop-j.j in
-            row_word c.args.rows.now c.args.k j in it)) ∙ length-append (select (j * 64) (in_row c.args.rows.now c.args.k)) (word_members (j * 64) ((let it : ℕ = get_or c.args.rows.now (c.args.k * 8 + c.loop-j.j) 0 in it))) in it),
+            ≡ length (select (c.loop-j.j * 64) (in_row c.args.rows.now c.args.k)) + length (word_members (c.loop-j.j * 64) (get_or c.args.rows.now (c.args.k * 8 + c.loop-j.j) 0))) = let j : ℕ = c.loop-j.j in
+            ap length (let it : (select ((c.loop-j.j + 1) * 64) (in_row c.args.rows.now c.args.k) ≡ select (c.loop-j.j * 64) (in_row c.args.rows.now c.args.k) ++ word_members (c.loop-j.j * 64) (get_or c.args.rows.now (c.args.k * 8 + c.loop-j.j) 0)) = let j : ℕ = c.loop-j.j in
+            row_word c.args.rows.now c.args.k j in it) ∙ length-append (select (j * 64) (in_row c.args.rows.now c.args.k)) (word_members (j * 64) (get_or c.args.rows.now (c.args.k * 8 + c.loop-j.j) 0)) in it),
         c.loop-j.invariant.1,
       ),
       c.write_word-place.ensures.written
           ∙ ap₂ (λ (m : List ℕ) (i : ℕ). sets m i new) c.loop-j.invariant.2 c.loop-j.invariant.1
           ∙ sym (sets_append c.args.members.now c.args.at old new)
-          ∙ ap (sets c.args.members.now c.args.at) (sym ((let it : (select ((c.loop-j.j + 1) * 64) (in_row c.args.rows.now c.args.k) ≡ select (c.loop-j.j * 64) (in_row c.args.rows.now c.args.k) ++ word_members (c.loop-j.j * 64) ((let it : ℕ = get_or c.args.rows.now (c.args.k * 8 + c.loop-j.j) 0 in it))) = let j : ℕ = c.loop-j.j in
-          row_word c.args.rows.now c.args.k j in it))),
+          ∙ ap (sets c.args.members.now c.args.at) (sym (let it : (select ((c.loop-j.j + 1) * 64) (in_row c.args.rows.now c.args.k) ≡ select (c.loop-j.j * 64) (in_row c.args.rows.now c.args.k) ++ word_members (c.loop-j.j * 64) (get_or c.args.rows.now (c.args.k * 8 + c.loop-j.j) 0)) = let j : ℕ = c.loop-j.j in
+          row_word c.args.rows.now c.args.k j in it)),
     )
 
 pub returns : goal.returns

@@ -1,3 +1,5 @@
+-- `tables::write_tables` meets its contract. The invariant: with the present place stored at k, the start table is that of the rows passed, and
+-- the member table is theirs. The measure is the number of rows left.
 use mathlib.Core.Path.{◌≡◌}
 use Prim.Native.Nat.{◌-◌, ◌≤◌}
 use lib.ListN.{length, set}
@@ -6,8 +8,6 @@ use Rattle.community.specs.Tables.{start_table, member_table}
 use Rattle.rows.specs.Rows.{rows_of}
 use Rattle.tables.proofs.write_tables.Given as goal
 
--- `tables::write_tables` meets its contract. The invariant: with the present place stored at k, the start table is that of the rows passed, and
--- the member table is theirs. The measure is the number of rows left.
 abbrev pub invariant-loop-k : goal.invariant-loop-k
 invariant-loop-k l = (l.k ≤ l.count) × (l.place ≡ length (member_table (rows_of l.rows l.k)))
     × (set l.starts l.k l.place ≡ sets l.initial.starts 0 (start_table (rows_of l.rows l.k))) × (l.members ≡ sets l.initial.members 0 (member_table (rows_of l.rows l.k)))

@@ -1,3 +1,4 @@
+-- `tables::write_where_it_fits` meets its contract: where one of the two tests fails the tables are kept, and else they are written.
 -- `tables::write_where_it_fits` meets its contract: its two tests are those of the questions, and where both pass the tables are written.
 use Prim.Native.Nat.{ℕ}
 use mathlib.Core.Path.{ap, ◌≡◌, sym, ap₂, ◌∙◌}

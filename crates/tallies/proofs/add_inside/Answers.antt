@@ -16,32 +16,32 @@ pub overflow_add-tallies : goal.overflow_add-tallies
 overflow_add-tallies c =
     omega (
       arith,
-      (let it : get_or c.loop-w.tallies (c.args.base + (let it : ℕ = count_trailing_zeros 64 c.loop-w.w in it)) 0 < 4294967295 = let i : ℕ = c.args.base + (let it : ℕ = count_trailing_zeros 64 c.loop-w.w in it) in
-          let f = (let it : ((let it : ℕ = count_trailing_zeros 64 c.loop-w.w in it) < 64) × Lowest c.loop-w.w ((let it : ℕ = count_trailing_zeros 64 c.loop-w.w in it)) = lowest 64 c.loop-w.w (omega arith) c.loop-w.invariant.0 in it) in
+      (let it : get_or c.loop-w.tallies (c.args.base + (count_trailing_zeros 64 c.loop-w.w)) 0 < 4294967295 = let i : ℕ = c.args.base + (count_trailing_zeros 64 c.loop-w.w) in
+          let f = (let it : ((count_trailing_zeros 64 c.loop-w.w) < 64) × Lowest c.loop-w.w (count_trailing_zeros 64 c.loop-w.w) = lowest 64 c.loop-w.w (omega arith) c.loop-w.invariant.0 in it) in
           omega (
             arith,
             c.loop-w.invariant.2 i,
-            c.requires.1.0 ((let it : ℕ = count_trailing_zeros 64 c.loop-w.w in it)) f.0,
+            c.requires.1.0 (count_trailing_zeros 64 c.loop-w.w) f.0,
             bit_for_le c.args.base c.args.word i,
-            bit_for_at c.args.base c.loop-w.w ((let it : ℕ = count_trailing_zeros 64 c.loop-w.w in it)) f.0,
+            bit_for_at c.args.base c.loop-w.w (count_trailing_zeros 64 c.loop-w.w) f.0,
             f.1.here,
           ) in it),
     )
 
 pub loop-w-smaller : goal.loop-w-smaller
-loop-w-smaller c = let f = (let it : ((let it : ℕ = count_trailing_zeros 64 c.loop-w.w in it) < 64) × Lowest c.loop-w.w ((let it : ℕ = count_trailing_zeros 64 c.loop-w.w in it)) = lowest 64 c.loop-w.w (omega arith) c.loop-w.invariant.0 in it) in cleared_falls c.loop-w.w ((let it : ℕ = count_trailing_zeros 64 c.loop-w.w in it)) f.1 f.0
+loop-w-smaller c = let f = (let it : ((count_trailing_zeros 64 c.loop-w.w) < 64) × Lowest c.loop-w.w (count_trailing_zeros 64 c.loop-w.w) = lowest 64 c.loop-w.w (omega arith) c.loop-w.invariant.0 in it) in cleared_falls c.loop-w.w (count_trailing_zeros 64 c.loop-w.w) f.1 f.0
 
 pub loop-w-preserved : goal.loop-w-preserved
 loop-w-preserved c =
-    let t : ℕ = (let it : ℕ = count_trailing_zeros 64 c.loop-w.w in it) in
-    let f = (let it : ((let it : ℕ = count_trailing_zeros 64 c.loop-w.w in it) < 64) × Lowest c.loop-w.w ((let it : ℕ = count_trailing_zeros 64 c.loop-w.w in it)) = lowest 64 c.loop-w.w (omega arith) c.loop-w.invariant.0 in it) in (
+    let t : ℕ = (count_trailing_zeros 64 c.loop-w.w) in
+    let f = (let it : ((count_trailing_zeros 64 c.loop-w.w) < 64) × Lowest c.loop-w.w (count_trailing_zeros 64 c.loop-w.w) = lowest 64 c.loop-w.w (omega arith) c.loop-w.invariant.0 in it) in (
       cleared_lt c.loop-w.w c.loop-w.invariant.0,
       length-set c.loop-w.tallies (c.args.base + t) _ ∙ c.loop-w.invariant.1,
-      (λ i. raised_more c.loop-w.tallies c.args.base c.loop-w.w t f.0 f.1 ((let it : c.args.base + (let it : ℕ = count_trailing_zeros 64 c.loop-w.w in it) < length c.loop-w.tallies = omega (arith, ((let it : ((let it : ℕ = count_trailing_zeros 64 c.loop-w.w in it) < 64) × Lowest c.loop-w.w ((let it : ℕ = count_trailing_zeros 64 c.loop-w.w in it)) = lowest 64 c.loop-w.w (omega arith) c.loop-w.invariant.0 in it)).0, c.loop-w.invariant.1, c.requires.0) in it)) i ∙ c.loop-w.invariant.2 i),
+      (λ i. raised_more c.loop-w.tallies c.args.base c.loop-w.w t f.0 f.1 (let it : c.args.base + (count_trailing_zeros 64 c.loop-w.w) < length c.loop-w.tallies = omega (arith, (let it : ((count_trailing_zeros 64 c.loop-w.w) < 64) × Lowest c.loop-w.w (count_trailing_zeros 64 c.loop-w.w) = lowest 64 c.loop-w.w (omega arith) c.loop-w.invariant.0 in it).0, c.loop-w.invariant.1, c.requires.0) in it) i ∙ c.loop-w.invariant.2 i),
       length-set c.loop-w.reaches (c.args.base + t) _ ∙ c.loop-w.invariant.3,
       (λ i.
           ap (λ (x : ℕ). max (get_or (set c.loop-w.reaches (c.args.base + t) x) i 0) (c.args.reach * bit_for c.args.base (cleared c.loop-w.w) i)) c.larger.ensures
-          ∙ raised_to_more c.loop-w.reaches c.args.base c.loop-w.w t c.args.reach f.0 f.1 ((let it : c.args.base + (let it : ℕ = count_trailing_zeros 64 c.loop-w.w in it) < length c.loop-w.reaches = omega (arith, ((let it : ((let it : ℕ = count_trailing_zeros 64 c.loop-w.w in it) < 64) × Lowest c.loop-w.w ((let it : ℕ = count_trailing_zeros 64 c.loop-w.w in it)) = lowest 64 c.loop-w.w (omega arith) c.loop-w.invariant.0 in it)).0, c.loop-w.invariant.3, c.requires.1.1) in it)) i ∙ c.loop-w.invariant.4 i),
+          ∙ raised_to_more c.loop-w.reaches c.args.base c.loop-w.w t c.args.reach f.0 f.1 (let it : c.args.base + (count_trailing_zeros 64 c.loop-w.w) < length c.loop-w.reaches = omega (arith, (let it : ((count_trailing_zeros 64 c.loop-w.w) < 64) × Lowest c.loop-w.w (count_trailing_zeros 64 c.loop-w.w) = lowest 64 c.loop-w.w (omega arith) c.loop-w.invariant.0 in it).0, c.loop-w.invariant.3, c.requires.1.1) in it) i ∙ c.loop-w.invariant.4 i),
     )
 
 pub returns : goal.returns

@@ -1,3 +1,5 @@
+-- `tallies::add_inside` meets its contract. The invariant: what a place holds, with what the rest of the word has for it, is what it held with what the word has for
+-- it. A turn counts at the place of the lowest set bit, raises the reach there and clears the bit; the measure is the sum of the bits left.
 use Prim.Native.Nat.{ℕ, ◌+◌, ◌*◌, ◌^◌, ◌<◌, max}
 use native.Mathlib.Omega.{arith}
 use mathlib.Core.Path.{◌≡◌, refl, sym, ap, ◌∙◌}
@@ -12,8 +14,6 @@ use Rattle.tallies.proofs.Reaching.{raised_to_more, raised_to_done}
 use borrow.Author.Rules.{rules}
 use Rattle.tallies.proofs.add_inside.Given as goal
 
--- `tallies::add_inside` meets its contract. The invariant: what a place holds, with what the rest of the word has for it, is what it held with what the word has for
--- it. A turn counts at the place of the lowest set bit, raises the reach there and clears the bit; the measure is the sum of the bits left.
 abbrev pub invariant-loop-w : goal.invariant-loop-w
 invariant-loop-w l = (l.w < 2 ^ 64) × (length l.tallies ≡ length l.initial.tallies) × ((i : ℕ) → get_or l.tallies i 0 + bit_for l.base l.w i ≡ get_or l.initial.tallies i 0 + bit_for l.base l.word i)
     × (length l.reaches ≡ length l.initial.reaches)

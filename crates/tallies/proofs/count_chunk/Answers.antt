@@ -1,3 +1,5 @@
+-- `tallies::count_chunk` meets its contract: the words say which of the 64 groups each handset is in, so that the edges counted by them are the groups' edges, and the
+-- degrees summed are the ends among their members.
 use Prim.Native.Nat.{ℕ, ◌+◌}
 use native.Mathlib.Omega.{arith}
 use mathlib.Core.Path.{refl, ◌∙◌, subst}

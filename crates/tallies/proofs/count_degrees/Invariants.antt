@@ -1,3 +1,4 @@
+-- `tallies::count_degrees` meets its contract. After k turns the ends of the first k edges are counted. The measure is the number of edges left.
 use Prim.Native.Nat.{ℕ, ◌+◌, ◌-◌, ◌≤◌}
 use native.Mathlib.Omega.{arith}
 use mathlib.Core.Path.{◌≡◌, refl, sym, ap, subst}
@@ -10,7 +11,6 @@ use Rattle.tallies.proofs.Degrees.{degrees_none, degrees_more, degrees_fit, degr
 use borrow.Author.Rules.{rules}
 use Rattle.tallies.proofs.count_degrees.Given as goal
 
--- `tallies::count_degrees` meets its contract. After k turns the ends of the first k edges are counted. The measure is the number of edges left.
 abbrev pub invariant-loop-k : goal.invariant-loop-k
 invariant-loop-k l = (l.k ≤ l.m) × DegreesHold l.edges every_edge l.k l.degrees
 

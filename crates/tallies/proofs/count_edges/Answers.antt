@@ -29,8 +29,8 @@ loop-k-preserved c =
     let inside : ℕ = bit_and c.at_or_zero.result c.at_or_zero-in-loop-k.result in
     let entry : Ends → ℕ = λ (x : Ends). reach_entry (ends_proximity c.args.handsets.now x.a x.b c.args.limit) in (
       omega (arith, c.loop-k-test.true),
-      edges_more c.args.words.now c.args.edges.now c.loop-k.k c.args.base c.args.tallies.now c.loop-k.tallies _ c.loop-k.invariant.1 ((let it : (bit_and c.at_or_zero.result c.at_or_zero-in-loop-k.result ≡ inside_word c.args.words.now c.args.edges.now c.loop-k.k) = ap₂ bit_and (c.at_or_zero.ensures ∙ ap (λ (x : Ends). get_or c.args.words.now x.a 0) (c.ends_at-ends.ensures)) (c.at_or_zero-in-loop-k.ensures ∙ ap (λ (x : Ends). get_or c.args.words.now x.b 0) (c.ends_at-ends.ensures)) in it)) c.add_inside.ensures.counted,
-      reaches_more c.args.words.now c.args.handsets.now c.args.edges.now c.loop-k.k c.args.limit c.args.base c.args.reaches.now c.loop-k.reaches _ c.loop-k.invariant.2 ((let it : (bit_and c.at_or_zero.result c.at_or_zero-in-loop-k.result ≡ inside_word c.args.words.now c.args.edges.now c.loop-k.k) = ap₂ bit_and (c.at_or_zero.ensures ∙ ap (λ (x : Ends). get_or c.args.words.now x.a 0) (c.ends_at-ends.ensures)) (c.at_or_zero-in-loop-k.ensures ∙ ap (λ (x : Ends). get_or c.args.words.now x.b 0) (c.ends_at-ends.ensures)) in it))
-          (ap entry (c.ends_at-ends.ensures))
+      edges_more c.args.words.now c.args.edges.now c.loop-k.k c.args.base c.args.tallies.now c.loop-k.tallies _ c.loop-k.invariant.1 (let it : (bit_and c.at_or_zero.result c.at_or_zero-in-loop-k.result ≡ inside_word c.args.words.now c.args.edges.now c.loop-k.k) = ap₂ bit_and (c.at_or_zero.ensures ∙ ap (λ (x : Ends). get_or c.args.words.now x.a 0) c.ends_at-ends.ensures) (c.at_or_zero-in-loop-k.ensures ∙ ap (λ (x : Ends). get_or c.args.words.now x.b 0) c.ends_at-ends.ensures) in it) c.add_inside.ensures.counted,
+      reaches_more c.args.words.now c.args.handsets.now c.args.edges.now c.loop-k.k c.args.limit c.args.base c.args.reaches.now c.loop-k.reaches _ c.loop-k.invariant.2 (let it : (bit_and c.at_or_zero.result c.at_or_zero-in-loop-k.result ≡ inside_word c.args.words.now c.args.edges.now c.loop-k.k) = ap₂ bit_and (c.at_or_zero.ensures ∙ ap (λ (x : Ends). get_or c.args.words.now x.a 0) c.ends_at-ends.ensures) (c.at_or_zero-in-loop-k.ensures ∙ ap (λ (x : Ends). get_or c.args.words.now x.b 0) c.ends_at-ends.ensures) in it)
+          (ap entry c.ends_at-ends.ensures)
           (raised_inside c.args.base inside c.reach_inside-reach.result (entry e) c.reach_inside-reach.ensures c.add_inside.ensures.raised),
     )

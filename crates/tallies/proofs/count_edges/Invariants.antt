@@ -1,3 +1,4 @@
+-- `tallies::count_edges` meets its contract. After k turns the first k edges are counted. The measure is the number of edges left.
 use Prim.Native.Nat.{ℕ, ◌+◌, ◌-◌, ◌≤◌}
 use native.Mathlib.Omega.{arith}
 use mathlib.Core.Path.{◌≡◌, ap, ap₂, ◌∙◌, subst}
@@ -13,7 +14,6 @@ use Rattle.tallies.proofs.Reaching.{reaches_none, raised_inside, reaches_more}
 use borrow.Author.Rules.{rules}
 use Rattle.tallies.proofs.count_edges.Given as goal
 
--- `tallies::count_edges` meets its contract. After k turns the first k edges are counted. The measure is the number of edges left.
 abbrev pub invariant-loop-k : goal.invariant-loop-k
 invariant-loop-k l = (l.k ≤ l.m) × EdgesCounted l.words l.edges l.k l.base l.initial.tallies l.tallies × EdgesRaised l.words l.handsets l.edges l.k l.limit l.base l.initial.reaches l.reaches
 

@@ -1,3 +1,5 @@
+-- `tallies::count_groups` meets its contract. The degrees are counted first; after a turn 64 more groups are counted, and in the end the edges inside are taken out of the
+-- ends. The measure is the number of groups left.
 use Prim.Native.Nat.{◌+◌, ◌-◌, ◌%◌, ◌≤◌}
 use native.Mathlib.Omega.{arith}
 use mathlib.Core.Path.{◌≡◌, refl}
@@ -7,8 +9,6 @@ use Rattle.tallies.proofs.Reaching.{progress_none, inside_fits, groups_counted, 
 use borrow.Author.Rules.{rules}
 use Rattle.tallies.proofs.count_groups.Given as goal
 
--- `tallies::count_groups` meets its contract. The degrees are counted first; after a turn 64 more groups are counted, and in the end the edges inside are taken out of the
--- ends. The measure is the number of groups left.
 abbrev pub invariant-loop-first : goal.invariant-loop-first
 invariant-loop-first l = (l.first % 64 ≡ 0) × (l.first ≤ 512) × DegreesHold l.edges every_edge l.m l.degrees × Progress l.handsets l.edges l.m l.most l.rows l.all l.first l.tallies l.reaches
 

@@ -1,3 +1,5 @@
+-- `tallies::mark_row` meets its contract. After j turns the members in the first j words of the row are marked and their degrees summed. The measure is the number of
+-- words left.
 use Prim.Native.Nat.{ℕ, ◌+◌, ◌*◌, ◌-◌, ◌≤◌, ◌<◌, max}
 use native.Mathlib.Omega.{arith}
 use mathlib.Core.Path.{◌≡◌, refl, sym, ap, ap₂, ◌∙◌}
@@ -14,8 +16,6 @@ use Rattle.tallies.proofs.Degrees.{degree_sum_le, degree_sum_cong, degree_sum_ad
 use borrow.Author.Rules.{rules}
 use Rattle.tallies.proofs.mark_row.Given as goal
 
--- `tallies::mark_row` meets its contract. After j turns the members in the first j words of the row are marked and their degrees summed. The measure is the number of
--- words left.
 abbrev pub invariant-loop-j : goal.invariant-loop-j
 invariant-loop-j l = (l.j ≤ l.n) × (length l.words ≡ length l.initial.words)
     × ((v k : ℕ) → v < 512 → k < 64 → bit_at l.words (v * 64 + k) ≡ max (bit_at l.initial.words (v * 64 + k)) (bit (eqb k l.i) * up_to l.row l.j v))

@@ -19,5 +19,5 @@ pub loop-i-preserved : goal.loop-i-preserved
 loop-i-preserved c = (
   omega (arith, c.loop-i-test.true),
   words_next c.args.rows.now _ c.loop-i.words _ c.args.first c.loop-i.i c.row_of.ensures c.loop-i.invariant.1 c.mark_row.ensures.marked,
-  summed_more c.args.rows.now _ c.args.first c.loop-i.i c.args.degrees.now c.args.tallies.now c.loop-i.tallies _ ((let it : c.args.first + c.loop-i.i < 512 = omega (arith, c.loop-i-test.true, c.requires.0, c.requires.1.0) in it)) c.row_of.ensures c.mark_row.ensures.summed c.loop-i.invariant.2,
+  summed_more c.args.rows.now _ c.args.first c.loop-i.i c.args.degrees.now c.args.tallies.now c.loop-i.tallies _ (let it : c.args.first + c.loop-i.i < 512 = omega (arith, c.loop-i-test.true, c.requires.0, c.requires.1.0) in it) c.row_of.ensures c.mark_row.ensures.summed c.loop-i.invariant.2,
 )

@@ -1,3 +1,5 @@
+-- `tallies::mark_rows` meets its contract. After i turns the words have the bits of the first i rows, and the table the sums of their degrees. The measure is the number
+-- of rows left.
 use Prim.Native.Nat.{ℕ, ◌+◌, ◌-◌, ◌≤◌, ◌<◌}
 use native.Mathlib.Omega.{arith}
 use mathlib.Core.Path.{◌≡◌, sym, ap, ◌∙◌, subst}
@@ -8,8 +10,6 @@ use Rattle.tallies.proofs.Degrees.{summed_none, summed_more}
 use borrow.Author.Rules.{rules}
 use Rattle.tallies.proofs.mark_rows.Given as goal
 
--- `tallies::mark_rows` meets its contract. After i turns the words have the bits of the first i rows, and the table the sums of their degrees. The measure is the number
--- of rows left.
 abbrev pub invariant-loop-i : goal.invariant-loop-i
 invariant-loop-i l = (l.i ≤ l.count) × WordsHold (in_rows l.rows l.first l.i) l.words × RowsSummed l.rows l.first l.i l.degrees l.initial.tallies l.tallies
 

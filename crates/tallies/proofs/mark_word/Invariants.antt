@@ -1,3 +1,5 @@
+-- `tallies::mark_word` meets its contract. The invariant: what the words hold, with what the rest of the word has for them, is what they held with what the word has
+-- for them, and so for the sum of the degrees. A turn marks the handset of the lowest set bit and clears it; the measure is the sum of the bits left.
 use Prim.Native.Nat.{ℕ, ◌+◌, ◌*◌, ◌^◌, ◌<◌, max}
 use native.Mathlib.Omega.{arith}
 use mathlib.Core.Path.{◌≡◌, refl, sym, ap, ◌∙◌}
@@ -16,8 +18,6 @@ use Rattle.tallies.proofs.Degrees.{degree_sum_le, sum_cleared, sum_done}
 use borrow.Author.Rules.{rules}
 use Rattle.tallies.proofs.mark_word.Given as goal
 
--- `tallies::mark_word` meets its contract. The invariant: what the words hold, with what the rest of the word has for them, is what they held with what the word has
--- for them, and so for the sum of the degrees. A turn marks the handset of the lowest set bit and clears it; the measure is the sum of the bits left.
 abbrev pub invariant-loop-w : goal.invariant-loop-w
 invariant-loop-w l = (l.w < 2 ^ 64) × (length l.words ≡ length l.initial.words)
     × ((v j : ℕ) → j < 64 → max (bit_at l.words (v * 64 + j)) (bit (eqb j l.i) * bit_for l.base l.w v) ≡ max (bit_at l.initial.words (v * 64 + j)) (bit (eqb j l.i) * bit_for l.base l.word v))

@@ -1,3 +1,4 @@
+-- `tallies::reach_inside` meets its contract. A near test tells no more than the limit, so that there is room for one more.
 use Prim.Native.Nat.{ℕ, ◌+◌}
 use native.Mathlib.Omega.{arith}
 use native.Mathlib.Numerals.{add-one}

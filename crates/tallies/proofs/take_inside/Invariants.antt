@@ -1,3 +1,4 @@
+-- `tallies::take_inside` meets its contract. After k turns the edges inside the first k groups are taken out. The measure is the number of groups left.
 use Prim.Native.Nat.{ℕ, ◌+◌, ◌*◌, ◌-◌, ◌≤◌, ◌<◌}
 use native.Mathlib.Omega.{arith}
 use mathlib.Core.Path.{◌≡◌, subst}
@@ -7,7 +8,6 @@ use Rattle.tallies.proofs.Degrees.{taken_none, taken_more}
 use borrow.Author.Rules.{rules}
 use Rattle.tallies.proofs.take_inside.Given as goal
 
--- `tallies::take_inside` meets its contract. After k turns the edges inside the first k groups are taken out. The measure is the number of groups left.
 abbrev pub invariant-loop-k : goal.invariant-loop-k
 invariant-loop-k l = (l.k ≤ l.groups) × InsideTaken l.k l.initial.tallies l.tallies
 

@@ -1,3 +1,4 @@
+-- `text::put_short` meets its contract: the digit of the hundreds and that of the tens are written where the number has them, and then the last.
 use Prim.Native.Nat.{◌≤◌}
 use native.Mathlib.Omega.{arith}
 use mathlib.Core.Path.{◌∙◌}
@@ -6,7 +7,6 @@ use Rattle.text.proofs.Writing.{chain_from, from_start, decimal_one, decimal_two
 use Rattle.text.proofs.put_short.Goals as goal
 use Rattle.text.proofs.put_short.Goals.{then-n-ge100, else-n-ge100, then-n-ge10, else-n-ge10}
 
--- `text::put_short` meets its contract: the digit of the hundreds and that of the tens are written where the number has them, and then the last.
 pub returns : goal.returns
 returns c =
     let small : length c.args.text.now ≤ 9223372036854775808 = omega arith in

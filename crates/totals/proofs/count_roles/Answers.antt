@@ -1,3 +1,4 @@
+-- `totals::count_roles` meets its contract: by the sets of the handsets in one row or more and in two or more, the roles are those by the rows.
 use Rattle.totals.proofs.Words.{counted_rows}
 use Rattle.totals.proofs.count_roles.Goals as goal
 

@@ -1,3 +1,4 @@
+-- `totals::word_below` meets its contract: no bit, all bits, or the bits below the distance to n.
 use Prim.Native.Nat.{ℕ, ◌*◌, ◌-◌, ◌^◌, ◌%◌}
 use native.Mathlib.Omega.{arith}
 use mathlib.Core.Path.{◌≡◌, ap}
@@ -12,4 +13,4 @@ pub returns-then-j-n : goal.returns-then-j-n
 returns-then-j-n c = all_below _ _ c.if-j-n.true
 
 pub returns : goal.returns
-returns c = some_below c.args.n c.args.j _ (ap (λ (x : ℕ). x - 1) ((let it : 1 * 2 ^ (let it : ℕ = c.args.n - c.args.j * 64 in it) % 2 ^ 64 ≡ 2 ^ (let it : ℕ = c.args.n - c.args.j * 64 in it) = shl_one ((let it : ℕ = c.args.n - c.args.j * 64 in it)) (omega (arith, c.if-j-n.false)) in it)))
+returns c = some_below c.args.n c.args.j _ (ap (λ (x : ℕ). x - 1) (let it : 1 * 2 ^ (c.args.n - c.args.j * 64) % 2 ^ 64 ≡ 2 ^ (c.args.n - c.args.j * 64) = shl_one (c.args.n - c.args.j * 64) (omega (arith, c.if-j-n.false)) in it))

@@ -1,3 +1,4 @@
+-- `writer::ask_tables` meets its contract. Each no ends the call with its number; where 3, 5 and 6 get a yes the draft holds the image, and the reader answers.
 use mathlib.Core.Path.{sym, ap, ◌∙◌, subst}
 use lib.Dec.{T}
 use Rattle.limits.specs.Limits.{counts_fit, thresholds_fit}
@@ -11,23 +12,23 @@ pub returns-then-not-counts_fit : goal.returns-then-not-counts_fit
 returns-then-not-counts_fit c = sym (no_3 c.args.x c.args.coordinates.now c.args.ends.now (sym c.counts_fit.ensures ∙ c.if-not-counts_fit.true))
 
 pub returns-then-not-thresholds_fit : goal.returns-then-not-thresholds_fit
-returns-then-not-thresholds_fit c = sym (no_5 c.args.x c.args.coordinates.now c.args.ends.now ((let it : (T (counts_fit c.args.x.n c.args.x.m)) = subst T (sym (sym c.counts_fit.ensures ∙ c.if-not-counts_fit.false)) tt in it)) (sym c.thresholds_fit.ensures ∙ c.if-not-thresholds_fit.true))
+returns-then-not-thresholds_fit c = sym (no_5 c.args.x c.args.coordinates.now c.args.ends.now (let it : (T (counts_fit c.args.x.n c.args.x.m)) = subst T (sym (sym c.counts_fit.ensures ∙ c.if-not-counts_fit.false)) tt in it) (sym c.thresholds_fit.ensures ∙ c.if-not-thresholds_fit.true))
 
 pub returns-then-not-lengths_fit : goal.returns-then-not-lengths_fit
 returns-then-not-lengths_fit c =
-    sym (no_6 c.args.x c.args.coordinates.now c.args.ends.now ((let it : (T (counts_fit c.args.x.n c.args.x.m)) = subst T (sym (sym c.counts_fit.ensures ∙ c.if-not-counts_fit.false)) tt in it)) ((let it : (T (thresholds_fit c.args.x.limit c.args.x.p c.args.x.q c.args.x.mu)) = subst T (sym (sym c.thresholds_fit.ensures ∙ c.if-not-thresholds_fit.false)) tt in it))
+    sym (no_6 c.args.x c.args.coordinates.now c.args.ends.now (let it : (T (counts_fit c.args.x.n c.args.x.m)) = subst T (sym (sym c.counts_fit.ensures ∙ c.if-not-counts_fit.false)) tt in it) (let it : (T (thresholds_fit c.args.x.limit c.args.x.p c.args.x.q c.args.x.mu)) = subst T (sym (sym c.thresholds_fit.ensures ∙ c.if-not-thresholds_fit.false)) tt in it)
     (sym c.lengths_fit.ensures ∙ c.if-not-lengths_fit.true))
 
 pub returns : goal.returns
 returns c =
     open_same _ _ c.«open».ensures
-    ∙ ap open_of (draft_image c.args.x c.args.coordinates.now c.args.ends.now ((let it : (Asked c.args.x c.args.coordinates.now c.args.ends.now) = record {
+    ∙ ap open_of (draft_image c.args.x c.args.coordinates.now c.args.ends.now (let it : (Asked c.args.x c.args.coordinates.now c.args.ends.now) = record {
       q3 = (let it : (T (counts_fit c.args.x.n c.args.x.m)) = subst T (sym (sym c.counts_fit.ensures ∙ c.if-not-counts_fit.false)) tt in it);
       q5 = (let it : (T (thresholds_fit c.args.x.limit c.args.x.p c.args.x.q c.args.x.mu)) = subst T (sym (sym c.thresholds_fit.ensures ∙ c.if-not-thresholds_fit.false)) tt in it);
       q6 = subst T (sym (sym c.lengths_fit.ensures ∙ c.if-not-lengths_fit.false)) tt;
-    } in it)) _ _ c.put_image-len.ensures)
-    ∙ sym (by_reader c.args.x c.args.coordinates.now c.args.ends.now ((let it : (Asked c.args.x c.args.coordinates.now c.args.ends.now) = record {
+    } in it) _ _ c.put_image-len.ensures)
+    ∙ sym (by_reader c.args.x c.args.coordinates.now c.args.ends.now (let it : (Asked c.args.x c.args.coordinates.now c.args.ends.now) = record {
       q3 = (let it : (T (counts_fit c.args.x.n c.args.x.m)) = subst T (sym (sym c.counts_fit.ensures ∙ c.if-not-counts_fit.false)) tt in it);
       q5 = (let it : (T (thresholds_fit c.args.x.limit c.args.x.p c.args.x.q c.args.x.mu)) = subst T (sym (sym c.thresholds_fit.ensures ∙ c.if-not-thresholds_fit.false)) tt in it);
       q6 = subst T (sym (sym c.lengths_fit.ensures ∙ c.if-not-lengths_fit.false)) tt;
-    } in it)))
+    } in it))
