@@ -23,7 +23,6 @@ use Rattle.image.specs.Questions.{open_of}
 use Rattle.image.specs.Rows.{Room, zeros, Cleared}
 use Rattle.image.specs.declared.Header.{Header}
 use Rattle.image.specs.declared.Refusal.{Refusal}
-use Rattle.image.specs.declared.Opened.{Opened}
 use Rattle.image.specs.declared.Opened.TheVariants.{Site, Refused}
 use Rattle.community.specs.Network.{Network, neighbourhood_size}
 use Rattle.community.specs.Site.{network}

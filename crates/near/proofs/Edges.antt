@@ -14,7 +14,6 @@ use Rattle.image.specs.Image.{handset_count, edge_count, limit_of, handset_recor
 use Rattle.image.specs.Questions.{Accepted}
 use Rattle.image.proofs.Acceptance.{handsets_length, ends_below}
 use Rattle.near.specs.Near.{proximity_of, handsets_in, ends_proximity, proximity}
-use Rattle.near.specs.declared.Proximity.{Proximity}
 use Rattle.near.specs.declared.Proximity.TheVariants.{Near, NotNear}
 use Rattle.near.proofs.Near.{near_apart, near_most, edge_proximity_lem}
 

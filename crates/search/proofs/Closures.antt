@@ -22,7 +22,6 @@ use Rattle.sets.specs.Bits.{bit_of, bit_at, cell}
 use Rattle.sets.proofs.Bits.{bit_at_lt, zeros, bit_at_zeros}
 use Rattle.sets.proofs.Counting.{bit_true}
 use Rattle.sets.proofs.Tests.{and_make, and_left, and_right, or_left, decide, eqb_of, eqb_not, any_make, none_any, not_any, find_law, find_is, find_none}
-use Rattle.community.specs.Network.{chain}
 use Rattle.community.proofs.Reachability.{chain_step, chain_meet, chain_least}
 use Rattle.search.specs.ForProofs.{FirstCommon, Joined, Stored, Collected}
 use Rattle.search.specs.Search.{steps, closure, left_after, found_by, Searched, Sized, SearchCall}

@@ -4,17 +4,16 @@
 --     edges_none, edges_more, edges_room     the first edges, one more; the next has room
 --     member_bit, inside_bit     what the bits of the words say of the groups
 --     joined_chunk, ends_chunk   the counts, 64 groups more
-use Prim.Native.Nat.{ℕ, zero, suc, ◌+◌, ◌*◌, ◌-◌, ◌≤◌, ◌<◌, min}
+use Prim.Native.Nat.{ℕ, ◌+◌, ◌-◌, ◌≤◌, ◌<◌, min}
 use native.Mathlib.Omega.{arith}
 use native.Mathlib.Decide.{dec_lt}
 use native.Mathlib.Numerals.{add-one}
-use mathlib.Core.Path.{◌≡◌, refl, sym, ap, ap₂, ◌∙◌, subst}
+use mathlib.Core.Path.{◌≡◌, refl, sym, ap, ap₂, ◌∙◌}
 use mathlib.Core.Logic.{⊎_elim}
 use mathlib.Core.Bool.{Bool, true, false, ◌&&◌, cond, and-false}
 use mathlib.Core.List.{List}
 use lib.Dec.{ltb}
-use lib.Bits.{bit_and}
-use lib.ListN.{length, get_or, get_or-eq_default}
+use lib.ListN.{get_or, get_or-eq_default}
 use borrow.Author.Tests.{lt-ltb, le-ltb}
 use Rattle.sets.specs.Below.{bit, count, sum}
 use Rattle.sets.specs.Bits.{bit_of}
@@ -25,7 +24,7 @@ use Rattle.community.specs.Network.{contains}
 use Rattle.community.specs.Scores.{every_edge}
 use Rattle.rows.specs.Rows.{row_members}
 use Rattle.rows.proofs.Rows.{contains_past}
-use Rattle.tallies.specs.Tallies.{is_member, is_inside, is_leaving}
+use Rattle.tallies.specs.Tallies.{is_member, is_inside}
 use Rattle.tallies.specs.ForProofs.{DegreesHold, degree_sum, bit_for, WordsHold, RowsSummed, Raised, inside_word, EdgesCounted, ends_in}
 use Rattle.tallies.proofs.Words.{where_is, bit_for_before, bit_for_past, bit_for_of, bit_for_le, in_rows}
 use Rattle.tallies.proofs.Degrees.{degree_sum_cong, degree_sum_none, ends_summed}

@@ -1,6 +1,5 @@
 -- `dates::day_number` meets its contract, by the test of the date.
 use Rattle.dates.specs.Dates.{day_number_of}
-use borrow.Author.Rules.{rules}
 use Rattle.dates.proofs.day_number.Goals as goal
 
 pub returns-then-exists : goal.returns-then-exists

@@ -1,7 +1,6 @@
 -- `dates::exists` meets its contract: a month out of limits is no month, and else the code is the rest of the test.
 use borrow.Author.Tests.{le-leb, lt-leb}
 use Rattle.dates.specs.Dates.{date_exists}
-use borrow.Author.Rules.{rules}
 use Rattle.dates.proofs.exists.Goals as goal
 
 pub returns-then-month-lt1 : goal.returns-then-month-lt1

@@ -1,6 +1,5 @@
 -- `dates::month_length` meets its contract: 29 where the test of a leap February is met, else the table.
 use Rattle.dates.specs.Dates.{month_length}
-use borrow.Author.Rules.{rules}
 use Rattle.dates.proofs.month_length.Goals as goal
 
 pub returns-then-month-is_leap : goal.returns-then-month-is_leap

@@ -2,7 +2,6 @@
 use native.Mathlib.Omega.{arith}
 use Rattle.dates.specs.Dates.{weekday_of}
 use Rattle.dates.proofs.Limits.{number_small}
-use borrow.Author.Rules.{rules}
 use Rattle.dates.proofs.weekday.Goals as goal
 
 pub overflow_add-result : goal.overflow_add-result

@@ -1,6 +1,5 @@
 -- `fields::read_ends` meets its contract: each end is the number that `read2` gives.
 use Rattle.fields.specs.Fields.{ends_of}
-use borrow.Author.Rules.{rules}
 use Rattle.fields.proofs.read_ends.Goals as goal
 
 pub returns : goal.returns

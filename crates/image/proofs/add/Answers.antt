@@ -5,7 +5,6 @@ use lib.Bits.{bit_or}
 use lib.ListN.{get_or, set}
 use native.Mathlib.Nat.{mod-lt, zero-lt-suc}
 use native.Mathlib.Omega.{arith}
-use borrow.Author.Rules.{rules}
 use Rattle.sets.specs.Bits.{with_bit}
 use Rattle.sets.proofs.Bits.{shl_one}
 use Rattle.image.proofs.Rows.{row_most, counted_add}

@@ -1,18 +1,14 @@
-use Prim.Native.Nat.{ℕ, ◌+◌, ◌*◌, ◌≤◌, ◌-◌, ◌<◌}
+use Prim.Native.Nat.{ℕ, ◌+◌, ◌*◌, ◌<◌}
 use native.Mathlib.Omega.{arith}
-use mathlib.Core.Path.{◌≡◌, sym, ap, ap₂, ◌∙◌, subst}
+use mathlib.Core.Path.{sym, ap, ap₂, ◌∙◌, subst}
 use mathlib.Core.Bool.{Bool, true, false, not}
 use mathlib.Core.List.{List}
 use lib.Dec.{T}
-use Rattle.sets.specs.Below.{any}
-use Rattle.sets.specs.Bits.{cell, with_bit}
+use Rattle.sets.specs.Bits.{with_bit}
 use Rattle.sets.proofs.Bits.{bit_at_lt}
 use Rattle.fields.specs.declared.Ends.{Ends}
-use Rattle.image.specs.Image.{end_a, end_b}
-use Rattle.image.specs.Questions.{bad_end}
-use Rattle.sets.specs.Rows.{Table, Counted}
-use Rattle.image.specs.Rows.{Room}
-use Rattle.image.specs.ForProofs.{linked, faulty}
+use Rattle.sets.specs.Rows.{Table}
+use Rattle.image.specs.ForProofs.{linked}
 use Rattle.image.proofs.Acceptance.{good_ends}
 use Rattle.image.proofs.Scanning.{scan_none, scan_more}
 use Rattle.image.proofs.Rows.{zero_is, table_has}

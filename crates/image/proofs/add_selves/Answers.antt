@@ -1,12 +1,7 @@
-use Prim.Native.Nat.{ℕ, ◌≤◌, ◌-◌}
 use native.Mathlib.Omega.{arith}
-use mathlib.Core.Path.{◌≡◌, sym, ◌∙◌, subst}
-use mathlib.Core.Bool.{◌&&◌}
-use lib.Dec.{ltb, eqb}
-use Rattle.sets.specs.Rows.{Table, Counted}
-use Rattle.image.specs.Rows.{Room}
+use mathlib.Core.Path.{◌∙◌}
 use Rattle.image.proofs.Rows.{cleared_room, cleared_counted}
-use Rattle.image.proofs.Edges.{selves_none, selves_more, selves_new}
+use Rattle.image.proofs.Edges.{selves_none, selves_more}
 use Rattle.image.proofs.add_selves.Goals as goal
 
 pub loop-u-init : goal.loop-u-init

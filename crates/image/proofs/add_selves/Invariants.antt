@@ -1,14 +1,10 @@
 -- `image::add_selves` meets its contract. At u the table holds each handset below u with itself, counted; the cleared table holds none. The
 -- measure is what is left of n.
-use Prim.Native.Nat.{ℕ, ◌≤◌, ◌-◌}
-use native.Mathlib.Omega.{arith}
-use mathlib.Core.Path.{◌≡◌, sym, ◌∙◌, subst}
+use Prim.Native.Nat.{◌≤◌, ◌-◌}
 use mathlib.Core.Bool.{◌&&◌}
 use lib.Dec.{ltb, eqb}
 use Rattle.sets.specs.Rows.{Table, Counted}
 use Rattle.image.specs.Rows.{Room}
-use Rattle.image.proofs.Rows.{cleared_room, cleared_counted}
-use Rattle.image.proofs.Edges.{selves_none, selves_more, selves_new}
 use Rattle.image.proofs.add_selves.Given as goal
 
 abbrev pub invariant-loop-u : goal.invariant-loop-u

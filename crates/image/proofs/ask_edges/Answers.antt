@@ -1,12 +1,7 @@
 -- `image::ask_edges` meets its contract. Where the pass comes to the end, no edge is at fault, and the table has them all. Where it does not, a scan for
 -- question 8 or 9 that stops before the end is the refusal, and else the first fault is the first repeat.
-use native.Mathlib.Omega.{arith}
-use mathlib.Core.Path.{◌≡◌, sym, ◌∙◌}
-use borrow.Author.Rules.{rules}
-use Rattle.sets.specs.Below.{find}
-use Rattle.image.specs.Questions.{ask_each, ask_edges, bad_end, is_loop}
-use Rattle.image.specs.declared.Opened.{Opened}
-use Rattle.image.proofs.Rows.{cleared_room}
+use mathlib.Core.Path.{sym, ◌∙◌}
+use Rattle.image.specs.Questions.{ask_edges}
 use Rattle.image.proofs.Scanning.{end_found, loop_found, each_no, each_yes, each_passed}
 use Rattle.image.proofs.Faults.{edges_yes, edges_repeat, held_no, held_yes}
 use Rattle.image.proofs.ask_edges.Goals as goal

@@ -1,7 +1,6 @@
 -- `image::ask_header` meets its contract: each question is asked of what the questions after it answer.
 use mathlib.Core.Path.{ap, ap₂, ◌∙◌}
 use mathlib.Core.Bool.{Bool}
-use borrow.Author.Rules.{rules}
 use Rattle.image.specs.Questions.{ask, ask_header}
 use Rattle.image.specs.declared.Opened.{Opened}
 use Rattle.image.specs.declared.Opened.TheVariants.{Site}

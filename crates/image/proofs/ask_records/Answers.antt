@@ -1,10 +1,5 @@
 -- `image::ask_records` meets its contract: a scan that stops before the end is the refusal, and one that comes to the end goes on to the edges.
-use native.Mathlib.Omega.{arith}
-use mathlib.Core.Path.{◌≡◌, refl, sym, ◌∙◌}
-use borrow.Author.Rules.{rules}
-use Rattle.sets.specs.Below.{find}
-use Rattle.limits.specs.Limits.{out_of_limits}
-use Rattle.image.specs.Image.{handset_record}
+use mathlib.Core.Path.{sym, ◌∙◌}
 use Rattle.image.specs.Questions.{ask_records}
 use Rattle.image.proofs.Scanning.{handset_found, each_no, each_yes}
 use Rattle.image.proofs.Faults.{held_no}

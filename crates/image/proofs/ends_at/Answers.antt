@@ -1,7 +1,6 @@
 -- `image::ends_at` meets its contract: the two numbers of a record are those at its place in the table.
 use mathlib.Core.Path.{◌∙◌}
 use native.Mathlib.Omega.{arith}
-use borrow.Author.Rules.{rules}
 use Rattle.image.proofs.Records.{ends_slice}
 use Rattle.image.proofs.ends_at.Goals as goal
 

@@ -1,11 +1,5 @@
-use Prim.Native.Nat.{◌≤◌, ◌-◌}
 use native.Mathlib.Omega.{arith}
-use mathlib.Core.Bool.{not}
 use mathlib.Core.Path.{sym, ◌∙◌}
-use lib.Dec.{T}
-use borrow.Author.Rules.{rules}
-use Rattle.sets.specs.Below.{any}
-use Rattle.image.specs.ForProofs.{bad_record}
 use Rattle.image.proofs.Scanning.{scan_none, scan_more, scan_found, scan_ended}
 use Rattle.image.proofs.first_bad.Goals as goal
 

@@ -1,14 +1,10 @@
 -- `image::first_bad` meets its contract. No record passed is bad, so the first that is, or the end, is what `find` finds. The measure is what is left of
 -- the records.
 use Prim.Native.Nat.{◌≤◌, ◌-◌}
-use native.Mathlib.Omega.{arith}
 use mathlib.Core.Bool.{not}
-use mathlib.Core.Path.{sym, ◌∙◌}
 use lib.Dec.{T}
-use borrow.Author.Rules.{rules}
 use Rattle.sets.specs.Below.{any}
 use Rattle.image.specs.ForProofs.{bad_record}
-use Rattle.image.proofs.Scanning.{scan_none, scan_more, scan_found, scan_ended}
 use Rattle.image.proofs.first_bad.Given as goal
 
 abbrev pub invariant-loop-k : goal.invariant-loop-k

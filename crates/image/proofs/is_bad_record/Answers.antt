@@ -1,12 +1,7 @@
 -- `image::is_bad_record` meets its contract: the record is the slice from its place on, and the question's test of it is the definition's.
-use Prim.Native.Nat.{◌+◌, ◌*◌, ◌≤◌}
-use native.Mathlib.Omega.{arith}
 use mathlib.Core.Path.{sym, ap, ◌∙◌}
 use mathlib.Core.Bool.{◌&&◌, not}
 use lib.Dec.{ltb, eqb}
-use lib.ListN.{length}
-use borrow.Author.Rules.{rules}
-use Rattle.fields.specs.Fields.{handset_bytes}
 use Rattle.fields.specs.declared.Ends.{Ends}
 use Rattle.limits.specs.Limits.{out_of_limits}
 use Rattle.image.specs.Questions.{bad_end, is_loop}

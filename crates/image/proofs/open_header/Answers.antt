@@ -1,6 +1,5 @@
 -- `image::open_header` meets its contract. Questions 1 and 2 are the two tests, and then the header is what questions 3 to 6 are put to.
 use mathlib.Core.Path.{sym, ap, ◌∙◌}
-use borrow.Author.Rules.{rules}
 use Rattle.image.specs.declared.Header.{Header}
 use Rattle.image.proofs.Acceptance.{header_short, header_other, header_on}
 use Rattle.image.proofs.open_header.Goals as goal

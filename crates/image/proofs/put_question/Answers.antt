@@ -1,5 +1,4 @@
 -- `image::put_question` meets its contract, by cases on the answer.
-use borrow.Author.Rules.{rules}
 use Rattle.image.specs.Questions.{ask}
 use Rattle.image.proofs.put_question.Goals as goal
 

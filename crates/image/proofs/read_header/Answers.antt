@@ -1,5 +1,4 @@
 -- `image::read_header` meets its contract: each field is the number that the definition names.
-use borrow.Author.Rules.{rules}
 use Rattle.image.specs.Image.{header_of}
 use Rattle.image.proofs.read_header.Goals as goal
 

@@ -2,7 +2,6 @@
 -- rest is what questions 7 to 10 answer and leave.
 use native.Mathlib.Omega.{arith}
 use mathlib.Core.Path.{sym, ◌∙◌}
-use borrow.Author.Rules.{rules}
 use Rattle.image.proofs.Acceptance.{header_no, header_yes, header_passed}
 use Rattle.image.proofs.Faults.{held_no, held_related}
 use Rattle.image.proofs.read_image.Goals as goal

@@ -1,6 +1,5 @@
 -- `image::row_has` meets its contract: the bit looked at is the cell's.
 use mathlib.Core.Path.{refl}
-use borrow.Author.Rules.{rules}
 use Rattle.sets.specs.Bits.{bit_of, bit_at}
 use Rattle.image.proofs.row_has.Goals as goal
 

@@ -1,10 +1,8 @@
-use Prim.Native.Nat.{ℕ, ◌-◌, ◌≤◌}
+use Prim.Native.Nat.{ℕ}
 use native.Mathlib.Omega.{arith}
 use native.Mathlib.Numerals.{add-one}
 use mathlib.Core.Path.{◌≡◌, refl, ap, ap₂, ◌∙◌}
 use mathlib.Core.Bool.{Bool, ◌||◌, not}
-use mathlib.Core.List.{List}
-use borrow.Author.Rules.{rules}
 use Rattle.sets.specs.Below.{any}
 use Rattle.sets.proofs.Tests.{or_comm}
 use Rattle.fields.specs.Fields.{coordinate_count, in_limits, coordinate_of}

@@ -1,16 +1,11 @@
 -- `limits::out_of_limits` meets its contract. At i the flag says whether one of the first i coordinates is out of its limits. The measure is what is left of
 -- the coordinates.
 use Prim.Native.Nat.{ℕ, ◌-◌, ◌≤◌}
-use native.Mathlib.Omega.{arith}
-use native.Mathlib.Numerals.{add-one}
-use mathlib.Core.Path.{◌≡◌, refl, ap, ap₂, ◌∙◌}
-use mathlib.Core.Bool.{Bool, ◌||◌, not}
+use mathlib.Core.Path.{◌≡◌}
+use mathlib.Core.Bool.{Bool, not}
 use mathlib.Core.List.{List}
-use borrow.Author.Rules.{rules}
 use Rattle.sets.specs.Below.{any}
-use Rattle.sets.proofs.Tests.{or_comm}
 use Rattle.fields.specs.Fields.{coordinate_count, in_limits, coordinate_of}
-use Rattle.limits.specs.Limits.{out_of_limits}
 use Rattle.limits.proofs.out_of_limits.Given as goal
 
 abbrev pub out : List ℕ → ℕ → Bool

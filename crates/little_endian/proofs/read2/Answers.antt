@@ -1,7 +1,5 @@
 -- `little_endian::read2` meets its contract. Where both bytes are there the number is that of two bytes, else it is 0.
 use mathlib.Core.Path.{sym, ◌∙◌}
-use borrow.Author.Rules.{rules}
-use borrow.Author.Tests.{leb-true}
 use Rattle.little_endian.proofs.Bytes.{number_there, number_none}
 use Rattle.little_endian.proofs.read2.Goals as goal
 

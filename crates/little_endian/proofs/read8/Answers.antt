@@ -1,9 +1,7 @@
 -- `little_endian::read8` meets its contract. Where all bytes are there the number is made of two of four bytes, else it is 0.
-use Prim.Native.Nat.{◌<◌, ℕ, ◌+◌, ◌*◌, ◌≤◌}
+use Prim.Native.Nat.{◌<◌, ℕ, ◌+◌, ◌*◌}
 use native.Mathlib.Omega.{arith}
 use mathlib.Core.Path.{sym, ap₂, ◌∙◌}
-use lib.ListN.{length}
-use borrow.Author.Rules.{rules}
 use borrow.Author.Tests.{leb-true}
 use mir.Syntax.{w64}
 use mir.Val.{Fits}

@@ -1,11 +1,9 @@
-use borrow.Author.Rules.{rules}
-use Prim.Native.Nat.{ℕ, ◌+◌, ◌/◌, ◌^◌, ◌-◌, ◌≤◌}
+use Prim.Native.Nat.{ℕ}
 use native.Mathlib.Omega.{arith}
 use native.Mathlib.Numerals.{add-one}
-use mathlib.Core.Path.{◌≡◌, sym, ap, ◌∙◌}
-use borrow.Author.Tests.{leb-true, not-true, not-false}
-use lib.ListN.{length}
-use lib.Seq.{sets, length-sets}
+use mathlib.Core.Path.{sym, ap, ◌∙◌}
+use borrow.Author.Tests.{leb-true}
+use lib.Seq.{sets}
 use Rattle.little_endian.specs.Bytes.{le_bytes}
 use Rattle.little_endian.proofs.Writing.{write_none, write_more, stored_there, stored_none}
 use Rattle.little_endian.proofs.write.Goals as goal

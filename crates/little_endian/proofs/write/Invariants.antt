@@ -1,15 +1,10 @@
 -- `little_endian::write` meets its contract. After i steps the first i bytes are written, and what is left of the number is its quotient. The measure is the count of
 -- bytes left.
-use borrow.Author.Rules.{rules}
-use Prim.Native.Nat.{ℕ, ◌+◌, ◌/◌, ◌^◌, ◌-◌, ◌≤◌}
-use native.Mathlib.Omega.{arith}
-use native.Mathlib.Numerals.{add-one}
-use mathlib.Core.Path.{◌≡◌, sym, ap, ◌∙◌}
-use borrow.Author.Tests.{leb-true, not-true, not-false}
+use Prim.Native.Nat.{◌+◌, ◌/◌, ◌^◌, ◌-◌, ◌≤◌}
+use mathlib.Core.Path.{◌≡◌}
 use lib.ListN.{length}
-use lib.Seq.{sets, length-sets}
+use lib.Seq.{sets}
 use Rattle.little_endian.specs.Bytes.{le_bytes}
-use Rattle.little_endian.proofs.Writing.{write_none, write_more, stored_there, stored_none}
 use Rattle.little_endian.proofs.write.Given as goal
 
 abbrev pub invariant-loop-i : goal.invariant-loop-i

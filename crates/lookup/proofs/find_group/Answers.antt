@@ -1,10 +1,8 @@
 -- `lookup::find_group` meets its contract: its answer is the one of the span that it found.
 use Prim.Native.Nat.{◌-◌}
-use native.Mathlib.Omega.{arith}
-use mathlib.Core.Path.{◌≡◌, sym, ap, ◌∙◌}
+use mathlib.Core.Path.{sym, ap, ◌∙◌}
 use mathlib.Core.Bool.{Bool, cond}
 use Rattle.image.specs.Answers.{refusal}
-use Rattle.lookup.specs.Lookup.{looked_of}
 use Rattle.lookup.specs.Answers.{look_answer}
 use Rattle.lookup.specs.declared.Looked.TheVariants.{Found, Refused}
 use Rattle.lookup.proofs.Agreement.{looked_span}

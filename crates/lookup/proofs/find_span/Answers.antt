@@ -1,9 +1,7 @@
 -- `lookup::find_span` meets its contract: each way through the tests is one case of question 14.
 use native.Mathlib.Omega.{arith}
-use Prim.Native.Nat.{◌+◌}
 use mathlib.Core.Path.{sym}
 use Rattle.lookup.proofs.Agreement as cases
-use borrow.Author.Rules.{rules}
 use Rattle.lookup.proofs.find_span.Goals as goal
 
 pub returns-then-b-size : goal.returns-then-b-size

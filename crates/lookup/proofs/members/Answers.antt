@@ -1,6 +1,5 @@
 -- `lookup::members` meets its contract: the part is the one between the two places of the span that it found.
 use Rattle.lookup.proofs.Agreement.{members_span}
-use borrow.Author.Rules.{rules}
 use Rattle.lookup.proofs.members.Goals as goal
 
 pub returns : goal.returns

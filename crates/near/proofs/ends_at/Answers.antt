@@ -1,6 +1,6 @@
 -- `near::ends_at` meets its contract: a whole record has the ends of its edge, the records from a cut-off one on begin with those of its ends that are there, and
 -- past that there is none.
-use Rattle.std.proofs.Common.{◌∙◌, arith, rules}
+use Rattle.std.proofs.Common.{◌∙◌, arith}
 use Rattle.image.proofs.Records.{ends_slice}
 use Rattle.near.proofs.Edges.{ends_rest, ends_none}
 use Rattle.near.proofs.ends_at.Goals as goal

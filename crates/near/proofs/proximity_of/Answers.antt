@@ -1,4 +1,4 @@
-use Rattle.std.proofs.Common.{◌≡◌, ℕ, ◌+◌, ◌-◌, ◌%◌, ◌^◌, ◌<◌, ◌≤◌, Bool, true, false, cond, ◌&&◌, T, leb, List, sym, ap, ◌∙◌, subst, add-one, arith, le→leb, leb→le, rules}
+use Rattle.std.proofs.Common.{◌≡◌, ℕ, ◌+◌, ◌-◌, ◌%◌, ◌^◌, ◌<◌, Bool, true, false, cond, ◌&&◌, T, leb, List, sym, ap, ◌∙◌, subst, add-one, arith, le→leb, leb→le}
 use Rattle.sets.specs.Below.{sum}
 use Rattle.sets.proofs.Tests.{T_true, T-ext, and_make, and_left, and_right}
 use Rattle.fields.specs.Fields.{coordinate_count, coordinate_of}

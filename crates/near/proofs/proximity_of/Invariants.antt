@@ -1,13 +1,10 @@
 -- `near::proximity_of` meets its contract. While the squares so far fit, what is left of the limit and their sum make the limit, so the next square fits in
 -- what is left just where the sum with it keeps the limit, and a sum past the limit stays past it; in the end the sum is what is gone of the limit. The
 -- measure is what is left of the coordinates.
-use Rattle.std.proofs.Common.{◌≡◌, ℕ, ◌+◌, ◌-◌, ◌%◌, ◌^◌, ◌<◌, ◌≤◌, Bool, true, false, cond, ◌&&◌, T, leb, List, sym, ap, ◌∙◌, subst, add-one, arith, le→leb, leb→le, rules}
+use Rattle.std.proofs.Common.{◌≡◌, ℕ, ◌+◌, ◌-◌, ◌≤◌, Bool, T, leb}
 use Rattle.sets.specs.Below.{sum}
-use Rattle.sets.proofs.Tests.{T_true, T-ext, and_make, and_left, and_right}
 use Rattle.fields.specs.Fields.{coordinate_count, coordinate_of}
-use Rattle.image.specs.Image.{gap_squared, distance_between}
-use Rattle.near.specs.Near.{proximity_of, proximity_answer}
-use Rattle.near.specs.declared.Proximity.TheVariants.{Near, NotNear}
+use Rattle.image.specs.Image.{gap_squared}
 use Rattle.near.proofs.proximity_of.Given as goal
 
 -- whether a sum of squares keeps the limit, and what is left of it

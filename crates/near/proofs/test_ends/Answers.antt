@@ -1,7 +1,5 @@
 -- `near::test_ends` meets its contract: where both records are there, those handed on are these.
-use Rattle.std.proofs.Common.{◌≡◌, ℕ, ◌+◌, ◌*◌, ◌<◌, ◌≤◌, Bool, true, false, cond, not, ◌&&◌, T, ltb, List, length, sym, refl, ap, ◌∙◌, subst, ap₂, arith, ltb→lt, rules}
-use Rattle.sets.proofs.Tests.{and_left, and_right}
-use Rattle.fields.specs.Fields.{handset_bytes}
+use Rattle.std.proofs.Common.{◌≡◌, ℕ, Bool, true, false, cond, not, ◌&&◌, ltb, List, sym, refl, ap, ◌∙◌, ap₂}
 use Rattle.image.specs.Image.{handset_record}
 use Rattle.near.specs.Near.{proximity_of, handsets_in, ends_proximity}
 use Rattle.near.specs.declared.Proximity.{Proximity}

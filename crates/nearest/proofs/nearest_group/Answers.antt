@@ -1,19 +1,17 @@
 -- `nearest::nearest_group` meets its contract: an image that the reader refuses ends the call with its refusal, a point out of the limits with 17, and the
 -- rest is `nearest_site`'s, over the rows that the crate graph finds.
 use mathlib.Core.Path.{◌≡◌, sym, ap, ◌∙◌, subst}
-use mathlib.Core.List.{List, [], ◌∷◌}
+use mathlib.Core.List.{[], ◌∷◌}
 use lib.Dec.{T}
-use lib.IntN.{ℤ}
 use Rattle.image.specs.Image.{header_of}
 use Rattle.image.specs.Questions.{Accepted, open_of, refusal_of}
 use Rattle.image.specs.declared.Opened.TheVariants as O
 use Rattle.image.proofs.Acceptance.{accepted}
 use Rattle.points.specs.Points.{point_in_limits}
 use Rattle.points.proofs.Handed.{handed}
-use Rattle.nearest.specs.Nearest.{nearest_of, nearest_answer}
+use Rattle.nearest.specs.Nearest.{nearest_answer}
 use Rattle.nearest.proofs.Answers.{refused_answer, past_answer}
 use Rattle.nearest.proofs.Rows.{rows_found}
-use borrow.Author.Rules.{rules}
 use Rattle.nearest.proofs.nearest_group.Goals as goal
 
 pub returns-in_default : goal.returns-in_default

@@ -1,13 +1,10 @@
 -- `rows::add_row` meets its contract. The invariant: the words passed have the row added, and the others are as they were. The measure is the number of words
 -- left.
 use Prim.Native.Nat.{ℕ, ◌+◌, ◌*◌, ◌-◌, ◌≤◌, ◌<◌}
-use native.Mathlib.Omega.{arith}
-use native.Mathlib.Decide.{ℕ_discrete}
-use mathlib.Core.Path.{◌≡◌, refl, ◌∙◌}
+use mathlib.Core.Path.{◌≡◌}
 use mathlib.Core.List.{List}
 use lib.Bits.{bit_and, bit_or}
-use lib.ListN.{length, get_or, set, length-set}
-use lib.Seq.{get_or-set_same, get_or-set_other}
+use lib.ListN.{length, get_or}
 use Rattle.rows.proofs.add_row.Given as goal
 
 -- the first j words hold what f says, and the others what they held

@@ -1,13 +1,10 @@
 -- `rows::count_members` meets its contract. The invariant: the count is the length of the member table of the rows passed. The measure is the number of
 -- rows left.
-use mathlib.Core.Path.{◌≡◌, sym, ap, ◌∙◌}
-use Prim.Native.Nat.{ℕ, ◌+◌, ◌*◌, ◌-◌, ◌≤◌}
-use native.Mathlib.Omega.{arith}
-use borrow.Author.Rules.{rules}
+use mathlib.Core.Path.{◌≡◌}
+use Prim.Native.Nat.{◌-◌, ◌≤◌}
 use lib.ListN.{length}
 use Rattle.community.specs.Tables.{member_table}
 use Rattle.rows.specs.Rows.{rows_of}
-use Rattle.rows.proofs.Listing.{members_none, members_length, members_small}
 use Rattle.rows.proofs.count_members.Given as goal
 
 abbrev pub invariant-loop-k : goal.invariant-loop-k

@@ -1,14 +1,9 @@
 -- `rows::count_ones_of` meets its contract. The invariant: the count is the sum of the bits of the words passed, and at most 64 for each.
 -- The measure is the number of words left.
-use mathlib.Core.Path.{◌≡◌, refl, sym, ap, ◌∙◌}
-use Prim.Native.Nat.{ℕ, ◌+◌, ◌*◌, ◌-◌, ◌≤◌}
-use native.Mathlib.Omega.{arith}
-use lib.Count.{ones, ones-le}
-use lib.ListN.{get_or}
+use mathlib.Core.Path.{◌≡◌}
+use Prim.Native.Nat.{◌*◌, ◌-◌, ◌≤◌}
 use Rattle.sets.specs.Below.{sum}
 use Rattle.sets.specs.Bits.{cell}
-use Rattle.sets.proofs.Bits.{cell_word, sum_word}
-use Rattle.rows.proofs.Listing.{row_length}
 use Rattle.rows.proofs.count_ones_of.Given as goal
 
 abbrev pub invariant-loop-j : goal.invariant-loop-j

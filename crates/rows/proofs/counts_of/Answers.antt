@@ -5,7 +5,6 @@ use lib.ListN.{length}
 use Rattle.community.specs.Tables.{member_table}
 use Rattle.rows.specs.Rows.{rows_of}
 use Rattle.rows.proofs.Listing.{rows_length}
-use borrow.Author.Rules.{rules}
 use Rattle.rows.proofs.counts_of.Goals as goal
 
 pub returns : goal.returns

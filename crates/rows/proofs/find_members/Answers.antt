@@ -1,8 +1,4 @@
-use Prim.Native.Nat.{ℕ, ◌-◌, ◌≤◌, min}
 use native.Mathlib.Omega.{arith}
-use mathlib.Core.Path.{◌≡◌, subst}
-use Rattle.rows.specs.Rows.{rows_of}
-use Rattle.rows.specs.Rows.{MembersFound}
 use Rattle.rows.proofs.Rows.{found_none, found_more}
 use Rattle.rows.proofs.find_members.Goals as goal
 

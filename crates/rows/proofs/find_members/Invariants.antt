@@ -1,11 +1,8 @@
 -- `rows::find_members` meets its contract. The invariant: the sets have the handsets in one or more, and in two or more, of the rows passed. The measure is the
 -- number of rows left.
-use Prim.Native.Nat.{ℕ, ◌-◌, ◌≤◌, min}
-use native.Mathlib.Omega.{arith}
-use mathlib.Core.Path.{◌≡◌, subst}
+use Prim.Native.Nat.{◌-◌, ◌≤◌}
 use Rattle.rows.specs.Rows.{rows_of}
 use Rattle.rows.specs.Rows.{MembersFound}
-use Rattle.rows.proofs.Rows.{found_none, found_more}
 use Rattle.rows.proofs.find_members.Given as goal
 
 abbrev pub invariant-loop-k : goal.invariant-loop-k

@@ -1,4 +1,4 @@
-use Prim.Native.Nat.{ℕ, ◌-◌, ◌≤◌}
+use Prim.Native.Nat.{ℕ}
 use native.Mathlib.Omega.{arith}
 use mathlib.Core.Path.{◌≡◌, sym, ap, ◌∙◌, subst}
 use mathlib.Core.Bool.{not}
@@ -7,7 +7,6 @@ use Rattle.sets.specs.Below.{any}
 use Rattle.rows.specs.Rows.{rows_of}
 use Rattle.rows.specs.Rows.{first_meeting}
 use Rattle.rows.proofs.Rows.{meets_at, first_found, first_none, none_before, none_next}
-use borrow.Author.Rules.{rules}
 use Rattle.rows.proofs.first_meeting.Goals as goal
 
 pub loop-k-init : goal.loop-k-init

@@ -1,14 +1,9 @@
 -- `rows::first_meeting` meets its contract. The invariant: none of the rows passed meets the set. The measure is the number of rows left.
-use Prim.Native.Nat.{ℕ, ◌-◌, ◌≤◌}
-use native.Mathlib.Omega.{arith}
-use mathlib.Core.Path.{◌≡◌, sym, ap, ◌∙◌, subst}
+use Prim.Native.Nat.{◌-◌, ◌≤◌}
 use mathlib.Core.Bool.{not}
 use lib.Dec.{T}
 use Rattle.sets.specs.Below.{any}
-use Rattle.rows.specs.Rows.{rows_of}
-use Rattle.rows.specs.Rows.{first_meeting}
-use Rattle.rows.proofs.Rows.{meets_at, first_found, first_none, none_before, none_next}
-use borrow.Author.Rules.{rules}
+use Rattle.rows.proofs.Rows.{meets_at}
 use Rattle.rows.proofs.first_meeting.Given as goal
 
 abbrev pub invariant-loop-k : goal.invariant-loop-k

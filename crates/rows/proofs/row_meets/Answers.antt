@@ -1,8 +1,7 @@
-use Prim.Native.Nat.{ℕ, ◌+◌, ◌*◌, ◌-◌, ◌≤◌}
+use Prim.Native.Nat.{ℕ, ◌+◌, ◌*◌}
 use native.Mathlib.Omega.{arith}
 use mathlib.Core.Path.{◌≡◌, ap, ◌∙◌}
 use mathlib.Core.Bool.{not}
-use lib.Dec.{eqb}
 use Rattle.sets.specs.Below.{any}
 use Rattle.rows.proofs.Rows.{common, meets_none, meets_word, meets_row}
 use Rattle.rows.proofs.row_meets.Goals as goal

@@ -1,12 +1,11 @@
 -- `rows::row_meets` meets its contract. The invariant: what was gathered is 0 just where no member in the words passed is in the set. The measure is the number
 -- of words left.
-use Prim.Native.Nat.{ℕ, ◌+◌, ◌*◌, ◌-◌, ◌≤◌}
-use native.Mathlib.Omega.{arith}
-use mathlib.Core.Path.{◌≡◌, ap, ◌∙◌}
+use Prim.Native.Nat.{◌*◌, ◌-◌, ◌≤◌}
+use mathlib.Core.Path.{◌≡◌}
 use mathlib.Core.Bool.{not}
 use lib.Dec.{eqb}
 use Rattle.sets.specs.Below.{any}
-use Rattle.rows.proofs.Rows.{common, meets_none, meets_word, meets_row}
+use Rattle.rows.proofs.Rows.{common}
 use Rattle.rows.proofs.row_meets.Given as goal
 
 abbrev pub invariant-loop-j : goal.invariant-loop-j

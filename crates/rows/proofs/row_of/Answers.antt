@@ -1,9 +1,7 @@
 -- `rows::row_of` meets its contract: the slice has the eight words of the row, or none.
 use mathlib.Core.Path.{ap}
 use Prim.Native.Nat.{ℕ, ◌+◌, ◌*◌}
-use native.Mathlib.Omega.{arith}
 use Rattle.rows.proofs.Rows.{row_slice}
-use borrow.Author.Rules.{rules}
 use Rattle.rows.proofs.row_of.Goals as goal
 
 pub returns : goal.returns

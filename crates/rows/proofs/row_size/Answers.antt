@@ -2,7 +2,6 @@
 use mathlib.Core.Path.{sym, ap, ◌∙◌}
 use lib.ListN.{length}
 use Rattle.rows.proofs.Rows.{row_in_lem, row_in_past}
-use borrow.Author.Rules.{rules}
 use Rattle.rows.proofs.row_size.Goals as goal
 
 pub returns-then-k-lt512 : goal.returns-then-k-lt512

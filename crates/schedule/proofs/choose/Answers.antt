@@ -1,9 +1,7 @@
 -- `schedule::choose` meets its contract: each way through the tests is one case of the definition.
 use mathlib.Core.Path.{◌≡◌, sym, ◌∙◌}
-use borrow.Author.Tests.{not-true, not-false}
 use Rattle.schedule.specs.Schedule.{date_fits, plan_at, choice_of}
 use Rattle.schedule.proofs.Agreement as cases
-use borrow.Author.Rules.{rules}
 use Rattle.schedule.proofs.choose.Goals as goal
 
 pub returns-then-not-dated : goal.returns-then-not-dated

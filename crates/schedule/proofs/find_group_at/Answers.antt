@@ -1,14 +1,9 @@
 -- `schedule::find_group_at` meets its contract: each case of the choice has the answer of the lookup's companion in its plan.
-use mathlib.Core.Path.{◌≡◌, sym, ap, ◌∙◌}
-use Rattle.lookup.specs.Lookup.{looked_of}
-use Rattle.lookup.specs.declared.Looked.{Looked}
+use mathlib.Core.Path.{sym, ap, ◌∙◌}
 use Rattle.lookup.proofs.Answers.{looked_same}
-use Rattle.schedule.specs.declared.Scheduled.{Scheduled}
-use Rattle.schedule.specs.declared.Scheduled.TheVariants as S
-use Rattle.schedule.specs.Schedule.{choice_of, in_plan, scheduled_of}
+use Rattle.schedule.specs.Schedule.{scheduled_of}
 use Rattle.schedule.specs.Answers.{scheduled_answer}
 use Rattle.schedule.proofs.Agreement.{in_workday, in_restday}
-use borrow.Author.Rules.{rules}
 use Rattle.schedule.proofs.find_group_at.Goals as goal
 
 pub returns-in-Found : goal.returns-in-Found

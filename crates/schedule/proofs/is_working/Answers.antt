@@ -1,6 +1,5 @@
 -- `schedule::is_working` meets its contract: the code is the definition, at the weekday of `dates::weekday`.
 use Rattle.schedule.specs.Schedule.{is_workday, in_window, is_working}
-use borrow.Author.Rules.{rules}
 use Rattle.schedule.proofs.is_working.Goals as goal
 
 pub returns : goal.returns

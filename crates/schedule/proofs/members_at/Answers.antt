@@ -1,6 +1,5 @@
 -- `schedule::members_at` meets its contract: each case of the choice has the part that the lookup gives in its plan.
 use Rattle.schedule.specs.Schedule.{part_of}
-use borrow.Author.Rules.{rules}
 use Rattle.schedule.proofs.members_at.Goals as goal
 
 pub returns-in-Workday : goal.returns-in-Workday

@@ -1,13 +1,9 @@
 -- `scores::first_bad_entry` meets its contract. No entry passed was bad, so the place where the scan stops is the first bad one, or the end.
 use Prim.Native.Nat.{◌≤◌, ◌-◌}
-use native.Mathlib.Omega.{arith}
-use mathlib.Core.Path.{sym, ◌∙◌}
 use mathlib.Core.Bool.{not}
 use lib.Dec.{T}
 use lib.ListN.{length}
-use borrow.Author.Rules.{rules}
 use Rattle.sets.specs.Below.{any}
-use Rattle.image.proofs.Scanning.{scan_none, scan_more, scan_found, scan_ended}
 use Rattle.scores.specs.Scored.{bad_entry}
 use Rattle.scores.proofs.first_bad_entry.Given as goal
 

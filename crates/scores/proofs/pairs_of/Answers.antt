@@ -1,7 +1,6 @@
 -- `scores::pairs_of` meets its contract: twice the pairs, and the places, make the square of the places, which is at most 512 * 512.
-use Prim.Native.Nat.{ℕ, ◌+◌, ◌*◌, ◌≤◌, min}
+use Prim.Native.Nat.{◌+◌, ◌*◌, min}
 use native.Mathlib.Omega.{arith}
-use native.Mathlib.Nat.{mul-le-mul}
 use mathlib.Core.Path.{◌≡◌}
 use Rattle.scores.specs.Scored.{pairs_of}
 use Rattle.scores.proofs.Pairing.{pairs_half}

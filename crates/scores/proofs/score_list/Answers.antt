@@ -4,7 +4,6 @@ use Rattle.scores.specs.Scored.{tallied_of, scored_for, scored_of}
 use Rattle.scores.specs.Answers.{score_answer}
 use Rattle.scores.specs.declared.Scored.TheVariants as S
 use Rattle.scores.proofs.Answers.{tally_same}
-use borrow.Author.Rules.{rules}
 use Rattle.scores.proofs.score_list.Goals as goal
 
 pub returns-in-Of : goal.returns-in-Of

@@ -3,7 +3,6 @@ use Prim.Native.Nat.{ℕ}
 use mathlib.Core.Path.{ap, ap₂, ◌∙◌}
 use Rattle.scores.specs.Scored.{score, scores_for}
 use Rattle.scores.specs.declared.Score.{Score}
-use borrow.Author.Rules.{rules}
 use Rattle.scores.proofs.scores_of.Goals as goal
 
 pub returns : goal.returns

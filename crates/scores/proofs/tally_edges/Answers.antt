@@ -1,14 +1,12 @@
-use Prim.Native.Nat.{ℕ, ◌+◌, ◌*◌, ◌-◌, ◌≤◌}
+use Prim.Native.Nat.{ℕ, ◌+◌, ◌*◌, ◌≤◌}
 use native.Mathlib.Omega.{arith}
 use mathlib.Core.Path.{◌≡◌, sym, ap, ap₂, ◌∙◌}
-use mathlib.Core.List.{List}
 use lib.Dec.{leb}
 use lib.ListN.{get_or}
 use Rattle.fields.specs.declared.Ends.{Ends}
 use Rattle.sets.specs.Below.{bit}
 use Rattle.image.specs.Image.{end_a, end_b}
 use Rattle.community.specs.Scores.{every_edge, just_one}
-use Rattle.scores.specs.ForProofs.{joined_sum, leaving_sum}
 use Rattle.sets.proofs.Counting.{bit_le}
 use Rattle.scores.proofs.Entries.{joined_none, leaving_none, joined_more, leaving_more, joined_le, leaving_le, ties_le}
 use Rattle.scores.proofs.tally_edges.Goals as goal

@@ -1,27 +1,21 @@
 -- `scores::tally_list` meets its contract: a refused image gives its refusal. An opened one is accepted, the scan of the entries stops at the first bad
 -- one, or there is none and the list is within its limits, and the slice from the offset to the end of the edge records is theirs.
-use Prim.Native.Nat.{ℕ, ◌+◌, ◌*◌, ◌≤◌}
-use native.Mathlib.Omega.{arith}
+use Prim.Native.Nat.{◌+◌, ◌*◌, ◌≤◌}
 use mathlib.Core.Path.{◌≡◌, sym, ap, ◌∙◌}
-use mathlib.Core.List.{List}
 use lib.ListN.{length}
-use Rattle.sets.specs.Below.{find}
 use Rattle.fields.specs.Fields.{edge_bytes}
 use Rattle.limits.specs.Limits.{handsets_most, edges_most}
 use Rattle.image.proofs.Answers.{open_same}
 use Rattle.image.proofs.Records.{edge_slice}
 use Rattle.image.specs.Questions.{open_of, refusal_of}
-use Rattle.image.specs.declared.Header.{Header}
 use Rattle.image.specs.declared.Opened.TheVariants as O
 use Rattle.community.specs.Scores.{every_edge}
-use Rattle.scores.specs.Scored.{bad_entry}
 use Rattle.scores.specs.Answers.{tally_answer}
 use Rattle.scores.specs.ForProofs.{tally_at}
 use Rattle.scores.specs.declared.Tally.{Tally}
 use Rattle.scores.specs.declared.Tallied.TheVariants as T
 use Rattle.scores.proofs.Entries.{listed, entries_no, none_bad, entries_yes}
 use Rattle.scores.proofs.Tallying.{site_fits, site_tallied, site_refused}
-use borrow.Author.Rules.{rules}
 use Rattle.scores.proofs.tally_list.Goals as goal
 
 pub returns-in_default : goal.returns-in_default

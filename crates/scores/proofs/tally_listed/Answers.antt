@@ -1,12 +1,9 @@
 -- `scores::tally_listed` meets its contract: the table holds the list's multiplicities, and the counts by it are the tally.
-use Prim.Native.Nat.{ℕ}
-use mathlib.Core.List.{List}
 use mathlib.Core.Path.{refl}
 use Rattle.community.specs.Scores.{every_edge}
 use Rattle.scores.specs.ForProofs.{Multiplicities}
 use Rattle.scores.proofs.Pairing.{pairs_few}
 use Rattle.scores.proofs.Entries.{counted, table_le, table_tally}
-use borrow.Author.Rules.{rules}
 use Rattle.scores.proofs.tally_listed.Goals as goal
 
 pub tally_edges-requires : goal.tally_edges-requires

@@ -1,11 +1,8 @@
-use Prim.Native.Nat.{ℕ, ◌/◌, ◌<◌}
-use mathlib.Core.Path.{◌≡◌, refl, sym, ap, ◌∙◌, subst}
+use Prim.Native.Nat.{ℕ, ◌<◌}
+use mathlib.Core.Path.{◌≡◌, ap, ◌∙◌, subst}
 use mathlib.Core.List.{List}
 use native.Mathlib.Omega.{arith}
-use borrow.Author.Rules.{rules}
-use lib.ListN.{length, set, length-set}
-use Rattle.sets.specs.Below.{sum}
-use Rattle.sets.specs.Bits.{bit_at}
+use lib.ListN.{length}
 use Rattle.sets.proofs.Bits.{length_without_bit}
 use Rattle.search.proofs.Growth.{Growing, growing_start, growing_on, growing_falls, growing_end}
 use Rattle.search.proofs.collect.Goals as goal

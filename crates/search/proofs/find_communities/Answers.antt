@@ -1,14 +1,9 @@
-use Prim.Native.Nat.{ℕ}
-use mathlib.Core.Path.{◌≡◌, refl, sym, ◌∙◌, subst}
+use mathlib.Core.Path.{◌≡◌, sym, ◌∙◌, subst}
 use mathlib.Core.Bool.{Bool, true, false, ◌||◌, not}
-use native.Mathlib.Omega.{arith}
 use lib.Dec.{T, eqb, eqb→eq}
 use lib.ListN.{length}
-use Rattle.sets.specs.Below.{sum}
-use Rattle.sets.specs.Bits.{bit_at}
-use Rattle.sets.proofs.Tests.{eqb_of}
 use Rattle.search.specs.Search.{Sized}
-use Rattle.search.proofs.Closures.{Finding, finding_start, finding_falls, finding_on, finding_end}
+use Rattle.search.proofs.Closures.{finding_start, finding_falls, finding_on, finding_end}
 use Rattle.search.proofs.find_communities.Goals as goal
 
 -- the guard's test fails where both sizes are right

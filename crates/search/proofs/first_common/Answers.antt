@@ -1,11 +1,11 @@
-use Prim.Native.Nat.{ℕ, ◌≤◌, ◌<◌, ◌-◌}
+use Prim.Native.Nat.{ℕ, ◌<◌}
 use mathlib.Core.Path.{◌≡◌}
 use lib.Bits.{bit_and, and_lt}
 use lib.Count.{count_trailing_zeros}
 use lib.ListN.{get_or}
 use native.Mathlib.Omega.{arith}
 use Rattle.sets.proofs.Lowest.{Lowest, lowest}
-use Rattle.search.proofs.Growth.{NoneCommon, none_more, common_found}
+use Rattle.search.proofs.Growth.{none_more, common_found}
 use Rattle.search.proofs.first_common.Goals as goal
 
 pub returns-then-both-ne0 : goal.returns-then-both-ne0

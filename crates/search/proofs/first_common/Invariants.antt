@@ -1,13 +1,7 @@
 -- `search::first_common` meets its contract. No number of the words passed is in both sets, and the lowest bit of the first `and` that
 -- is not 0 is the first number in both. The measure is the number of words left.
-use Prim.Native.Nat.{ℕ, ◌≤◌, ◌<◌, ◌-◌}
-use mathlib.Core.Path.{◌≡◌}
-use lib.Bits.{bit_and, and_lt}
-use lib.Count.{count_trailing_zeros}
-use lib.ListN.{get_or}
-use native.Mathlib.Omega.{arith}
-use Rattle.sets.proofs.Lowest.{Lowest, lowest}
-use Rattle.search.proofs.Growth.{NoneCommon, none_more, common_found}
+use Prim.Native.Nat.{◌≤◌, ◌-◌}
+use Rattle.search.proofs.Growth.{NoneCommon}
 use Rattle.search.proofs.first_common.Given as goal
 
 abbrev pub invariant-loop-j : goal.invariant-loop-j

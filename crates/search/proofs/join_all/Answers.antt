@@ -1,12 +1,8 @@
-use Prim.Native.Nat.{ℕ, ◌<◌}
-use mathlib.Core.Path.{sym, ◌∙◌}
+use Prim.Native.Nat.{◌<◌}
 use native.Mathlib.Omega.{arith}
-use borrow.Author.Rules.{rules}
 use lib.Count.{count_trailing_zeros}
-use Rattle.sets.specs.Below.{sum}
-use Rattle.sets.specs.Bits.{bit_of}
 use Rattle.sets.proofs.Lowest.{Lowest, lowest, cleared_falls}
-use Rattle.search.proofs.Growth.{Adding, adding_start, adding_on, adding_end}
+use Rattle.search.proofs.Growth.{adding_on, adding_end}
 use Rattle.search.proofs.join_all.Goals as goal
 
 pub loop-w-smaller : goal.loop-w-smaller

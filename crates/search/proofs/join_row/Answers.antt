@@ -1,7 +1,4 @@
-use Prim.Native.Nat.{◌-◌}
-use mathlib.Core.Path.{◌∙◌, sym}
-use native.Mathlib.Omega.{arith}
-use Rattle.search.proofs.Growth.{Joining, joining_start, joining_on, joining_end}
+use Rattle.search.proofs.Growth.{joining_end}
 use Rattle.search.proofs.join_row.Goals as goal
 
 pub returns : goal.returns

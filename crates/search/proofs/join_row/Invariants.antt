@@ -1,9 +1,7 @@
 -- `search::join_row` meets its contract. The words before j are or'ed with the row's, and the others are as they were. The measure is the number of words
 -- left.
 use Prim.Native.Nat.{◌-◌}
-use mathlib.Core.Path.{◌∙◌, sym}
-use native.Mathlib.Omega.{arith}
-use Rattle.search.proofs.Growth.{Joining, joining_start, joining_on, joining_end}
+use Rattle.search.proofs.Growth.{Joining}
 use Rattle.search.proofs.join_row.Given as goal
 
 abbrev pub invariant-loop-j : goal.invariant-loop-j

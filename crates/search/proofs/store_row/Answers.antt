@@ -1,6 +1,4 @@
-use Prim.Native.Nat.{◌-◌}
-use native.Mathlib.Omega.{arith}
-use Rattle.search.proofs.Growth.{Storing, storing_start, storing_on, storing_end}
+use Rattle.search.proofs.Growth.{storing_end}
 use Rattle.search.proofs.store_row.Goals as goal
 
 pub returns : goal.returns

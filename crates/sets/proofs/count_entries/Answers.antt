@@ -1,11 +1,8 @@
-use Prim.Native.Nat.{ℕ, ◌≤◌, ◌<◌, ◌-◌}
+use Prim.Native.Nat.{ℕ}
 use native.Mathlib.Omega.{arith}
-use mathlib.Core.Path.{◌≡◌, ap, ◌∙◌}
-use mathlib.Core.Logic.{⊎_elim}
-use mathlib.Core.List.{List}
+use mathlib.Core.Path.{ap, ◌∙◌}
 use lib.ListN.{length, get_or, length-set, length-replicate}
-use borrow.Author.Rules.{rules}
-use Rattle.sets.proofs.Entries.{counted_to, counted_none, counted_more, counted_past, counted_room, counted_all}
+use Rattle.sets.proofs.Entries.{counted_none, counted_more, counted_past, counted_room, counted_all}
 use Rattle.sets.proofs.count_entries.Goals.{then-v-lt512, else-v-lt512}
 use Rattle.sets.proofs.count_entries.Goals as goal
 

@@ -1,13 +1,9 @@
 -- `sets::count_entries` meets its contract. After i entries place v holds how often v stands among them, which is at most i. The measure is the count of
 -- entries left.
 use Prim.Native.Nat.{ℕ, ◌≤◌, ◌<◌, ◌-◌}
-use native.Mathlib.Omega.{arith}
-use mathlib.Core.Path.{◌≡◌, ap, ◌∙◌}
-use mathlib.Core.Logic.{⊎_elim}
-use mathlib.Core.List.{List}
-use lib.ListN.{length, get_or, length-set, length-replicate}
-use borrow.Author.Rules.{rules}
-use Rattle.sets.proofs.Entries.{counted_to, counted_none, counted_more, counted_past, counted_room, counted_all}
+use mathlib.Core.Path.{◌≡◌}
+use lib.ListN.{length, get_or}
+use Rattle.sets.proofs.Entries.{counted_to}
 use Rattle.sets.proofs.count_entries.Given as goal
 
 abbrev pub invariant-loop-i : goal.invariant-loop-i

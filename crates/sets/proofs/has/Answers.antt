@@ -2,7 +2,6 @@
 use mathlib.Core.Path.{refl, sym, ap}
 use Prim.Native.Nat.{ℕ}
 use native.Mathlib.Omega.{arith}
-use borrow.Author.Rules.{rules}
 use lib.Dec.{eqb}
 use Rattle.sets.specs.Bits.{bit_at, bit_of}
 use Rattle.sets.proofs.Bits.{bit_at_past}

@@ -1,19 +1,12 @@
-use Prim.Native.Nat.{ℕ, ◌≤◌, ◌<◌, ◌+◌, ◌*◌, ◌-◌, ◌/◌, min}
+use Prim.Native.Nat.{ℕ, ◌≤◌, ◌+◌, ◌*◌, min}
 use native.Mathlib.Omega.{arith}
-use native.Mathlib.Nat.{add-zero}
-use native.Mathlib.Decide.{dec_lt}
 use mathlib.Core.Path.{◌≡◌, refl, sym, ap, ap₂, ◌∙◌}
-use mathlib.Core.Logic.{◌⊎◌, inl, inr, ⊎_elim}
-use mathlib.Core.List.{List}
 use lib.Bits.{bit_and, and_lt}
 use lib.Count.{ones, ones-le}
-use lib.ListN.{length, get_or}
-use borrow.Author.Rules.{rules}
+use lib.ListN.{get_or}
 use Rattle.sets.specs.Below.{sum}
 use Rattle.sets.specs.Bits.{bit_at}
-use Rattle.sets.proofs.Counting.{sum_cong, sum_zero}
-use Rattle.sets.proofs.Bits.{bit_at_past, bit_of_and, word_bit, sum_word, sum_split}
-use Rattle.similarity.specs.Similarity.{in_both}
+use Rattle.sets.proofs.Bits.{bit_of_and, word_bit, sum_word}
 use Rattle.similarity.proofs.common.Invariants.{shared, past}
 use Rattle.similarity.proofs.common.Goals as goal
 

@@ -5,7 +5,6 @@ use native.Mathlib.Omega.{arith}
 use mathlib.Core.Path.{◌≡◌, sym, ap, ◌∙◌, subst}
 use mathlib.Core.List.{List}
 use lib.ListN.{length}
-use borrow.Author.Rules.{rules}
 use Rattle.community.specs.Tables.{member_table}
 use Rattle.rows.specs.Rows.{rows_of}
 use Rattle.rows.specs.declared.Counts.{Counts}

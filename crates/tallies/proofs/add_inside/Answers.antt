@@ -1,15 +1,12 @@
-use Prim.Native.Nat.{ℕ, ◌+◌, ◌*◌, ◌^◌, ◌<◌, max}
+use Prim.Native.Nat.{ℕ, ◌+◌, ◌*◌, ◌<◌, max}
 use native.Mathlib.Omega.{arith}
-use mathlib.Core.Path.{◌≡◌, refl, sym, ap, ◌∙◌}
+use mathlib.Core.Path.{◌≡◌, sym, ap, ◌∙◌}
 use lib.ListN.{length, get_or, set, length-set}
 use lib.Count.{count_trailing_zeros}
-use Rattle.sets.specs.Below.{sum}
-use Rattle.sets.specs.Bits.{bit_of}
 use Rattle.sets.proofs.Lowest.{Lowest, cleared, lowest, cleared_lt, cleared_falls}
 use Rattle.tallies.specs.ForProofs.{bit_for}
 use Rattle.tallies.proofs.Words.{bit_for_le, bit_for_at, raised_more, raised_done}
 use Rattle.tallies.proofs.Reaching.{raised_to_more, raised_to_done}
-use borrow.Author.Rules.{rules}
 use Rattle.tallies.proofs.add_inside.Goals as goal
 
 pub overflow_add-tallies : goal.overflow_add-tallies

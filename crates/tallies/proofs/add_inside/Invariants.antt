@@ -1,17 +1,11 @@
 -- `tallies::add_inside` meets its contract. The invariant: what a place holds, with what the rest of the word has for it, is what it held with what the word has for
 -- it. A turn counts at the place of the lowest set bit, raises the reach there and clears the bit; the measure is the sum of the bits left.
 use Prim.Native.Nat.{ℕ, ◌+◌, ◌*◌, ◌^◌, ◌<◌, max}
-use native.Mathlib.Omega.{arith}
-use mathlib.Core.Path.{◌≡◌, refl, sym, ap, ◌∙◌}
-use lib.ListN.{length, get_or, set, length-set}
-use lib.Count.{count_trailing_zeros}
+use mathlib.Core.Path.{◌≡◌}
+use lib.ListN.{length, get_or}
 use Rattle.sets.specs.Below.{sum}
 use Rattle.sets.specs.Bits.{bit_of}
-use Rattle.sets.proofs.Lowest.{Lowest, cleared, lowest, cleared_lt, cleared_falls}
 use Rattle.tallies.specs.ForProofs.{bit_for}
-use Rattle.tallies.proofs.Words.{bit_for_le, bit_for_at, raised_more, raised_done}
-use Rattle.tallies.proofs.Reaching.{raised_to_more, raised_to_done}
-use borrow.Author.Rules.{rules}
 use Rattle.tallies.proofs.add_inside.Given as goal
 
 abbrev pub invariant-loop-w : goal.invariant-loop-w

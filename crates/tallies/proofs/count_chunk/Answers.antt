@@ -1,15 +1,14 @@
 -- `tallies::count_chunk` meets its contract: the words say which of the 64 groups each handset is in, so that the edges counted by them are the groups' edges, and the
 -- degrees summed are the ends among their members.
-use Prim.Native.Nat.{ℕ, ◌+◌}
+use Prim.Native.Nat.{ℕ}
 use native.Mathlib.Omega.{arith}
-use mathlib.Core.Path.{refl, ◌∙◌, subst}
+use mathlib.Core.Path.{refl, subst}
 use mathlib.Core.List.{List}
 use Rattle.community.specs.Scores.{every_edge}
 use Rattle.tallies.specs.ForProofs.{WordsHold, RowsSummed}
 use Rattle.tallies.proofs.Words.{in_rows}
 use Rattle.tallies.proofs.Degrees.{degrees_fit}
-use Rattle.tallies.proofs.Reaching.{progress_first, progress_chunk}
-use borrow.Author.Rules.{rules}
+use Rattle.tallies.proofs.Reaching.{progress_chunk}
 use Rattle.tallies.proofs.count_chunk.Goals as goal
 
 pub mark_rows-requires : goal.mark_rows-requires

@@ -1,13 +1,11 @@
-use Prim.Native.Nat.{ℕ, ◌+◌, ◌-◌, ◌≤◌}
+use Prim.Native.Nat.{ℕ}
 use native.Mathlib.Omega.{arith}
 use mathlib.Core.Path.{◌≡◌, refl, sym, ap, subst}
-use lib.ListN.{length, get_or, length-replicate}
 use Rattle.fields.specs.declared.Ends.{Ends}
 use Rattle.image.specs.Image.{end_a, end_b}
 use Rattle.community.specs.Scores.{every_edge}
-use Rattle.tallies.specs.ForProofs.{DegreesHold, degree_most}
+use Rattle.tallies.specs.ForProofs.{DegreesHold}
 use Rattle.tallies.proofs.Degrees.{degrees_none, degrees_more, degrees_fit, degrees_room, added_le}
-use borrow.Author.Rules.{rules}
 use Rattle.tallies.proofs.count_degrees.Goals as goal
 
 pub loop-k-init : goal.loop-k-init

@@ -1,10 +1,6 @@
-use Prim.Native.Nat.{◌+◌, ◌-◌, ◌%◌, ◌≤◌}
 use native.Mathlib.Omega.{arith}
-use mathlib.Core.Path.{◌≡◌, refl}
-use Rattle.community.specs.Scores.{every_edge}
-use Rattle.tallies.specs.ForProofs.{DegreesHold, Progress}
+use mathlib.Core.Path.{refl}
 use Rattle.tallies.proofs.Reaching.{progress_none, inside_fits, groups_counted, groups_reach}
-use borrow.Author.Rules.{rules}
 use Rattle.tallies.proofs.count_groups.Goals as goal
 
 pub loop-first-init : goal.loop-first-init

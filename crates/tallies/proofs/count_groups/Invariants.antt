@@ -1,12 +1,9 @@
 -- `tallies::count_groups` meets its contract. The degrees are counted first; after a turn 64 more groups are counted, and in the end the edges inside are taken out of the
 -- ends. The measure is the number of groups left.
-use Prim.Native.Nat.{◌+◌, ◌-◌, ◌%◌, ◌≤◌}
-use native.Mathlib.Omega.{arith}
-use mathlib.Core.Path.{◌≡◌, refl}
+use Prim.Native.Nat.{◌-◌, ◌%◌, ◌≤◌}
+use mathlib.Core.Path.{◌≡◌}
 use Rattle.community.specs.Scores.{every_edge}
 use Rattle.tallies.specs.ForProofs.{DegreesHold, Progress}
-use Rattle.tallies.proofs.Reaching.{progress_none, inside_fits, groups_counted, groups_reach}
-use borrow.Author.Rules.{rules}
 use Rattle.tallies.proofs.count_groups.Given as goal
 
 abbrev pub invariant-loop-first : goal.invariant-loop-first

@@ -1,17 +1,16 @@
-use Prim.Native.Nat.{ℕ, ◌+◌, ◌*◌, ◌-◌, ◌≤◌, ◌<◌, max}
+use Prim.Native.Nat.{ℕ, ◌+◌, ◌*◌, ◌<◌, max}
 use native.Mathlib.Omega.{arith}
 use mathlib.Core.Path.{◌≡◌, refl, sym, ap, ap₂, ◌∙◌}
 use mathlib.Core.Bool.{Bool, cond}
 use mathlib.Core.List.{List}
 use lib.Dec.{eqb}
-use lib.ListN.{length, get_or}
+use lib.ListN.{get_or}
 use borrow.Author.Tests.{le-ltb}
 use Rattle.sets.specs.Below.{bit}
 use Rattle.sets.specs.Bits.{bit_at}
 use Rattle.tallies.specs.ForProofs.{degree_sum, bit_for}
 use Rattle.tallies.proofs.Words.{up_to, up_to_le, row_none, row_more, row_next, row_all}
 use Rattle.tallies.proofs.Degrees.{degree_sum_le, degree_sum_cong, degree_sum_add, degree_sum_none}
-use borrow.Author.Rules.{rules}
 use Rattle.tallies.proofs.mark_row.Goals as goal
 
 -- the sum with one word's degrees more

@@ -1,19 +1,13 @@
 -- `tallies::mark_row` meets its contract. After j turns the members in the first j words of the row are marked and their degrees summed. The measure is the number of
 -- words left.
 use Prim.Native.Nat.{ℕ, ◌+◌, ◌*◌, ◌-◌, ◌≤◌, ◌<◌, max}
-use native.Mathlib.Omega.{arith}
-use mathlib.Core.Path.{◌≡◌, refl, sym, ap, ap₂, ◌∙◌}
-use mathlib.Core.Bool.{Bool, cond}
-use mathlib.Core.List.{List}
+use mathlib.Core.Path.{◌≡◌}
 use lib.Dec.{eqb}
-use lib.ListN.{length, get_or}
-use borrow.Author.Tests.{le-ltb}
+use lib.ListN.{length}
 use Rattle.sets.specs.Below.{bit}
 use Rattle.sets.specs.Bits.{bit_at}
-use Rattle.tallies.specs.ForProofs.{degree_sum, bit_for}
-use Rattle.tallies.proofs.Words.{up_to, up_to_le, row_none, row_more, row_next, row_all}
-use Rattle.tallies.proofs.Degrees.{degree_sum_le, degree_sum_cong, degree_sum_add, degree_sum_none}
-use borrow.Author.Rules.{rules}
+use Rattle.tallies.specs.ForProofs.{degree_sum}
+use Rattle.tallies.proofs.Words.{up_to}
 use Rattle.tallies.proofs.mark_row.Given as goal
 
 abbrev pub invariant-loop-j : goal.invariant-loop-j

@@ -1,11 +1,9 @@
-use Prim.Native.Nat.{ℕ, ◌+◌, ◌-◌, ◌≤◌, ◌<◌}
+use Prim.Native.Nat.{◌+◌, ◌<◌}
 use native.Mathlib.Omega.{arith}
-use mathlib.Core.Path.{◌≡◌, sym, ap, ◌∙◌, subst}
-use lib.ListN.{length, length-replicate}
-use Rattle.tallies.specs.ForProofs.{WordsHold, RowsSummed}
+use mathlib.Core.Path.{sym, subst}
+use Rattle.tallies.specs.ForProofs.{WordsHold}
 use Rattle.tallies.proofs.Words.{in_rows, words_none, words_next}
 use Rattle.tallies.proofs.Degrees.{summed_none, summed_more}
-use borrow.Author.Rules.{rules}
 use Rattle.tallies.proofs.mark_rows.Goals as goal
 
 pub loop-i-init : goal.loop-i-init

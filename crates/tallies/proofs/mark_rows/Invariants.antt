@@ -1,13 +1,8 @@
 -- `tallies::mark_rows` meets its contract. After i turns the words have the bits of the first i rows, and the table the sums of their degrees. The measure is the number
 -- of rows left.
-use Prim.Native.Nat.{ℕ, ◌+◌, ◌-◌, ◌≤◌, ◌<◌}
-use native.Mathlib.Omega.{arith}
-use mathlib.Core.Path.{◌≡◌, sym, ap, ◌∙◌, subst}
-use lib.ListN.{length, length-replicate}
+use Prim.Native.Nat.{◌-◌, ◌≤◌}
 use Rattle.tallies.specs.ForProofs.{WordsHold, RowsSummed}
-use Rattle.tallies.proofs.Words.{in_rows, words_none, words_next}
-use Rattle.tallies.proofs.Degrees.{summed_none, summed_more}
-use borrow.Author.Rules.{rules}
+use Rattle.tallies.proofs.Words.{in_rows}
 use Rattle.tallies.proofs.mark_rows.Given as goal
 
 abbrev pub invariant-loop-i : goal.invariant-loop-i

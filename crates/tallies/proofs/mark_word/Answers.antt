@@ -1,19 +1,17 @@
-use Prim.Native.Nat.{ℕ, ◌+◌, ◌*◌, ◌^◌, ◌<◌, max}
+use Prim.Native.Nat.{ℕ, ◌+◌, ◌*◌, ◌<◌, max}
 use native.Mathlib.Omega.{arith}
-use mathlib.Core.Path.{◌≡◌, refl, sym, ap, ◌∙◌}
+use mathlib.Core.Path.{◌≡◌, sym, ap, ◌∙◌}
 use mathlib.Core.List.{List}
 use lib.Count.{count_trailing_zeros}
 use lib.Dec.{eqb}
 use lib.ListN.{length, get_or}
 use Rattle.sets.specs.Below.{bit}
-use Rattle.sets.specs.Below as Below
-use Rattle.sets.specs.Bits.{bit_of, bit_at}
+use Rattle.sets.specs.Bits.{bit_at}
 use Rattle.sets.proofs.Bits.{length_with_bit}
 use Rattle.sets.proofs.Lowest.{Lowest, cleared, lowest, cleared_lt, cleared_falls}
 use Rattle.tallies.specs.ForProofs.{degree_sum, bit_for}
 use Rattle.tallies.proofs.Words.{bit_for_le, marked_more, marked_done}
 use Rattle.tallies.proofs.Degrees.{degree_sum_le, sum_cleared, sum_done}
-use borrow.Author.Rules.{rules}
 use Rattle.tallies.proofs.mark_word.Goals as goal
 
 pub overflow_add-sum : goal.overflow_add-sum

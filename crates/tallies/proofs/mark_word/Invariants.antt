@@ -1,21 +1,13 @@
 -- `tallies::mark_word` meets its contract. The invariant: what the words hold, with what the rest of the word has for them, is what they held with what the word has
 -- for them, and so for the sum of the degrees. A turn marks the handset of the lowest set bit and clears it; the measure is the sum of the bits left.
 use Prim.Native.Nat.{ℕ, ◌+◌, ◌*◌, ◌^◌, ◌<◌, max}
-use native.Mathlib.Omega.{arith}
-use mathlib.Core.Path.{◌≡◌, refl, sym, ap, ◌∙◌}
-use mathlib.Core.List.{List}
-use lib.Count.{count_trailing_zeros}
+use mathlib.Core.Path.{◌≡◌}
 use lib.Dec.{eqb}
-use lib.ListN.{length, get_or}
+use lib.ListN.{length}
 use Rattle.sets.specs.Below.{bit}
 use Rattle.sets.specs.Below as Below
 use Rattle.sets.specs.Bits.{bit_of, bit_at}
-use Rattle.sets.proofs.Bits.{length_with_bit}
-use Rattle.sets.proofs.Lowest.{Lowest, cleared, lowest, cleared_lt, cleared_falls}
 use Rattle.tallies.specs.ForProofs.{degree_sum, bit_for}
-use Rattle.tallies.proofs.Words.{bit_for_le, marked_more, marked_done}
-use Rattle.tallies.proofs.Degrees.{degree_sum_le, sum_cleared, sum_done}
-use borrow.Author.Rules.{rules}
 use Rattle.tallies.proofs.mark_word.Given as goal
 
 abbrev pub invariant-loop-w : goal.invariant-loop-w

@@ -1,15 +1,7 @@
 -- `tallies::reach_inside` meets its contract. A near test tells no more than the limit, so that there is room for one more.
-use Prim.Native.Nat.{ℕ, ◌+◌}
 use native.Mathlib.Omega.{arith}
-use native.Mathlib.Numerals.{add-one}
-use mathlib.Core.Path.{◌≡◌, sym, ap, ◌∙◌}
-use mathlib.Core.Bool.{Bool, false, cond}
-use lib.Dec.{eqb}
-use borrow.Author.Tests.{eq-eqb, ne_eqb}
-use Rattle.near.specs.Near.{ends_proximity}
-use Rattle.tallies.specs.Tallies.{reach_entry}
+use mathlib.Core.Path.{sym, ◌∙◌}
 use Rattle.near.proofs.Edges.{ends_most}
-use borrow.Author.Rules.{rules}
 use Rattle.tallies.proofs.reach_inside.Goals as goal
 
 pub overflow_add-result : goal.overflow_add-result

@@ -1,10 +1,8 @@
-use Prim.Native.Nat.{ℕ, ◌+◌, ◌*◌, ◌-◌, ◌≤◌, ◌<◌}
+use Prim.Native.Nat.{◌<◌}
 use native.Mathlib.Omega.{arith}
-use mathlib.Core.Path.{◌≡◌, subst}
-use lib.ListN.{length, get_or}
-use Rattle.tallies.specs.ForProofs.{InsideTaken}
-use Rattle.tallies.proofs.Degrees.{taken_none, taken_more}
-use borrow.Author.Rules.{rules}
+use mathlib.Core.Path.{◌≡◌}
+use lib.ListN.{length}
+use Rattle.tallies.proofs.Degrees.{taken_more}
 use Rattle.tallies.proofs.take_inside.Goals as goal
 
 pub loop-k-preserved : goal.loop-k-preserved

@@ -1,11 +1,6 @@
 -- `tallies::take_inside` meets its contract. After k turns the edges inside the first k groups are taken out. The measure is the number of groups left.
-use Prim.Native.Nat.{ℕ, ◌+◌, ◌*◌, ◌-◌, ◌≤◌, ◌<◌}
-use native.Mathlib.Omega.{arith}
-use mathlib.Core.Path.{◌≡◌, subst}
-use lib.ListN.{length, get_or}
+use Prim.Native.Nat.{◌-◌, ◌≤◌}
 use Rattle.tallies.specs.ForProofs.{InsideTaken}
-use Rattle.tallies.proofs.Degrees.{taken_none, taken_more}
-use borrow.Author.Rules.{rules}
 use Rattle.tallies.proofs.take_inside.Given as goal
 
 abbrev pub invariant-loop-k : goal.invariant-loop-k
