@@ -6,7 +6,7 @@
 --     filled_written, filled_refused       a text that is written where it fits; filled_same: the same of an equal text
 --     program_long                         an input of more than 65,536 bytes
 --     program_written, program_refused     what the program prints after either answer
-use Prim.Native.Nat.{ℕ, ◌+◌, ◌≤◌, ◌<◌}
+use Prim.Native.Nat.{ℕ, ◌≤◌, ◌<◌}
 use native.Mathlib.Omega.{arith}
 use mathlib.Core.Path.{◌≡◌, refl, sym, ap, ◌∙◌, subst}
 use mathlib.Core.Bool.{Bool, true, false, cond}

@@ -1,10 +1,6 @@
 use native.Mathlib.Omega.{arith}
-use Prim.Native.Nat.{ℕ, ◌-◌, ◌≤◌, ◌<◌}
-use mathlib.Core.Path.{ap, ◌∙◌}
+use Prim.Native.Nat.{ℕ, ◌≤◌, ◌<◌}
 use mathlib.Core.List.{List}
-use lib.ListN.{length}
-use lib.Seq.{length-sets}
-use Rattle.text.specs.Text.{Wrote}
 use Rattle.text.proofs.Writing.{chain, nothing}
 use Rattle.lines.specs.Lines.{table_lines}
 use Rattle.lines.proofs.Lines.{row_elements, row_few, lines_more, text_written}

@@ -1,15 +1,8 @@
 -- `lines::put_report` meets its contract: line one, the groups, the cores, the outliers, the totals. After k steps of the loop the lines of the first k
 -- groups are written. The measure is the count of groups left.
-use native.Mathlib.Omega.{arith}
-use Prim.Native.Nat.{ℕ, ◌-◌, ◌≤◌, ◌<◌}
-use mathlib.Core.Path.{ap, ◌∙◌}
-use mathlib.Core.List.{List}
-use lib.ListN.{length}
-use lib.Seq.{length-sets}
+use Prim.Native.Nat.{◌-◌, ◌≤◌}
 use Rattle.text.specs.Text.{Wrote}
-use Rattle.text.proofs.Writing.{chain, nothing}
 use Rattle.lines.specs.Lines.{table_lines}
-use Rattle.lines.proofs.Lines.{row_elements, row_few, lines_more, text_written}
 use Rattle.lines.proofs.put_report.Given as goal
 
 abbrev pub invariant-loop-k : goal.invariant-loop-k

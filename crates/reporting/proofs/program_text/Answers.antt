@@ -3,7 +3,6 @@ use native.Mathlib.Omega.{arith}
 use Prim.Native.Nat.{◌<◌}
 use lib.ListN.{length}
 use Rattle.reporting.proofs.Answers.{program_long, program_written, program_refused}
-use borrow.Author.Rules.{rules}
 use Rattle.reporting.proofs.program_text.Goals as goal
 
 pub returns-then-input-gt65536 : goal.returns-then-input-gt65536

@@ -1,12 +1,10 @@
 -- `reporting::report` meets its contract: an image that the reader refuses ends the call with its refusal, and the report of an accepted one is `report_groups`'s.
-use native.Mathlib.Omega.{arith}
 use mathlib.Core.Path.{◌≡◌, sym, ap, ◌∙◌}
 use Rattle.image.specs.Questions.{open_of, refusal_of}
 use Rattle.image.specs.declared.Opened.TheVariants as O
 use Rattle.image.proofs.Acceptance.{accepted}
 use Rattle.reporting.proofs.Whole.{rows_held}
 use Rattle.reporting.proofs.Answers.{site_answer_lem, refused_answer}
-use borrow.Author.Rules.{rules}
 use Rattle.reporting.proofs.report.Goals as goal
 
 pub returns-in_default : goal.returns-in_default

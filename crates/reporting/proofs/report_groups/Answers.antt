@@ -1,6 +1,4 @@
 -- `reporting::report_groups` meets its contract: the tables that its calls make are those of the image, and the text from them is the report's.
-use native.Mathlib.Omega.{arith}
-use Rattle.image.proofs.Acceptance.{handsets_fit, edges_fit}
 use Rattle.reporting.proofs.Whole.{rows_counted, text_held}
 use Rattle.reporting.proofs.Answers.{filled_same}
 use Rattle.reporting.proofs.report_groups.Goals as goal
