@@ -3,7 +3,7 @@
 --
 --     all_below                    the numbers below k that pass a test, once all of them are below b
 --     word_none, word_put          an empty word, and a word with one bit more, as the code makes it; word_cong: equal tests have equal words
---     below, below_lt, -first, -rest       a word with one bit more below its own, as the code makes it
+--     below, below_lt, _first, _rest       a word with one bit more below its own, as the code makes it
 --     bit_of_past, first_word       a word has no bit from 64 on; the word whose first c bits are set, as the code makes it
 --     others_word                  of the numbers that a word holds, those that another does not
 --     word_at, put_word            a word of a list, and the list with one word put

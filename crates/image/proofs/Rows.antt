@@ -1,6 +1,6 @@
 -- Tables of rows of bits, and the sizes of the rows. A bit more in a row is one more in its size, and changes no other row.
 --
---     cleared_room, -bit, -counted  a cleared table has room and no bit, and its sizes are those of its rows
+--     cleared_room, _bit, _counted  a cleared table has room and no bit, and its sizes are those of its rows
 --     counted_add                   the sizes with a bit more
 --     row_most                      no size is above 512
 --     zero_is                       a bit that the test for it tells to be 0

@@ -8,10 +8,10 @@
 --     number_below                       a number of w bytes is less than 256 ^ w
 --     le_read                            the bytes of a number that was read are those that stand there
 --     stored_there, stored_none          what a write leaves, by whether the bytes are there; length_stored: as many bytes as before
---     read-back                          the theorem of specs/Bytes
+--     read_back                          the theorem of specs/Bytes
 --     length_table_bytes, table_bytes_below    a table in bytes has w bytes a number, each less than 256
 --     number_table_bytes                 number k of a table in bytes is the table's
---     table_none, -more, -all            the loop that writes a table: at its start, after one number more, at its end
+--     table_none, _more, _all            the loop that writes a table: at its start, after one number more, at its end
 --     table_bytes_is                     bytes that hold a table's numbers are the table in bytes
 use Prim.Native.Nat.{ℕ, zero, suc, ◌+◌, ◌*◌, ◌/◌, ◌%◌, ◌^◌, ◌≤◌, ◌<◌}
 use native.Mathlib.Omega.{arith}

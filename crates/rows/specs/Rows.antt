@@ -3,7 +3,7 @@
 --     row_members rows k          the members of row k, ascending
 --     rows_of rows k              the members of each of the first k rows
 --     row_in rows k               the members of row k of the 512, ascending; none from 512 on
---     row_words rows k            the eight words of row k, whose members as row 0 are those of row k (proofs/Rows: row-words); none from 512 on
+--     row_words rows k            the eight words of row k, whose members as row 0 are those of row k (proofs/Rows: row_words_lem); none from 512 on
 --     counts_of gs                the counts of a plan of the communities gs
 --     MembersFound gs a b        the set a has the handsets in at least one of the lists, b those in at least two
 --     meets set l                some number below 512 is in the set and in the list

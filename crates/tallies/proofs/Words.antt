@@ -2,7 +2,7 @@
 -- by one, the lowest first.
 --
 --     where_is                      a place is before a word's 64, one of them, or past them
---     bit_for_at, -of, -before, -past, -le, -cleared     a bit by its place; it is at most 1; without its lowest bit, a word has the other bits that it had
+--     bit_for_at, _of, _before, _past, _le, _cleared     a bit by its place; it is at most 1; without its lowest bit, a word has the other bits that it had
 --     raised_more, raised_done      a table where the bits of a word are added, one bit more and none left
 --     marked_more, marked_done      the words where the bits of a word are marked, one bit more and none left
 --     up_to row j                    a row, up to its word j: row_none, row_more, row_next, row_all

@@ -6,7 +6,7 @@
 --     put_within           what is written is no longer than the draft; draft_image: and the slice of it that is handed to the reader is the image
 --     tables_site          a header as answer: the three questions got a yes, and it is that of the image
 --     encoded_by           the call's answer, by the answer to the tables; encoded_either: what holds of both answers to the tables holds of it
---     call_no, -short, -yes    so the call's outcome is as the definition has it
+--     call_no, _short, _yes    so the call's outcome is as the definition has it
 use Prim.Native.Nat.{ℕ, ◌-◌, ◌≤◌, ◌<◌}
 use native.Mathlib.Omega.{arith}
 use native.Mathlib.Nat.{sub-zero}
