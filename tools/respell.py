@@ -1,7 +1,7 @@
 #!/usr/bin/env python3
 """Respells the repository's own definitions and lemmas as today's Rattle does: words in snake case, types in camel case.
 
-usage: python3 tools/respell.py [--list]    at the top of the repository, once, after /opt/rattle/port/port.py
+usage: python3 tools/respell.py [--list]    at the top of the repository, once, after the kit's port.py
 
 A name is turned where it is one of the definitions, lemmas or fields that the files of specs/ and proofs/ declare, in the files below crates/ (must-fail edits too),
 and between backticks in the documents. Names of src/'s functions, of exported calls, of goals and of the library stay. The crate `bytes`, whose name the kit has
