@@ -6,3 +6,4 @@ pub mod Writing
 pub mod Lowest
 pub mod Words
 pub mod Entries
+pub mod Ascending

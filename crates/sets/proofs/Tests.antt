@@ -6,7 +6,8 @@ use mathlib.Core.Path.{◌≡◌, refl, sym, ap, ap₂, subst}
 use mathlib.Core.Logic.{◌⊎◌, inl, inr, ⊎_elim}
 use mathlib.Core.Bool.{Bool, true, false, ◌&&◌, ◌||◌, not, cond}
 use lib.Dec.{T, eqb, ltb, eqb→eq, ltb→lt, lt→ltb, eqb_refl, T_not, not_T}
-use Rattle.sets.specs.Below.{any, find}
+use Rattle.std.specs.Prelude.{Some, None}
+use Rattle.sets.specs.Below.{any, find, first}
 
 pub and_make : (a b : Bool) → T a → T b → T (a && b)
 and_make true b x y = y
@@ -158,3 +159,12 @@ pub passed_other : (k i : ℕ) (b : Bool) → (i ≡ k → ⊥) → (ltb i (k + 
 passed_other k i b d =
     ap (λ (x : Bool). x && b)
     (T-ext (ltb i (k + 1)) (ltb i k) (λ t. lt→ltb i k (omega (arith, ltb→lt i (k + 1) t, d))) (λ t. lt→ltb i (k + 1) (omega (arith, ltb→lt i k t))))
+
+-- ---- the first that passes, as an option
+pub first_is : (n : ℕ) (f : ℕ → Bool) (k : ℕ) → k < n → T (f k) → T (not (any k f)) → first n f ≡ Some k
+unfolding first
+first_is n f k h t z = ap₂ (λ (b : Bool) (v : ℕ). cond b (Some v) None) (T_true (any n f) (any_make n f k h t)) (find_is n f k h t z)
+
+pub first_none : (n : ℕ) (f : ℕ → Bool) → T (not (any n f)) → first n f ≡ None
+unfolding first
+first_none n f z = ap (λ (b : Bool). cond b (Some (find n f)) None) (T_false (any n f) z)

@@ -6,9 +6,10 @@
 --     sum n f       f 0 + .. + f (n - 1)
 --     select n f    the v below n that pass f, ascending
 --     find n f      the least v below n that passes f, or n where none does
+--     first n f     the same as an option: Some of the least v below n that passes f, None where none does
 --
 -- Each over a bound goes from the top, so that a loop that has come to n goes on to n + 1 by one clause. The laws are in proofs/: Tests, Counting, Selecting.
-use Rattle.std.specs.Prelude.{ℕ, zero, suc, ◌+◌, Bool, true, false, ◌||◌, cond, List, [], ◌∷◌, ◌++◌}
+use Rattle.std.specs.Prelude.{ℕ, zero, suc, ◌+◌, Bool, true, false, ◌||◌, cond, List, [], ◌∷◌, ◌++◌, Option, Some, None}
 
 unfoldable pub any : ℕ → (ℕ → Bool) → Bool
 any zero f = false
@@ -34,3 +35,7 @@ unfoldable pub find : ℕ → (ℕ → Bool) → ℕ
 unfolding any
 find zero f = 0
 find (suc n) f = cond (any n f) (find n f) (cond (f n) n (suc n))
+
+unfoldable pub first : ℕ → (ℕ → Bool) → Option ℕ
+unfolding any find
+first n f = cond (any n f) (Some (find n f)) None

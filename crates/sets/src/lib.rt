@@ -5,11 +5,19 @@
 #![tactic(auto)]
 
 ghost use Rattle.std.specs.Prelude.{◌≡◌, min, eqb};
-ghost use Rattle.sets.specs.Bits.{bit_at, with_bit, without_bit};
+ghost use Rattle.std.specs.Iterator.{YieldsFirst, item_count};
+ghost use Rattle.sets.specs.Bits.{bit_at, with_bit, without_bit, ones_of};
 ghost use Rattle.sets.specs.Entries.{EntriesCounted};
 
-// How many words a table of 512 rows has: eight to a row, one bit a handset.
+// How many words a set of handsets has, one bit a handset, and a table of 512 such sets, its rows.
+pub const ROW_WORDS: usize = 8;
+
 pub const TABLE_WORDS: usize = 4096;
+
+// A set of handsets, and a table of 512 of them.
+pub type Row = [u64; ROW_WORDS];
+
+pub type Table = [u64; TABLE_WORDS];
 
 // Adds i to the set.
 pub fn mark(words: &mut [u64], i: usize)
@@ -38,6 +46,36 @@ pub fn has(words: &[u64], i: usize) -> bool
         (words[i / 64] >> (i % 64)) % 2 == 1
     } else {
         false
+    }
+}
+
+// The numbers of a word's set bits, ascending. The word is what is left of it: each step takes its lowest set bit.
+#[derive(Clone, Copy)]
+pub struct SetBits {
+    pub word: u64,
+}
+
+// The numbers of the set bits of a word, ascending.
+pub fn set_bits(word: u64) -> SetBits
+    ensures { result.word ≡ word }
+{
+    SetBits { word }
+}
+
+impl Iterator for SetBits {
+    type Item = usize;
+
+    ghost next_gives = { YieldsFirst (λ s. ones_of s.word) };
+
+    ghost remaining = { item_count (λ s. ones_of s.word) };
+
+    fn next(&mut self) -> Option<usize> {
+        if self.word == 0 {
+            return None;
+        }
+        let lowest = u64::trailing_zeros(self.word) as usize;
+        self.word = self.word & (self.word - 1);
+        Some(lowest)
     }
 }
 
