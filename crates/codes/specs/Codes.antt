@@ -9,49 +9,44 @@
 --     report_code r      a report: the text's length, or the refusal's number made negative
 --
 -- Where a number might be larger than its share of the code, it is cut off at the end of that share. No call's answer is that large: divanegret/specs/Lossless.
-use Rattle.std.specs.Prelude.{ℕ, ◌+◌, ◌*◌, min, ℤ, pos, neg_ℤ}
+use Rattle.std.specs.Prelude.{ℕ, ◌+◌, ◌*◌, min, ℤ, pos, neg_ℤ, Err, Ok, Result}
 use Rattle.refusals.specs.Refusals.{refusal_code}
-use Rattle.image.specs.declared.Opened.{Opened}
-use Rattle.image.specs.declared.Opened.TheVariants as O
 use Rattle.community.specs.declared.Role.{Role}
 use Rattle.community.specs.declared.Role.TheVariants.{Core, Border, Outlier}
-use Rattle.tables.specs.declared.Planned.{Planned}
-use Rattle.tables.specs.declared.Planned.TheVariants as P
-use Rattle.planner.specs.declared.Known.{Known}
-use Rattle.planner.specs.declared.Known.TheVariants as K
-use Rattle.scores.specs.declared.Tallied.{Tallied}
-use Rattle.scores.specs.declared.Tallied.TheVariants as T
-use Rattle.reporting.specs.declared.Reported.{Reported}
-use Rattle.reporting.specs.declared.Reported.TheVariants as R
 use Rattle.nearest.specs.declared.Nearest.{Nearest}
+use Rattle.rows.specs.declared.Counts.{Counts}
+use Rattle.image.specs.declared.Header.{Header}
+use Rattle.image.specs.declared.Refusal.{Refusal}
+use Rattle.community.specs.declared.Standing.{Standing}
+use Rattle.scores.specs.declared.Tally.{Tally}
 use Rattle.nearest.specs.declared.Nearest.TheVariants as N
 
-abbrev pub open_code : Opened → ℤ
-open_code (O.Site h) = pos (h.n + 65536 * h.m)
-open_code (O.Refused r) = refusal_code r
+abbrev pub open_code : Result Header Refusal → ℤ
+open_code (Ok h) = pos (h.n + 65536 * h.m)
+open_code (Err r) = refusal_code r
 
-abbrev pub plan_code : Planned → ℤ
-plan_code (P.Made c) = pos (min c.groups 65535 + 65536 * min c.memberships 65535)
-plan_code (P.Refused r) = refusal_code r
+abbrev pub plan_code : Result Counts Refusal → ℤ
+plan_code (Ok c) = pos (min c.groups 65535 + 65536 * min c.memberships 65535)
+plan_code (Err r) = refusal_code r
 
 abbrev pub kind_code : Role → ℕ
 kind_code (Core k) = 0 + 65536 * min k 65535
 kind_code (Border k) = 1 + 65536 * min k 65535
 kind_code Outlier = 2
 
-abbrev pub role_code : Known → ℤ
-role_code (K.Handset x) = pos (kind_code x.role + 4294967296 * min x.neighbours 65535)
-role_code (K.Refused r) = refusal_code r
+abbrev pub role_code : Result Standing Refusal → ℤ
+role_code (Ok x) = pos (kind_code x.role + 4294967296 * min x.neighbours 65535)
+role_code (Err r) = refusal_code r
 
-abbrev pub tally_code : Tallied → ℤ
-tally_code (T.Of x) = pos (min x.leaving 65535 + 65536 * min x.joined 1048575 + 68719476736 * min x.pairs 1048575)
-tally_code (T.Refused r) = refusal_code r
+abbrev pub tally_code : Result Tally Refusal → ℤ
+tally_code (Ok x) = pos (min x.leaving 65535 + 65536 * min x.joined 1048575 + 68719476736 * min x.pairs 1048575)
+tally_code (Err r) = refusal_code r
 
 abbrev pub nearest_code : Nearest → ℤ
 nearest_code (N.Group k d) = pos (1 + 2 * min k 32767 + 65536 * min d 140737488355327)
 nearest_code N.NoGroups = pos 0
 nearest_code (N.Refused r) = refusal_code r
 
-abbrev pub report_code : Reported → ℤ
-report_code (R.Written n) = pos (min n 9223372036854775807)
-report_code (R.Refused r) = neg_ℤ (pos r.number)
+abbrev pub report_code : Result ℕ Refusal → ℤ
+report_code (Ok n) = pos (min n 9223372036854775807)
+report_code (Err r) = neg_ℤ (pos r.number)

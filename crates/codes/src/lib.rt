@@ -7,34 +7,32 @@
 ghost use Rattle.std.specs.Prelude.{◌≡◌, ◌<◌};
 ghost use Rattle.codes.specs.Codes.{open_code, plan_code, kind_code, role_code, tally_code, nearest_code, report_code};
 
-use community::Role;
-use image::Opened;
+use community::{Role, Standing};
+use image::{Header, Refusal};
 use nearest::Nearest;
-use planner::Known;
-use reporting::Reported;
-use scores::Tallied;
-use tables::Planned;
+use rows::Counts;
+use scores::Tally;
 
 // n and m of an opened image, or its refusal.
-pub fn open_code(o: Opened) -> i64
+pub fn open_code(o: Result<Header, Refusal>) -> i64
     ensures { result ≡ open_code o }
 {
     match o {
-        Opened::Site(h) => (h.n as u64 + 65536 * (h.m as u64)) as i64,
-        Opened::Refused(r) => refusals::refusal_code(r),
+        Ok(h) => (h.n as u64 + 65536 * (h.m as u64)) as i64,
+        Err(r) => refusals::refusal_code(r),
     }
 }
 
 // The two counts of a plan, or its refusal.
-pub fn plan_code(p: Planned) -> i64
+pub fn plan_code(p: Result<Counts, Refusal>) -> i64
     ensures { result ≡ plan_code p }
 {
     match p {
-        Planned::Made(c) => {
+        Ok(c) => {
             (refusals::at_most(c.groups as u64, 65535)
                 + 65536 * refusals::at_most(c.memberships as u64, 65535)) as i64
         }
-        Planned::Refused(r) => refusals::refusal_code(r),
+        Err(r) => refusals::refusal_code(r),
     }
 }
 
@@ -50,29 +48,29 @@ fn kind_code(role: Role) -> u64
 }
 
 // The near count and the role of a handset, or the refusal.
-pub fn role_code(known: Known) -> i64
+pub fn role_code(known: Result<Standing, Refusal>) -> i64
     ensures { result ≡ role_code known }
 {
     match known {
-        Known::Handset(x) => {
+        Ok(x) => {
             let role = x.role;
             (kind_code(role) + 4294967296 * refusals::at_most(x.neighbours as u64, 65535)) as i64
         }
-        Known::Refused(r) => refusals::refusal_code(r),
+        Err(r) => refusals::refusal_code(r),
     }
 }
 
 // s, t and o of a list, or the refusal.
-pub fn tally_code(t: Tallied) -> i64
+pub fn tally_code(t: Result<Tally, Refusal>) -> i64
     ensures { result ≡ tally_code t }
 {
     match t {
-        Tallied::Of(x) => {
+        Ok(x) => {
             let inner = refusals::at_most(x.leaving as u64, 65535)
                 + 65536 * refusals::at_most(x.joined as u64, 1048575);
             (inner + 68719476736 * refusals::at_most(x.pairs as u64, 1048575)) as i64
         }
-        Tallied::Refused(r) => refusals::refusal_code(r),
+        Err(r) => refusals::refusal_code(r),
     }
 }
 
@@ -91,11 +89,11 @@ pub fn nearest_code(nearest: Nearest) -> i64
 }
 
 // The text's length, or the refusal's number made negative, without its place.
-pub fn report_code(reported: Reported) -> i64
+pub fn report_code(reported: Result<usize, Refusal>) -> i64
     ensures { result ≡ report_code reported }
 {
     match reported {
-        Reported::Written(length) => refusals::at_most(length as u64, 9223372036854775807) as i64,
-        Reported::Refused(r) => -(r.number as i64),
+        Ok(length) => refusals::at_most(length as u64, 9223372036854775807) as i64,
+        Err(r) => -(r.number as i64),
     }
 }

@@ -2,6 +2,7 @@
 --
 --     farthest_none, farthest_more     the farthest of none, and of one more
 --     farthest_cong                    of two that are the same below n
+use Rattle.std.specs.Prelude.{None, Option, Some}
 use Prim.Native.Nat.{ℕ, zero, suc, ◌+◌, ◌≤◌, ◌<◌, max}
 use native.Mathlib.Omega.{arith}
 use native.Mathlib.Decide.{dec_lt}
@@ -15,35 +16,33 @@ use Rattle.sets.proofs.Tests.{and_make, and_left, and_right, or_cases, T_true, a
 use Rattle.image.specs.Image.{edge_count, edge_records, end_a, end_b, joins, adjacent}
 use Rattle.image.specs.Questions.{Accepted, is_loop}
 use Rattle.near.specs.Near.{proximity}
-use Rattle.near.specs.declared.Proximity.{Proximity}
-use Rattle.near.specs.declared.Proximity.TheVariants.{Near, NotNear}
 use Rattle.image.proofs.Edges.{joins_cases, joins_one}
 use Rattle.near.proofs.Near.{near_apart, near_same, proximity_comm, near_limit}
 use Rattle.community.specs.Network.{contains}
 use Rattle.community.specs.Reach.{farther, farthest, inside, reach, Spans, ReachMeans}
 
-pub farthest_none : (f : ℕ → Proximity) → farthest 0 f ≡ NotNear
+pub farthest_none : (f : ℕ → Option ℕ) → farthest 0 f ≡ None
 unfolding farthest
 farthest_none f = refl
 
-pub farthest_more : (n : ℕ) (f : ℕ → Proximity) → farthest (n + 1) f ≡ farther (farthest n f) (f n)
+pub farthest_more : (n : ℕ) (f : ℕ → Option ℕ) → farthest (n + 1) f ≡ farther (farthest n f) (f n)
 unfolding farthest
 farthest_more n f = ap (λ (k : ℕ). farthest k f) (add-one n)
 
-pub farthest_cong : (n : ℕ) (f g : ℕ → Proximity) → ((k : ℕ) → k < n → f k ≡ g k) → farthest n f ≡ farthest n g
+pub farthest_cong : (n : ℕ) (f g : ℕ → Option ℕ) → ((k : ℕ) → k < n → f k ≡ g k) → farthest n f ≡ farthest n g
 unfolding farthest
 farthest_cong zero f g e = refl
 farthest_cong (suc n) f g e = ap₂ farther (farthest_cong n f g (λ k h. e k (omega arith))) (e n (omega arith))
 
 -- ---- the farthest of several answers: one of them tells it, and none tells more
 
-record Farthest (n : ℕ) (f : ℕ → Proximity) (r : Proximity) : Type 0 where
-  pub told : (d : ℕ) → r ≡ Near d → (k : ℕ) × (k < n) × (f k ≡ Near d)
-  pub most : (k d : ℕ) → k < n → f k ≡ Near d → (e : ℕ) × (r ≡ Near e) × (d ≤ e)
+record Farthest (n : ℕ) (f : ℕ → Option ℕ) (r : Option ℕ) : Type 0 where
+  pub told : (d : ℕ) → r ≡ Some d → (k : ℕ) × (k < n) × (f k ≡ Some d)
+  pub most : (k d : ℕ) → k < n → f k ≡ Some d → (e : ℕ) × (r ≡ Some e) × (d ≤ e)
 
-farther_is : (n : ℕ) (f : ℕ → Proximity) (r p : Proximity) → f n ≡ p → Farthest n f r → Farthest (suc n) f (farther r p)
+farther_is : (n : ℕ) (f : ℕ → Option ℕ) (r p : Option ℕ) → f n ≡ p → Farthest n f r → Farthest (suc n) f (farther r p)
 unfolding farther
-farther_is n f (Near d) (Near e) h x = record {
+farther_is n f (Some d) (Some e) h x = record {
   told = λ c q. pick c (near_same q) (dec_lt d e);
   most = λ k c l q.
       ⊎_elim
@@ -52,20 +51,20 @@ farther_is n f (Near d) (Near e) h x = record {
       (below l);
 }
   where
-    pick : (c : ℕ) → max d e ≡ c → Dec (d < e) → (k : ℕ) × (k < suc n) × (f k ≡ Near c)
-    pick c q (yes l) = (n, omega arith, h ∙ ap Near (let i : e ≡ c = omega arith in i))
-    pick c q (no l) = let t = x.told d refl in (t.0, omega (arith, t.1), t.2 ∙ ap Near (let i : d ≡ c = omega arith in i))
-farther_is n f (Near d) NotNear h x = record {
+    pick : (c : ℕ) → max d e ≡ c → Dec (d < e) → (k : ℕ) × (k < suc n) × (f k ≡ Some c)
+    pick c q (yes l) = (n, omega arith, h ∙ ap Some (let i : e ≡ c = omega arith in i))
+    pick c q (no l) = let t = x.told d refl in (t.0, omega (arith, t.1), t.2 ∙ ap Some (let i : d ≡ c = omega arith in i))
+farther_is n f (Some d) None h x = record {
   told = λ c q. let t = x.told c q in (t.0, omega (arith, t.1), t.2);
   most = λ k c l q. ⊎_elim (λ i. near_apart c (sym h ∙ ap f (sym i) ∙ q)) (λ i. x.most k c i q) (below l);
 }
-farther_is n f NotNear p h x = record {
+farther_is n f None p h x = record {
   told = λ c q. (n, omega arith, h ∙ q);
   most = λ k c l q.
       ⊎_elim (λ i. (c, sym h ∙ ap f (sym i) ∙ q, omega arith)) (λ i. let m = x.most k c i q in near_apart m.0 m.1) (below l);
 }
 
-farthest_is : (n : ℕ) (f : ℕ → Proximity) → Farthest n f (farthest n f)
+farthest_is : (n : ℕ) (f : ℕ → Option ℕ) → Farthest n f (farthest n f)
 unfolding farthest
 farthest_is zero f = record { told = λ d q. near_apart d q; most = λ k d h q. absurd (omega arith) }
 farthest_is (suc n) f = farther_is n f (farthest n f) (f n) refl (farthest_is n f)
@@ -74,26 +73,26 @@ farthest_is (suc n) f = farther_is n f (farthest n f) (f n) refl (farthest_is n 
 
 module _ (s l : List ℕ) where
   -- what an edge makes of the reach
-  abbrev share : ℕ → Proximity
-  share k = cond (inside s l k) (proximity s (end_a (edge_records s) k) (end_b (edge_records s) k)) NotNear
+  abbrev share : ℕ → Option ℕ
+  share k = cond (inside s l k) (proximity s (end_a (edge_records s) k) (end_b (edge_records s) k)) None
 
-  spans_share : (d : ℕ) → Spans s l d → (k : ℕ) × (k < edge_count s) × (share k ≡ Near d)
+  spans_share : (d : ℕ) → Spans s l d → (k : ℕ) × (k < edge_count s) × (share k ≡ Some d)
   unfolding adjacent inside
   spans_share d x =
       let u : ℕ = x.0 in
       let v : ℕ = x.1 in
       let r = any_take (edge_count s) (joins (edge_records s) u v) x.4 in
-      let made : (a b : ℕ) → T (contains a l) → T (contains b l) → cond (contains a l && contains b l) (proximity s a b) NotNear ≡ proximity s a b =
-      λ a b y z. ap (λ (t : Bool). cond t (proximity s a b) NotNear) (T_true (contains a l && contains b l) (and_make (contains a l) (contains b l) y z)) in (
+      let made : (a b : ℕ) → T (contains a l) → T (contains b l) → cond (contains a l && contains b l) (proximity s a b) None ≡ proximity s a b =
+      λ a b y z. ap (λ (t : Bool). cond t (proximity s a b) None) (T_true (contains a l && contains b l) (and_make (contains a l) (contains b l) y z)) in (
         r.0,
         r.1,
         ⊎_elim
-            (λ e. ap₂ (λ (a b : ℕ). cond (contains a l && contains b l) (proximity s a b) NotNear) e.0 e.1 ∙ made u v x.2 x.3 ∙ x.5)
-            (λ e. ap₂ (λ (a b : ℕ). cond (contains a l && contains b l) (proximity s a b) NotNear) e.0 e.1 ∙ made v u x.3 x.2 ∙ proximity_comm s v u ∙ x.5)
+            (λ e. ap₂ (λ (a b : ℕ). cond (contains a l && contains b l) (proximity s a b) None) e.0 e.1 ∙ made u v x.2 x.3 ∙ x.5)
+            (λ e. ap₂ (λ (a b : ℕ). cond (contains a l && contains b l) (proximity s a b) None) e.0 e.1 ∙ made v u x.3 x.2 ∙ proximity_comm s v u ∙ x.5)
             (joins_cases (edge_records s) u v r.0 r.2),
       )
 
-  share_spans : (d k : ℕ) → k < edge_count s → share k ≡ Near d → Spans s l d
+  share_spans : (d k : ℕ) → k < edge_count s → share k ≡ Some d → Spans s l d
   unfolding adjacent inside
   share_spans d k h q = go (inside s l k) refl q
     where
@@ -103,7 +102,7 @@ module _ (s l : List ℕ) where
       b : ℕ
       b = end_b (edge_records s) k
 
-      go : (t : Bool) → inside s l k ≡ t → cond t (proximity s a b) NotNear ≡ Near d → Spans s l d
+      go : (t : Bool) → inside s l k ≡ t → cond t (proximity s a b) None ≡ Some d → Spans s l d
       go true e q =
           let y : T (contains a l && contains b l) = subst T (sym e) tt in (
             a,
@@ -119,29 +118,29 @@ module _ (s l : List ℕ) where
   unfolding reach
   held = farthest_is (edge_count s) share
 
-  reach_spans : (d : ℕ) → reach s l ≡ Near d → Spans s l d
+  reach_spans : (d : ℕ) → reach s l ≡ Some d → Spans s l d
   reach_spans d e = let t = held.told d e in share_spans d t.0 t.1 t.2
 
-  spans_reach : (d : ℕ) → Spans s l d → (e : ℕ) × (reach s l ≡ Near e) × (d ≤ e)
+  spans_reach : (d : ℕ) → Spans s l d → (e : ℕ) × (reach s l ≡ Some e) × (d ≤ e)
   spans_reach d x = let p = spans_share d x in held.most p.0 d p.1 p.2
 
-  largest_is : (d : ℕ) → (reach s l ≡ Near d) ↔ (Spans s l d × ((e : ℕ) → Spans s l e → e ≤ d))
+  largest_is : (d : ℕ) → (reach s l ≡ Some d) ↔ (Spans s l d × ((e : ℕ) → Spans s l e → e ≤ d))
   largest_is d = (to, from)
     where
-      to : reach s l ≡ Near d → Spans s l d × ((e : ℕ) → Spans s l e → e ≤ d)
+      to : reach s l ≡ Some d → Spans s l d × ((e : ℕ) → Spans s l e → e ≤ d)
       to q = (reach_spans d q, λ e x. let m = spans_reach e x in omega (arith, m.2, near_same (sym q ∙ m.1)))
 
-      from : Spans s l d × ((e : ℕ) → Spans s l e → e ≤ d) → reach s l ≡ Near d
+      from : Spans s l d × ((e : ℕ) → Spans s l e → e ≤ d) → reach s l ≡ Some d
       from x =
           let m = spans_reach d x.0 in
-          m.1 ∙ ap Near (let i : m.0 ≡ d = omega (arith, m.2, x.1 m.0 (reach_spans m.0 m.1)) in i)
+          m.1 ∙ ap Some (let i : m.0 ≡ d = omega (arith, m.2, x.1 m.0 (reach_spans m.0 m.1)) in i)
 
-  none_is : (reach s l ≡ NotNear) ↔ ((d : ℕ) → Spans s l d → ⊥)
+  none_is : (reach s l ≡ None) ↔ ((d : ℕ) → Spans s l d → ⊥)
   none_is = (λ q d x. let m = spans_reach d x in near_apart m.0 (sym q ∙ m.1), λ f. go f (reach s l) refl)
     where
-      go : ((d : ℕ) → Spans s l d → ⊥) → (r : Proximity) → reach s l ≡ r → r ≡ NotNear
-      go f (Near d) q = absurd (f d (reach_spans d q))
-      go f NotNear q = refl
+      go : ((d : ℕ) → Spans s l d → ⊥) → (r : Option ℕ) → reach s l ≡ r → r ≡ None
+      go f (Some d) q = absurd (f d (reach_spans d q))
+      go f None q = refl
 
 -- an edge between two of a list of one would be a loop
 alone_none : (s : List ℕ) (v : ℕ) → Accepted s → (d : ℕ) → Spans s (v ∷ []) d → ⊥

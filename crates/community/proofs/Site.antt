@@ -1,4 +1,5 @@
 -- The network of a site image is sound: its neighbour relation is reflexive and symmetric, epsilon is at most 1, mu is not 0.
+use Rattle.std.specs.Prelude.{Option}
 use Prim.Native.Nat.{ℕ, zero, suc, ◌≤◌}
 use native.Mathlib.Omega.{arith}
 use mathlib.Core.Path.{◌≡◌, sym, ap, subst}
@@ -8,7 +9,6 @@ use Rattle.fields.specs.Fields.{core_size}
 use Rattle.image.specs.Image.{header_of, epsilon_num, epsilon_den, mu}
 use Rattle.image.specs.Questions.{Accepted}
 use Rattle.near.specs.Near.{is_near, neighbour}
-use Rattle.near.specs.declared.Proximity.{Proximity}
 use Rattle.image.proofs.Acceptance.{accepted_fits}
 use Rattle.near.proofs.Near.{proximity_comm, near_itself}
 use Rattle.community.specs.Site.{network}
@@ -20,7 +20,7 @@ neighbour_comm s u v = ap is_near (proximity_comm s u v)
 
 pub neighbour_self : (s : List ℕ) (u : ℕ) → T (neighbour s u u)
 unfolding neighbour is_near
-neighbour_self s u = subst (λ (p : Proximity). T (is_near p)) (sym (near_itself s u)) tt
+neighbour_self s u = subst (λ (p : Option ℕ). T (is_near p)) (sym (near_itself s u)) tt
 
 core_size_some : (m : ℕ) → 1 ≤ core_size m
 core_size_some zero = omega arith

@@ -13,12 +13,10 @@
 --     lone m           one handset, with mu m
 --     seven            the handsets of site S
 --     Examples         the theorems
-use Rattle.std.specs.Prelude.{ℕ, ◌-◌, ◌/◌, ◌%◌, ◌≡◌, true, false, List, [], ◌∷◌, ◌++◌, replicate}
+use Rattle.std.specs.Prelude.{ℕ, ◌-◌, ◌/◌, ◌%◌, ◌≡◌, true, false, List, [], ◌∷◌, ◌++◌, replicate, None, Ok, Some}
 use Rattle.image.specs.Image.{header_of}
 use Rattle.image.specs.Questions.{open_of}
-use Rattle.image.specs.declared.Opened.TheVariants.{Site}
 use Rattle.near.specs.Near.{proximity}
-use Rattle.near.specs.declared.Proximity.TheVariants.{Near, NotNear}
 use Rattle.community.specs.Network.{neighbourhood_size, common_neighbours, similar, cores, communities, role}
 use Rattle.community.specs.Tables.{start_table}
 use Rattle.community.specs.Site.{network}
@@ -66,12 +64,12 @@ seven = 0 ∷ 1 ∷ 2 ∷ 3 ∷ 4 ∷ 5 ∷ 6 ∷ []
 
 pub record Examples : Type 0 where
   -- mu 4: cores 2 and 4; groups {0,1,2,3} and {3,4,5,6}; handset 3 is border in two
-  pub accepted_s : open_of (site_s 1 2 4) ≡ Site (header_of (site_s 1 2 4))
+  pub accepted_s : open_of (site_s 1 2 4) ≡ Ok (header_of (site_s 1 2 4))
   pub cores_mu4 : cores (network (site_s 1 2 4)) ≡ 2 ∷ 4 ∷ []
   pub communities_mu4 : communities (network (site_s 1 2 4)) ≡ (0 ∷ 1 ∷ 2 ∷ 3 ∷ []) ∷ (3 ∷ 4 ∷ 5 ∷ 6 ∷ []) ∷ []
   pub border_mu4 : role (network (site_s 1 2 4)) 3 ≡ Border 2
   -- mu 0, which is blank and means 4 (paper 02, order 3): the same
-  pub accepted_mu0 : open_of (site_s 1 2 0) ≡ Site (header_of (site_s 1 2 0))
+  pub accepted_mu0 : open_of (site_s 1 2 0) ≡ Ok (header_of (site_s 1 2 0))
   pub cores_mu0 : cores (network (site_s 1 2 0)) ≡ 2 ∷ 4 ∷ []
   pub communities_mu0 : communities (network (site_s 1 2 0)) ≡ (0 ∷ 1 ∷ 2 ∷ 3 ∷ []) ∷ (3 ∷ 4 ∷ 5 ∷ 6 ∷ []) ∷ []
   pub border_mu0 : role (network (site_s 1 2 0)) 3 ≡ Border 2
@@ -88,25 +86,25 @@ pub record Examples : Type 0 where
   pub similar_577 : similar (network (site_s 577 1000 4)) 2 3 ≡ true
   pub dissimilar_578 : similar (network (site_s 578 1000 4)) 2 3 ≡ false
   -- tied at (0,0,0) and (1,2,0): near at G = 5, not at 4; the same at (-1,-1,0) and (0,1,0)
-  pub near_5 : proximity (pair 5) 0 1 ≡ Near 5
-  pub apart_4 : proximity (pair 4) 0 1 ≡ NotNear
-  pub near_5_negative : proximity (pair_neg 5) 0 1 ≡ Near 5
-  pub apart_4_negative : proximity (pair_neg 4) 0 1 ≡ NotNear
+  pub near_5 : proximity (pair 5) 0 1 ≡ Some 5
+  pub apart_4 : proximity (pair 4) 0 1 ≡ None
+  pub near_5_negative : proximity (pair_neg 5) 0 1 ≡ Some 5
+  pub apart_4_negative : proximity (pair_neg 4) 0 1 ≡ None
   -- n = 0: no groups, start table 0
-  pub accepted_nobody : open_of nobody ≡ Site (header_of nobody)
+  pub accepted_nobody : open_of nobody ≡ Ok (header_of nobody)
   pub communities_nobody : communities (network nobody) ≡ []
   pub starts_nobody : start_table (communities (network nobody)) ≡ 0 ∷ []
   -- n = 1, mu 1: one group {0}; mu 2: an outlier
   pub communities_lone : communities (network (lone 1)) ≡ (0 ∷ []) ∷ []
   pub outlier_lone : role (network (lone 2)) 0 ≡ Outlier
   -- paper 02, order 6: both groups of site S have the reach 0; of two handsets the reach is their distance where they are near, and none else; one has none
-  pub reach_first : reach (site_s 1 2 4) (0 ∷ 1 ∷ 2 ∷ 3 ∷ []) ≡ Near 0
-  pub reach_second : reach (site_s 1 2 4) (3 ∷ 4 ∷ 5 ∷ 6 ∷ []) ≡ Near 0
-  pub reach_5 : reach (pair 5) (0 ∷ 1 ∷ []) ≡ Near 5
-  pub reach_4 : reach (pair 4) (0 ∷ 1 ∷ []) ≡ NotNear
-  pub reach_one_end : reach (pair 5) (1 ∷ []) ≡ NotNear
-  pub reach_lone : reach (lone 1) (0 ∷ []) ≡ NotNear
+  pub reach_first : reach (site_s 1 2 4) (0 ∷ 1 ∷ 2 ∷ 3 ∷ []) ≡ Some 0
+  pub reach_second : reach (site_s 1 2 4) (3 ∷ 4 ∷ 5 ∷ 6 ∷ []) ≡ Some 0
+  pub reach_5 : reach (pair 5) (0 ∷ 1 ∷ []) ≡ Some 5
+  pub reach_4 : reach (pair 4) (0 ∷ 1 ∷ []) ≡ None
+  pub reach_one_end : reach (pair 5) (1 ∷ []) ≡ None
+  pub reach_lone : reach (lone 1) (0 ∷ []) ≡ None
   -- paper 02, order 7: two that differ in z alone are near at the limit, 3², and not one below
-  pub accepted_floors : open_of (floors 9) ≡ Site (header_of (floors 9))
-  pub near_9_floors : proximity (floors 9) 0 1 ≡ Near 9
-  pub apart_8_floors : proximity (floors 8) 0 1 ≡ NotNear
+  pub accepted_floors : open_of (floors 9) ≡ Ok (header_of (floors 9))
+  pub near_9_floors : proximity (floors 9) 0 1 ≡ Some 9
+  pub apart_8_floors : proximity (floors 8) 0 1 ≡ None

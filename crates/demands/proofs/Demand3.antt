@@ -1,5 +1,6 @@
 -- Demand 3. A plan call that is not refused leaves two tables that begin with the plan's, so their group k is the k-th community, and the laws of the
 -- communities carry over. A renumbered image is accepted with as many communities and memberships, so its plan is not refused either.
+use Rattle.std.specs.Prelude.{Err, Result}
 use Prim.Native.Nat.{ℕ, ◌+◌, ◌≤◌, ◌<◌}
 use native.Mathlib.Omega.{arith}
 use mathlib.Core.Path.{◌≡◌, refl, sym, ap, ap₂, ◌∙◌, subst}
@@ -27,15 +28,15 @@ use Rattle.tables.proofs.Answers.{plan_same}
 use Rattle.planner.specs.Plan.{PlanCall, plan_of, known_of, known_answer, standing}
 use Rattle.planner.proofs.Answers.{known_same}
 use Rattle.planner.proofs.Calls.{plan_made, starts_made, members_made, known_handset}
-use Rattle.tables.specs.declared.Planned.{Planned}
-use Rattle.tables.specs.declared.Planned.TheVariants as P
-use Rattle.planner.specs.declared.Known.{Known}
 use Rattle.demands.specs.Demand3 as D
+use Rattle.rows.specs.declared.Counts.{Counts}
+use Rattle.image.specs.declared.Refusal.{Refusal}
+use Rattle.community.specs.declared.Standing.{Standing}
 use Rattle.demands.specs.Demand3.{group, ListedAs, Plan, SameStanding, Again, LongEnough, Demand3}
 
 -- ---- what a call answers
 
-answer_is : {s ss ms : List ℕ} {a : Planned} {ss' ms' : List ℕ} → PlanCall s ss ms a ss' ms' → a ≡ plan_of s (length ss) (length ms)
+answer_is : {s ss ms : List ℕ} {a : Result Counts Refusal} {ss' ms' : List ℕ} → PlanCall s ss ms a ss' ms' → a ≡ plan_of s (length ss) (length ms)
 answer_is call = plan_same _ _ call.answer
 
 -- a call that was not refused had room for the plan
@@ -44,10 +45,10 @@ made_room : (gs : List (List ℕ)) (a b g c : ℕ) → planned gs a b ≡ made g
 made_room gs a b g c e = go (ltb (length gs) a) refl (leb (length (member_table gs)) b) refl e
   where
     go : (x : Bool) → ltb (length gs) a ≡ x → (y : Bool) → leb (length (member_table gs)) b ≡ y
-        → cond x (cond y (made (length gs) (length (member_table gs))) (P.Refused (refusal 12))) (P.Refused (refusal 11)) ≡ made g c
+        → cond x (cond y (made (length gs) (length (member_table gs))) (Err (refusal 12))) (Err (refusal 11)) ≡ made g c
         → (length gs + 1 ≤ a) × (length (member_table gs) ≤ b) × (length gs ≡ g) × (length (member_table gs) ≡ c)
     go true p true q e =
-        let v : length gs ∷ (length (member_table gs) ∷ []) ≡ g ∷ (c ∷ []) = ap (λ (x : Planned). (plan_answer x).values) e in
+        let v : length gs ∷ (length (member_table gs) ∷ []) ≡ g ∷ (c ∷ []) = ap (λ (x : Result Counts Refusal). (plan_answer x).values) e in
         (omega (arith, ltb→lt (length gs) a (subst T (sym p) tt)), leb→le (length (member_table gs)) b (subst T (sym q) tt), cc, cc)
     go true p false q e = let z : ◌≡◌ {A = ℕ} 0 1 = cc in absurd (omega arith)
     go false p y q e = let z : ◌≡◌ {A = ℕ} 0 1 = cc in absurd (omega arith)
@@ -98,7 +99,7 @@ module _ (s : List ℕ) (ok : Accepted s) (x y : List ℕ) where
     bound = memberships_bound s ok;
   }
 
-planned_law : (s ss ms : List ℕ) (a : Planned) (ss' ms' : List ℕ) → Accepted s → LongEnough s ss ms → PlanCall s ss ms a ss' ms'
+planned_law : (s ss ms : List ℕ) (a : Result Counts Refusal) (ss' ms' : List ℕ) → Accepted s → LongEnough s ss ms → PlanCall s ss ms a ss' ms'
     → (g : ℕ) × (c : ℕ) × (a ≡ made g c) × Plan s ss' ms' g c
 planned_law s ss ms a ss' ms' ok room call =
     let gs : List (List ℕ) = communities_of s in
@@ -128,7 +129,7 @@ module _ (s t : List ℕ) (r : Renumbered s t) (ok : Accepted s) where
   ok_t : Accepted t
   ok_t = accepted_too s t r ok
 
-  standings : (v : ℕ) → v < handset_count s → (a b : Known) → known_answer a ≡ known_answer (known_of s v) → known_answer b ≡ known_answer (known_of t (r.map.to v))
+  standings : (v : ℕ) → v < handset_count s → (a b : Result Standing Refusal) → known_answer a ≡ known_answer (known_of s v) → known_answer b ≡ known_answer (known_of t (r.map.to v))
       → SameStanding a b
   unfolding standing
   standings v h a b d e =

@@ -3,6 +3,7 @@
 --
 --     table_part        the part of two tables that begin with the plan's
 --     lookup_of_plan    the theorem of specs/Lookup
+use Rattle.std.specs.Prelude.{Ok}
 use Prim.Native.Nat.{ℕ, ◌+◌, ◌<◌}
 use native.Mathlib.Omega.{arith}
 use mathlib.Core.Path.{◌≡◌, ap, ap₂, ◌∙◌}
@@ -17,7 +18,6 @@ use Rattle.community.specs.Site.{communities_of}
 use Rattle.planner.specs.Plan.{PlanCall}
 use Rattle.planner.proofs.Calls.{starts_made, members_made}
 use Rattle.lookup.specs.Lookup.{placed, members_of, looked_of}
-use Rattle.lookup.specs.declared.Looked.TheVariants.{Found}
 use Rattle.lookup.proofs.Answers.{looked_same}
 use Rattle.lookup.proofs.Agreement.{placed_yes, looked_yes, members_slice}
 use Rattle.demands.specs.Lookup.{LookupOfPlan}
@@ -48,11 +48,11 @@ module _ (s ss ms ss' ms' : List ℕ) (g c k : ℕ) (ok : Accepted s) (call : Pl
   group_found : members_of ss' ms' k ≡ get_or (communities_of s) k []
   group_found = ap₂ (λ (a b : List ℕ). members_of a b k) starts_are members_are ∙ table_part (communities_of s) _ _ k in_plan_lem
 
-  none_refused : looked_of ss' ms' k ≡ Found (length (get_or (communities_of s) k []))
+  none_refused : looked_of ss' ms' k ≡ Ok (length (get_or (communities_of s) k []))
   none_refused =
       ap₂ (λ (a b : List ℕ). looked_of a b k) starts_are members_are
       ∙ looked_yes (over (start_table (communities_of s)) ss) (over (member_table (communities_of s)) ms) k (yes (communities_of s) _ _ k in_plan_lem)
-      ∙ ap (λ (l : List ℕ). Found (length l)) (table_part (communities_of s) _ _ k in_plan_lem)
+      ∙ ap (λ (l : List ℕ). Ok (length l)) (table_part (communities_of s) _ _ k in_plan_lem)
 
 pub lookup_of_plan : LookupOfPlan
 lookup_of_plan = record { members = group_found; found = λ s ss ms ss' ms' g c k ok call h a e. looked_same _ _ e ∙ none_refused s ss ms ss' ms' g c k ok call h }

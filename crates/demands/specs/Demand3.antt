@@ -17,22 +17,20 @@
 --     LongEnough s ss ms      tables ss and ms that are long enough for the image's plan
 --     Demand3                 the theorem: the plan call on an accepted image with tables long enough is not refused, and what it writes is the plan;
 --                             and for every renumbering, again
-use Rattle.std.specs.Prelude.{ℕ, ◌+◌, ◌*◌, ◌≤◌, ◌<◌, ◌≡◌, ◌↔◌, T, length, get_or}
+use Rattle.std.specs.Prelude.{ℕ, ◌+◌, ◌*◌, ◌≤◌, ◌<◌, ◌≡◌, ◌↔◌, T, length, get_or, Ok, Result}
 use mathlib.Core.List.{List, Memᴰ}
 use Rattle.std.proofs.Math.Seq.{slice}
 use Rattle.image.specs.Image.{header_of, handset_count, edge_count}
 use Rattle.image.specs.Questions.{Accepted, open_of}
-use Rattle.image.specs.declared.Opened.TheVariants.{Site}
 use Rattle.community.specs.Network.{is_core, IsCommunity}
 use Rattle.community.specs.Tables.{member_table}
 use Rattle.community.specs.Site.{network, communities_of}
 use Rattle.community.specs.Renumbered.{Renumbered, NumberedBack, SameRole}
 use Rattle.community.specs.declared.Standing.{Standing}
 use Rattle.planner.specs.Plan.{PlanCall, known_of, known_answer}
-use Rattle.tables.specs.declared.Planned.{Planned}
+use Rattle.rows.specs.declared.Counts.{Counts}
+use Rattle.image.specs.declared.Refusal.{Refusal}
 use Rattle.tables.specs.Plan.{made}
-use Rattle.planner.specs.declared.Known.{Known}
-use Rattle.planner.specs.declared.Known.TheVariants.{Handset}
 
 abbrev pub group : List ℕ → List ℕ → ℕ → List ℕ
 group ss ms k = slice (get_or ss k 0) (get_or ss (k + 1) 0) ms
@@ -52,29 +50,29 @@ pub record Plan (s ss ms : List ℕ) (g c : ℕ) : Type 1 where
   pub core_once : (v j k : ℕ) → T (is_core (network s) v) → j < g → k < g → Memᴰ v (group ss ms j) → Memᴰ v (group ss ms k) → j ≡ k
   pub bound : c ≤ handset_count s + 2 * edge_count s
 
-pub record SameStanding (a b : Known) : Type 0 where
+pub record SameStanding (a b : Result Standing Refusal) : Type 0 where
   pub x : Standing
   pub y : Standing
-  pub first : a ≡ Handset x
-  pub second : b ≡ Handset y
+  pub first : a ≡ Ok x
+  pub second : b ≡ Ok y
   pub same_neighbours : x.neighbours ≡ y.neighbours
   pub same_role : SameRole x.role y.role
 
 pub record Again (s t : List ℕ) (r : Renumbered s t) (ss₀ ms₀ ss ms : List ℕ) (g c : ℕ) : Type 1 where
-  pub accepted : open_of t ≡ Site (header_of t)
-  pub not_refused : (ts us : List ℕ) (b : Planned) (ts' us' : List ℕ) → length ss₀ ≤ length ts → length ms₀ ≤ length us
+  pub accepted : open_of t ≡ Ok (header_of t)
+  pub not_refused : (ts us : List ℕ) (b : Result Counts Refusal) (ts' us' : List ℕ) → length ss₀ ≤ length ts → length ms₀ ≤ length us
       → PlanCall t ts us b ts' us' → b ≡ made g c
-  pub same_sets : (ts us : List ℕ) (b : Planned) (ts' us' : List ℕ) → length ss₀ ≤ length ts → length ms₀ ≤ length us
+  pub same_sets : (ts us : List ℕ) (b : Result Counts Refusal) (ts' us' : List ℕ) → length ss₀ ≤ length ts → length ms₀ ≤ length us
       → PlanCall t ts us b ts' us'
       → (P : ℕ → Type 0) → Listed ss ms g P ↔ ((k : ℕ) × (k < g) × ((v : ℕ) → P v ↔ NumberedBack r.map (λ w. Memᴰ w (group ts' us' k)) v))
-  pub same_roles : (v : ℕ) → v < handset_count s → (a b : Known) → known_answer a ≡ known_answer (known_of s v)
+  pub same_roles : (v : ℕ) → v < handset_count s → (a b : Result Standing Refusal) → known_answer a ≡ known_answer (known_of s v)
       → known_answer b ≡ known_answer (known_of t (r.map.to v)) → SameStanding a b
 
 abbrev pub LongEnough : List ℕ → List ℕ → List ℕ → Type 0
 LongEnough s ss ms = (length (communities_of s) + 1 ≤ length ss) × (length (member_table (communities_of s)) ≤ length ms)
 
 pub record Demand3 : Type 1 where
-  pub planned : (s ss ms : List ℕ) (a : Planned) (ss' ms' : List ℕ) → Accepted s → LongEnough s ss ms → PlanCall s ss ms a ss' ms'
+  pub planned : (s ss ms : List ℕ) (a : Result Counts Refusal) (ss' ms' : List ℕ) → Accepted s → LongEnough s ss ms → PlanCall s ss ms a ss' ms'
       → (g : ℕ) × (c : ℕ) × (a ≡ made g c) × Plan s ss' ms' g c
   pub renumbered : (s t : List ℕ) (r : Renumbered s t) (ss ms : List ℕ) (ss' ms' : List ℕ) (g c : ℕ) → Accepted s
       → PlanCall s ss ms (made g c) ss' ms' → Again s t r ss ms ss' ms' g c

@@ -7,6 +7,7 @@
 --     refused_small                  a refusal of an image is small
 --     open_small, plan_small, role_small, tally_small, looked_small, scheduled_small, nearest_small, report_small, encoded_small
 --                                    those of each call are
+use Rattle.std.specs.Prelude.{Err, Ok, Result}
 use Prim.Native.Nat.{ℕ, zero, suc, ◌+◌, ◌*◌, ◌-◌, ◌≤◌, ◌<◌}
 use native.Mathlib.Omega.{arith}
 use native.Mathlib.Decide.{dec_le}
@@ -27,8 +28,6 @@ use Rattle.image.specs.Questions.{tables_fit, bad_end, is_loop, repeats_earlier,
 use Rattle.image.specs.Answers.{refusal}
 use Rattle.image.specs.declared.Header.{Header}
 use Rattle.image.specs.declared.Refusal.{Refusal}
-use Rattle.image.specs.declared.Opened.{Opened}
-use Rattle.image.specs.declared.Opened.TheVariants as O
 use Rattle.image.proofs.Acceptance.{when_accepted, when_either, counts_limits, accepted_fits}
 use Rattle.community.specs.Network.{Network, contains, community_number, membership_count, border_of, communities, neighbourhood_size, is_core, role}
 use Rattle.community.specs.Scores.{count_pairs, pairs, every_edge, joined_by, joined_pairs, just_one, leaving}
@@ -39,17 +38,9 @@ use Rattle.community.specs.declared.Role.TheVariants.{Core, Border, Outlier}
 use Rattle.community.proofs.Bound.{memberships_bound}
 use Rattle.community.proofs.Communities.{communities_few, member_below}
 use Rattle.tables.specs.Plan.{made}
-use Rattle.tables.specs.declared.Planned.{Planned}
-use Rattle.tables.specs.declared.Planned.TheVariants as P
 use Rattle.planner.specs.Plan.{plan_of, standing, known_of}
-use Rattle.planner.specs.declared.Known.{Known}
-use Rattle.planner.specs.declared.Known.TheVariants as K
 use Rattle.scores.specs.Scored.{tally_of, bad_entry, ask_entries, tallied_of}
-use Rattle.scores.specs.declared.Tallied.{Tallied}
-use Rattle.scores.specs.declared.Tallied.TheVariants as T
 use Rattle.lookup.specs.Lookup.{start_of, placed, between, members_of, looked_of}
-use Rattle.lookup.specs.declared.Looked.{Looked}
-use Rattle.lookup.specs.declared.Looked.TheVariants as L
 use Rattle.schedule.specs.Schedule.{date_fits, minutes_fit, is_working, plan_at, choice_of, in_plan, scheduled_of}
 use Rattle.schedule.specs.declared.Time.{Time}
 use Rattle.schedule.specs.declared.Window.{Window}
@@ -63,15 +54,14 @@ use Rattle.nearest.specs.declared.Nearest.{Nearest}
 use Rattle.nearest.specs.declared.Nearest.TheVariants as N
 use Rattle.nearest.proofs.Meaning.{nearest_means}
 use Rattle.reporting.specs.Report.{report_text, written_of, report_of}
-use Rattle.reporting.specs.declared.Reported.{Reported}
-use Rattle.reporting.specs.declared.Reported.TheVariants as R
 use Rattle.layout.specs.Layout.{header_for, handset_table, edge_table, lengths_fit}
 use Rattle.layout.specs.ForProofs.{image_most}
 use Rattle.layout.specs.declared.Parameters.{Parameters}
 use Rattle.writer.specs.Writer.{tables_answer, encoded_of}
-use Rattle.writer.specs.declared.Encoded.{Encoded}
-use Rattle.writer.specs.declared.Encoded.TheVariants as E
 use Rattle.writer.proofs.Drafting.{encoded_either}
+use Rattle.rows.specs.declared.Counts.{Counts}
+use Rattle.community.specs.declared.Standing.{Standing}
+use Rattle.scores.specs.declared.Tally.{Tally}
 use Rattle.divanegret.specs.Lossless.{entry_limit}
 
 -- the highest number of a refusal
@@ -85,11 +75,11 @@ pub record Small (r : Refusal) : Type 0 where
 
 -- ---- the reader
 
-abbrev pub OpenSmall : Opened → Type 0
-OpenSmall (O.Site h) = (h.n ≤ 512) × (h.m ≤ 4096)
-OpenSmall (O.Refused r) = Small r
+abbrev pub OpenSmall : Result Header Refusal → Type 0
+OpenSmall (Ok h) = (h.n ≤ 512) × (h.m ≤ 4096)
+OpenSmall (Err r) = Small r
 
-ask_small : (b : Bool) (k p : ℕ) (next : Opened) → 1 ≤ k → k ≤ highest → p ≤ 4096 → (T b → OpenSmall next) → OpenSmall (ask b k p next)
+ask_small : (b : Bool) (k p : ℕ) (next : Result Header Refusal) → 1 ≤ k → k ≤ highest → p ≤ 4096 → (T b → OpenSmall next) → OpenSmall (ask b k p next)
 unfolding ask
 ask_small true k p next some few near rest = rest tt
 ask_small false k p next some few near rest = record { some = some; number = few; place = near }
@@ -97,7 +87,7 @@ ask_small false k p next some few near rest = record { some = some; number = few
 find_le : (n : ℕ) (f : ℕ → Bool) → find n f ≤ n
 find_le n f = ⊎_elim (λ t. omega (arith, (find_law n f t).0)) (λ t. omega (arith, find_none n f t)) (decide (any n f))
 
-each_small : (n : ℕ) (bad : ℕ → Bool) (k : ℕ) (next : Opened) → 1 ≤ k → k ≤ highest → n ≤ 4096 → OpenSmall next → OpenSmall (ask_each n bad k next)
+each_small : (n : ℕ) (bad : ℕ → Bool) (k : ℕ) (next : Result Header Refusal) → 1 ≤ k → k ≤ highest → n ≤ 4096 → OpenSmall next → OpenSmall (ask_each n bad k next)
 unfolding ask_each
 each_small n bad k next some few near rest = ask_small (not (any n bad)) k (find n bad) next some few (omega (arith, find_le n bad)) (λ t. rest)
 
@@ -129,14 +119,14 @@ own_small : (k : ℕ) → 1 ≤ k → k ≤ highest → Small (refusal k)
 own_small k some few = record { some = some; number = few; place = omega arith }
 
 -- a refusal of an image
-refused_small : (s : List ℕ) (r : Refusal) → open_of s ≡ O.Refused r → Small r
+refused_small : (s : List ℕ) (r : Refusal) → open_of s ≡ Err r → Small r
 refused_small s r e = subst OpenSmall e (open_small s)
 
 -- ---- the plan
 
-abbrev pub PlanSmall : Planned → Type 0
-PlanSmall (P.Made c) = (c.groups ≤ 512) × (c.memberships ≤ 8704)
-PlanSmall (P.Refused r) = Small r
+abbrev pub PlanSmall : Result Counts Refusal → Type 0
+PlanSmall (Ok c) = (c.groups ≤ 512) × (c.memberships ≤ 8704)
+PlanSmall (Err r) = Small r
 
 module _ (s : List ℕ) (ok : Accepted s) where
   handsets_at_most : handset_count s ≤ 512
@@ -156,7 +146,7 @@ unfolding plan_of communities_of
 plan_small s a b =
     when_either s _ _ PlanSmall (room (ltb (length (communities_of s)) a) (leb (length (member_table (communities_of s))) b)) (refused_small s)
   where
-    room : (x y : Bool) → Accepted s → PlanSmall (cond x (cond y (made (length (communities_of s)) (length (member_table (communities_of s)))) (P.Refused (refusal 12))) (P.Refused (refusal 11)))
+    room : (x y : Bool) → Accepted s → PlanSmall (cond x (cond y (made (length (communities_of s)) (length (member_table (communities_of s)))) (Err (refusal 12))) (Err (refusal 11)))
     room true true ok = (communities_at_most s ok, memberships_at_most s ok)
     room true false ok = own_small 12 (omega arith) (omega arith)
     room false y ok = own_small 11 (omega arith) (omega arith)
@@ -168,9 +158,9 @@ RoleSmall (Core k) = k ≤ 512
 RoleSmall (Border k) = k ≤ 512
 RoleSmall Outlier = 0 ≤ 512
 
-abbrev pub KnownSmall : Known → Type 0
-KnownSmall (K.Handset x) = RoleSmall x.role × (x.neighbours ≤ 512)
-KnownSmall (K.Refused r) = Small r
+abbrev pub KnownSmall : Result Standing Refusal → Type 0
+KnownSmall (Ok x) = RoleSmall x.role × (x.neighbours ≤ 512)
+KnownSmall (Err r) = Small r
 
 community_number_le : (v : ℕ) (gs : List (List ℕ)) → community_number v gs ≤ length gs
 unfolding community_number
@@ -201,15 +191,15 @@ role_small s v = when_either s _ _ KnownSmall (of_handset (ltb v (handset_count 
     of_role true ok = omega (arith, community_number_le v (communities g), communities_at_most s ok)
     of_role false ok = border_small (membership_count v (communities g)) (omega (arith, membership_count_le v (communities g), communities_at_most s ok))
 
-    of_handset : (b : Bool) → Accepted s → KnownSmall (cond b (K.Handset (standing s v)) (K.Refused (refusal 13)))
+    of_handset : (b : Bool) → Accepted s → KnownSmall (cond b (Ok (standing s v)) (Err (refusal 13)))
     of_handset true ok = (of_role (is_core g v) ok, omega (arith, count_le g.n (g.neighbour v), handsets_at_most s ok))
     of_handset false ok = own_small 13 (omega arith) (omega arith)
 
 -- ---- the tally of a list
 
-abbrev pub TallySmall : Tallied → Type 0
-TallySmall (T.Of x) = (x.pairs ≤ 262144) × (x.joined ≤ 262144) × (x.leaving ≤ 4096)
-TallySmall (T.Refused r) = Small r
+abbrev pub TallySmall : Result Tally Refusal → Type 0
+TallySmall (Ok x) = (x.pairs ≤ 262144) × (x.joined ≤ 262144) × (x.leaving ≤ 4096)
+TallySmall (Err r) = Small r
 
 -- a list of at most 512 places has at most 512 * 512 pairs of them
 pairs_le : (n : ℕ) (f : ℕ → ℕ → Bool) → n ≤ 512 → count_pairs n f ≤ 262144
@@ -245,7 +235,7 @@ tally_small s l = when_either s _ _ TallySmall (entries (any (length l) (bad_ent
     n = handset_count s
 
     entries : (b : Bool) → any (length l) (bad_entry n l) ≡ b → Accepted s
-        → TallySmall (cond b (T.Refused (record { number = 13; place = find (length l) (bad_entry n l) })) (T.Of (tally_of s l)))
+        → TallySmall (cond b (Err (record { number = 13; place = find (length l) (bad_entry n l) })) (Ok (tally_of s l)))
     entries true e ok = record { some = omega arith; number = omega arith; place = place_few n l (subst T (sym e) tt) }
     entries false e ok =
         let few : length l ≤ 512 = list_few n l (subst (λ (b : Bool). T (not b)) (sym e) tt) in
@@ -257,9 +247,9 @@ tally_small s l = when_either s _ _ TallySmall (entries (any (length l) (bad_ent
 
 -- ---- a group's members
 
-abbrev pub LookedSmall : ℕ → Looked → Type 0
-LookedSmall room (L.Found k) = k ≤ room
-LookedSmall room (L.Refused r) = Small r
+abbrev pub LookedSmall : ℕ → Result ℕ Refusal → Type 0
+LookedSmall room (Ok k) = k ≤ room
+LookedSmall room (Err r) = Small r
 
 pub looked_small : (starts table : List ℕ) (k : ℕ) → LookedSmall (length table) (looked_of starts table k)
 unfolding looked_of members_of
@@ -271,7 +261,7 @@ looked_small starts table k = go (placed starts (length table) k)
     b : ℕ
     b = start_of starts (k + 1)
 
-    go : (q : Bool) → LookedSmall (length table) (cond q (L.Found (length (cond q (between a b table) []))) (L.Refused (refusal 14)))
+    go : (q : Bool) → LookedSmall (length table) (cond q (Ok (length (cond q (between a b table) []))) (Err (refusal 14)))
     go true = omega (arith, length-take (b - a) (drop a table), length-drop a table)
     go false = own_small 14 (omega arith) (omega arith)
 
@@ -283,10 +273,10 @@ ScheduledSmall (S.Restday k) = k < entry_limit
 ScheduledSmall (S.Refused r) = Small r
 
 -- in either plan, since both have the lookup's answer with the plan's name
-in_plan_lem : (plan : ℕ → Scheduled) → ((k : ℕ) → k < entry_limit → ScheduledSmall (plan k)) → (l : Looked) (room : ℕ) → room < entry_limit → LookedSmall room l
+in_plan_lem : (plan : ℕ → Scheduled) → ((k : ℕ) → k < entry_limit → ScheduledSmall (plan k)) → (l : Result ℕ Refusal) (room : ℕ) → room < entry_limit → LookedSmall room l
     → ScheduledSmall (in_plan plan l)
-in_plan_lem plan named (L.Found k) room few small = named k (omega arith)
-in_plan_lem plan named (L.Refused r) room few small = small
+in_plan_lem plan named (Ok k) room few small = named k (omega arith)
+in_plan_lem plan named (Err r) room few small = small
 
 pub scheduled_small : (t : Time) (w : Window) (k : ℕ) (starts table starts' table' : List ℕ) → length table < entry_limit → length table' < entry_limit
     → ScheduledSmall (scheduled_of (choice_of t w) (looked_of starts table k) (looked_of starts' table' k))
@@ -333,23 +323,23 @@ nearest_small s p long = when_either s _ _ NearestSmall (λ ok. subst NearestSma
 
 -- ---- the report
 
-abbrev pub ReportSmall : ℕ → Reported → Type 0
-ReportSmall room (R.Written k) = k ≤ room
-ReportSmall room (R.Refused r) = Small r
+abbrev pub ReportSmall : ℕ → Result ℕ Refusal → Type 0
+ReportSmall room (Ok k) = k ≤ room
+ReportSmall room (Err r) = Small r
 
 pub report_small : (s : List ℕ) (room : ℕ) → ReportSmall room (report_of s room)
 unfolding report_of written_of
 report_small s room = when_either s _ _ (ReportSmall room) (λ ok. fitting (leb (length (report_text s)) room) refl) (refused_small s)
   where
-    fitting : (b : Bool) → leb (length (report_text s)) room ≡ b → ReportSmall room (cond b (R.Written (length (report_text s))) (R.Refused (refusal 16)))
+    fitting : (b : Bool) → leb (length (report_text s)) room ≡ b → ReportSmall room (cond b (Ok (length (report_text s))) (Err (refusal 16)))
     fitting true e = leb→le (length (report_text s)) room (subst T (sym e) tt)
     fitting false e = own_small 16 (omega arith) (omega arith)
 
 -- ---- an image that is written
 
-abbrev pub EncodedSmall : Encoded → Type 0
-EncodedSmall (E.Length k) = k ≤ image_most
-EncodedSmall (E.Refused r) = Small r
+abbrev pub EncodedSmall : Result ℕ Refusal → Type 0
+EncodedSmall (Ok k) = k ≤ image_most
+EncodedSmall (Err r) = Small r
 
 tables_small : (x : Parameters) (coords : List ℤ) (ends : List ℕ) → OpenSmall (tables_answer x coords ends)
 unfolding tables_answer
@@ -366,6 +356,6 @@ encoded_small x coords ends room =
     encoded_either x coords ends room EncodedSmall (λ ok s. fitting (counts_limits x.n x.m ok.q3) (leb (header_for x).len room))
     (λ q s. subst OpenSmall s (tables_small x coords ends))
   where
-    fitting : (x.n ≤ 512) × (x.m ≤ 4096) → (b : Bool) → EncodedSmall (cond b (E.Length (header_for x).len) (E.Refused (refusal 20)))
+    fitting : (x.n ≤ 512) × (x.m ≤ 4096) → (b : Bool) → EncodedSmall (cond b (Ok (header_for x).len) (Err (refusal 20)))
     fitting small true = omega (arith, small.0, small.1)
     fitting small false = own_small 20 (omega arith) (omega arith)

@@ -2,6 +2,7 @@
 -- each share of the code gives back its number.
 --
 --     lossless     the theorem of specs/Lossless
+use Rattle.std.specs.Prelude.{Err, Ok, Result}
 use Prim.Native.Nat.{ℕ, zero, suc, ◌+◌, ◌*◌, ◌-◌, ◌%◌, ◌/◌, ◌≤◌, ◌<◌, min}
 use native.Mathlib.Omega.{arith}
 use mathlib.Core.Path.{◌≡◌, refl, ap, ap₂, ◌∙◌}
@@ -14,25 +15,15 @@ use Rattle.image.specs.Answers.{refused, given}
 use Rattle.image.specs.Questions.{open_of}
 use Rattle.image.specs.Signed.{signed32}
 use Rattle.image.specs.declared.Refusal.{Refusal}
-use Rattle.image.specs.declared.Opened.{Opened}
-use Rattle.image.specs.declared.Opened.TheVariants as O
 use Rattle.community.specs.Network.{role_values}
 use Rattle.community.specs.declared.Role.{Role}
 use Rattle.community.specs.declared.Role.TheVariants.{Core, Border, Outlier}
 use Rattle.tables.specs.Plan.{plan_answer}
-use Rattle.tables.specs.declared.Planned.{Planned}
-use Rattle.tables.specs.declared.Planned.TheVariants as P
 use Rattle.planner.specs.Plan.{plan_of, known_of, known_answer}
-use Rattle.planner.specs.declared.Known.{Known}
-use Rattle.planner.specs.declared.Known.TheVariants as K
 use Rattle.scores.specs.Scored.{tallied_of}
 use Rattle.scores.specs.Answers.{tally_answer}
-use Rattle.scores.specs.declared.Tallied.{Tallied}
-use Rattle.scores.specs.declared.Tallied.TheVariants as T
 use Rattle.lookup.specs.Lookup.{looked_of}
 use Rattle.lookup.specs.Answers.{look_answer}
-use Rattle.lookup.specs.declared.Looked.{Looked}
-use Rattle.lookup.specs.declared.Looked.TheVariants as L
 use Rattle.schedule.specs.Schedule.{choice_of, scheduled_of}
 use Rattle.schedule.specs.Answers.{scheduled_answer}
 use Rattle.schedule.specs.declared.Scheduled.{Scheduled}
@@ -41,16 +32,16 @@ use Rattle.nearest.specs.Nearest.{nearest_of, nearest_answer}
 use Rattle.nearest.specs.declared.Nearest.{Nearest}
 use Rattle.nearest.specs.declared.Nearest.TheVariants as N
 use Rattle.reporting.specs.Report.{report_of, report_answer}
-use Rattle.reporting.specs.declared.Reported.{Reported}
-use Rattle.reporting.specs.declared.Reported.TheVariants as R
 use Rattle.layout.specs.ForProofs.{image_most}
 use Rattle.writer.specs.Writer.{encoded_of, encoded_answer}
-use Rattle.writer.specs.declared.Encoded.{Encoded}
-use Rattle.writer.specs.declared.Encoded.TheVariants as E
 use Rattle.codes.specs.Codes.{open_code, plan_code, kind_code, role_code, tally_code, nearest_code, report_code}
 use Rattle.refusals.specs.Refusals.{refusal_code}
 use Rattle.table_codes.specs.Codes.{looked_code, scheduled_code, encoded_code}
 use Rattle.divanegret.specs.Lossless.{int32, open_macros, plan_macros, role_macros, scores_macros, scheduled_macros, nearest_macros, itself, Taken, taken_by, site_answer, number_only, whole, Lossless}
+use Rattle.rows.specs.declared.Counts.{Counts}
+use Rattle.image.specs.declared.Header.{Header}
+use Rattle.community.specs.declared.Standing.{Standing}
+use Rattle.scores.specs.declared.Tally.{Tally}
 use Rattle.divanegret.proofs.Bounds.{Small, OpenSmall, PlanSmall, RoleSmall, KnownSmall, TallySmall, LookedSmall, ScheduledSmall, NearestSmall, ReportSmall, EncodedSmall, open_small, plan_small, role_small, tally_small, looked_small, scheduled_small, nearest_small, report_small, encoded_small}
 
 -- a number below 2 ^ 31 is its int32_t
@@ -91,15 +82,15 @@ pair_taken : (k x y : ℕ) → k ≡ x + 65536 * y → x < 65536 → y < 65536 �
 unfolding taken_by
 pair_taken k x y e h l = success (values_2 (low32 (k % 65536) x (omega arith) (omega arith)) (low32 (k / 65536) y (omega arith) (omega arith)))
 
-open_taken : (o : Opened) → OpenSmall o → taken_by open_macros (open_code o) ≡ whole (site_answer o)
-open_taken (O.Site h) small = pair_taken (h.n + 65536 * h.m) h.n h.m refl (omega (arith, small.0)) (omega (arith, small.1))
-open_taken (O.Refused r) small = refusal_taken open_macros r small
+open_taken : (o : Result Header Refusal) → OpenSmall o → taken_by open_macros (open_code o) ≡ whole (site_answer o)
+open_taken (Ok h) small = pair_taken (h.n + 65536 * h.m) h.n h.m refl (omega (arith, small.0)) (omega (arith, small.1))
+open_taken (Err r) small = refusal_taken open_macros r small
 
-plan_taken : (p : Planned) → PlanSmall p → taken_by plan_macros (plan_code p) ≡ whole (plan_answer p)
-plan_taken (P.Made c) small =
+plan_taken : (p : Result Counts Refusal) → PlanSmall p → taken_by plan_macros (plan_code p) ≡ whole (plan_answer p)
+plan_taken (Ok c) small =
     pair_taken (min c.groups 65535 + 65536 * min c.memberships 65535) c.groups c.memberships
     (omega (arith, small.0, small.1)) (omega (arith, small.0)) (omega (arith, small.1))
-plan_taken (P.Refused r) small = refusal_taken plan_macros r small
+plan_taken (Err r) small = refusal_taken plan_macros r small
 
 -- a near count, a kind and a value
 role_of_lem : (k near x y : ℕ) → k ≡ x + 65536 * y + 4294967296 * near → near < 65536 → x < 65536 → y < 65536
@@ -116,9 +107,9 @@ kind_taken (Core k) near small h = role_of_lem _ near 0 k (omega arith) (omega a
 kind_taken (Border k) near small h = role_of_lem _ near 1 k (omega arith) (omega arith) (omega arith) (omega arith)
 kind_taken Outlier near small h = role_of_lem _ near 2 0 (omega arith) (omega arith) (omega arith) (omega arith)
 
-role_taken : (x : Known) → KnownSmall x → taken_by role_macros (role_code x) ≡ whole (known_answer x)
-role_taken (K.Handset x) small = kind_taken x.role x.neighbours small.0 small.1
-role_taken (K.Refused r) small = refusal_taken role_macros r small
+role_taken : (x : Result Standing Refusal) → KnownSmall x → taken_by role_macros (role_code x) ≡ whole (known_answer x)
+role_taken (Ok x) small = kind_taken x.role x.neighbours small.0 small.1
+role_taken (Err r) small = refusal_taken role_macros r small
 
 -- the middle share, and the upper
 middle : (k t s : ℕ) → k ≡ t + 1048576 * s → t < 1048576 → k % 1048576 ≡ t
@@ -135,10 +126,10 @@ tally_of_lem k s t o e l h =
     let w : k / 65536 ≡ t + 1048576 * s = omega arith in
     success (values_3 (ap pos (upper k (o + 65536 * t) s e (omega arith))) (ap pos (middle (k / 65536) t s w l)) (ap pos x))
 
-tally_taken : (x : Tallied) → TallySmall x → taken_by scores_macros (tally_code x) ≡ whole (tally_answer x)
-tally_taken (T.Of x) small =
+tally_taken : (x : Result Tally Refusal) → TallySmall x → taken_by scores_macros (tally_code x) ≡ whole (tally_answer x)
+tally_taken (Ok x) small =
     tally_of_lem _ x.pairs x.joined x.leaving (omega (arith, small.0, small.1, small.2)) (omega (arith, small.1)) (omega (arith, small.2))
-tally_taken (T.Refused r) small = refusal_taken scores_macros r small
+tally_taken (Err r) small = refusal_taken scores_macros r small
 
 -- a count that is at most the length of what was lent
 count_taken : (k room : ℕ) → room < 9223372036854775808 → k ≤ room → taken_by itself (pos (min k 9223372036854775807)) ≡ whole (given (k ∷ []))
@@ -147,9 +138,9 @@ count_taken k room h l =
     let e : min k 9223372036854775807 ≡ k = omega arith in
     success (ap (λ (x : ℕ). pos x ∷ []) e)
 
-looked_taken : (x : Looked) (room : ℕ) → room < 9223372036854775808 → LookedSmall room x → taken_by itself (looked_code x) ≡ whole (look_answer x)
-looked_taken (L.Found k) room h small = count_taken k room h small
-looked_taken (L.Refused r) room h small = refusal_taken itself r small
+looked_taken : (x : Result ℕ Refusal) (room : ℕ) → room < 9223372036854775808 → LookedSmall room x → taken_by itself (looked_code x) ≡ whole (look_answer x)
+looked_taken (Ok k) room h small = count_taken k room h small
+looked_taken (Err r) room h small = refusal_taken itself r small
 
 -- which table, and a count
 scheduled_of_lem : (k x y : ℕ) → k ≡ x + 2 * y → x < 2 → taken_by scheduled_macros (pos k) ≡ whole (given (x ∷ y ∷ []))
@@ -177,16 +168,16 @@ nearest_taken (N.Group k d) small = nearest_of_lem _ 1 k d (omega (arith, small.
 nearest_taken N.NoGroups small = nearest_of_lem 0 0 0 0 (omega arith) (omega arith) (omega arith)
 nearest_taken (N.Refused r) small = refusal_taken nearest_macros r small
 
-report_taken : (x : Reported) (room : ℕ) → room < 9223372036854775808 → ReportSmall room x → taken_by itself (report_code x) ≡ whole (number_only (report_answer x))
-report_taken (R.Written k) room h small = count_taken k room h small
-report_taken (R.Refused r) room h small =
+report_taken : (x : Result ℕ Refusal) (room : ℕ) → room < 9223372036854775808 → ReportSmall room x → taken_by itself (report_code x) ≡ whole (number_only (report_answer x))
+report_taken (Ok k) room h small = count_taken k room h small
+report_taken (Err r) room h small =
     let n : int32 (r.number % 256) ≡ pos r.number = low32 (r.number % 256) r.number (omega (arith, small.number)) (omega (arith, small.number)) in
     let p : int32 (r.number / 256) ≡ pos 0 = low32 (r.number / 256) 0 (omega (arith, small.number)) (omega arith) in
     negative_taken itself r.number small.some ∙ (λ i. record { number = n i; place = p i; values = [] })
 
-encoded_taken : (x : Encoded) → EncodedSmall x → taken_by itself (encoded_code x) ≡ whole (encoded_answer x)
-encoded_taken (E.Length k) small = count_taken k image_most (omega arith) small
-encoded_taken (E.Refused r) small = refusal_taken itself r small
+encoded_taken : (x : Result ℕ Refusal) → EncodedSmall x → taken_by itself (encoded_code x) ≡ whole (encoded_answer x)
+encoded_taken (Ok k) small = count_taken k image_most (omega arith) small
+encoded_taken (Err r) small = refusal_taken itself r small
 
 pub lossless : Lossless
 lossless = record {

@@ -21,13 +21,11 @@
 -- Proved in proofs/Lossless as `lossless`. The part of dvg_members asks for a member table of fewer than 2 ^ 63 entries, that of dvg_members_at for two of
 -- fewer than 2 ^ 62, and that of dvg_report for a buffer of fewer than 2 ^ 63 bytes; a caller in C can lend no longer ones, since no object in C has 2 ^ 63
 -- bytes, and an entry has two.
-use Rattle.std.specs.Prelude.{ℕ, suc, ◌%◌, ◌/◌, ◌<◌, ◌≡◌, List, [], ◌∷◌, map, ℤ, pos, negsuc, length}
+use Rattle.std.specs.Prelude.{ℕ, suc, ◌%◌, ◌/◌, ◌<◌, ◌≡◌, List, [], ◌∷◌, map, ℤ, pos, negsuc, length, Err, Ok, Result}
 use Rattle.fields.specs.Fields.{coordinate_count}
 use Rattle.image.specs.Answers.{Answer, refused, given}
 use Rattle.image.specs.Questions.{open_of}
 use Rattle.image.specs.Signed.{signed32}
-use Rattle.image.specs.declared.Opened.{Opened}
-use Rattle.image.specs.declared.Opened.TheVariants as O
 use Rattle.tables.specs.Plan.{plan_answer}
 use Rattle.planner.specs.Plan.{plan_of, known_of, known_answer}
 use Rattle.scores.specs.Scored.{tallied_of}
@@ -43,6 +41,8 @@ use Rattle.reporting.specs.Report.{report_of, report_answer}
 use Rattle.layout.specs.declared.Parameters.{Parameters}
 use Rattle.writer.specs.Writer.{encoded_of, encoded_answer}
 use Rattle.codes.specs.Codes.{open_code, plan_code, role_code, tally_code, nearest_code, report_code}
+use Rattle.image.specs.declared.Header.{Header}
+use Rattle.image.specs.declared.Refusal.{Refusal}
 use Rattle.table_codes.specs.Codes.{looked_code, scheduled_code, encoded_code}
 
 -- ---- the macros of a success r
@@ -89,9 +89,9 @@ taken_by macros (negsuc k) = record { number = int32 (suc k % 256); place = int3
 
 -- ---- the answers
 
-abbrev pub site_answer : Opened → Answer
-site_answer (O.Site h) = given (h.n ∷ h.m ∷ [])
-site_answer (O.Refused r) = refused r
+abbrev pub site_answer : Result Header Refusal → Answer
+site_answer (Ok h) = given (h.n ∷ h.m ∷ [])
+site_answer (Err r) = refused r
 
 abbrev pub number_only : Answer → Answer
 number_only a = record { number = a.number; place = 0; values = a.values }

@@ -13,6 +13,7 @@
 --     network_of_site, neighbours_kept, neighbours_drawn, neighbours_hold         the first step: the tables hold the network of the site
 --     surveyed, found_in           the second step and the search, for any network that the tables hold
 --     site_no, site_yes, groups_are     the outcome of a call
+use Rattle.std.specs.Prelude.{Err, Ok, Result}
 use Prim.Native.Nat.{ℕ, ◌+◌, ◌*◌, ◌-◌, ◌/◌, ◌%◌, ◌≤◌, ◌<◌, min}
 use native.Mathlib.Omega.{arith}
 use mathlib.Core.Path.{◌≡◌, refl, sym, ap, ap₂, ◌∙◌, subst}
@@ -34,8 +35,6 @@ use Rattle.image.specs.Answers.{open_answer}
 use Rattle.image.specs.Rows.{Room, zeros, related, Reading}
 use Rattle.image.specs.declared.Header.{Header}
 use Rattle.image.specs.declared.Refusal.{Refusal}
-use Rattle.image.specs.declared.Opened.{Opened}
-use Rattle.image.specs.declared.Opened.TheVariants as O
 use Rattle.near.specs.Near.{is_near, neighbour}
 use Rattle.image.proofs.Acceptance.{Fits, accepted_fits, accepted, length_is, handsets_length, edges_length, ends_below}
 use Rattle.image.proofs.Answers.{given_refused, open_same}
@@ -340,14 +339,14 @@ near_counts {g} {ws} small long t c = record {
 }
 
 -- ---- what is told and left of an image
-module _ {s : List ℕ} {a : Opened} {rows sizes : List ℕ} (r : Reading s a rows sizes) where
+module _ {s : List ℕ} {a : Result Header Refusal} {rows sizes : List ℕ} (r : Reading s a rows sizes) where
   opened_is : a ≡ open_of s
   opened_is = open_same a (open_of s) r.answered
 
-  pub told_yes : (h : Header) → a ≡ O.Site h → Accepted s × (h ≡ header_of s)
+  pub told_yes : (h : Header) → a ≡ Ok h → Accepted s × (h ≡ header_of s)
   told_yes h e = accepted s h (sym opened_is ∙ e)
 
-  pub read_no : {near : List ℕ} → near ≡ zeros edge_words → (x : Refusal) → a ≡ O.Refused x → NeighboursRead s a near rows sizes
+  pub read_no : {near : List ℕ} → near ≡ zeros edge_words → (x : Refusal) → a ≡ Err x → NeighboursRead s a near rows sizes
   read_no z x e = record {
     answered = opened_is;
     room = r.room;
@@ -355,8 +354,8 @@ module _ {s : List ℕ} {a : Opened} {rows sizes : List ℕ} (r : Reading s a ro
     cleared = λ y d. (z, r.cleared y d);
   }
 
-  pub read_yes : {near ws sizes' : List ℕ} (h : Header) → a ≡ O.Site h → Room ws sizes' → Neighbours s near ws sizes'
-      → NeighboursRead s (O.Site h) near ws sizes'
+  pub read_yes : {near ws sizes' : List ℕ} (h : Header) → a ≡ Ok h → Room ws sizes' → Neighbours s near ws sizes'
+      → NeighboursRead s (Ok h) near ws sizes'
   read_yes h e room k = record {
     answered = sym e ∙ opened_is;
     room = room;
@@ -506,8 +505,8 @@ found_in {g} {after} {cores} {rows} {r} y long call = record {
 }
 
 -- ---- the outcome of a call
-pub site_no : {s : List ℕ} {g : Network} {a : Opened} {near ws sizes cores : List ℕ} → NeighboursRead s a near ws sizes → cores ≡ zeros 8 → (x : Refusal)
-    → a ≡ O.Refused x
+pub site_no : {s : List ℕ} {g : Network} {a : Result Header Refusal} {near ws sizes cores : List ℕ} → NeighboursRead s a near ws sizes → cores ≡ zeros 8 → (x : Refusal)
+    → a ≡ Err x
     → SiteFound s g (record { opened = a; groups = 0; tests = 0 }) near ws sizes cores
 site_no r z x e = record {
   answered = r.answered;
@@ -516,8 +515,8 @@ site_no r z x e = record {
   cleared = λ y d. let c = r.cleared y d in (refl, refl, c.0, c.1, z);
 }
 
-pub site_yes : {s : List ℕ} {g : Network} {groups tests : ℕ} {near ws sizes cores : List ℕ} (h : Header) → O.Site h ≡ open_of s → Room ws sizes
-    → Groups s g groups tests near ws sizes cores → SiteFound s g (record { opened = O.Site h; groups = groups; tests = tests }) near ws sizes cores
+pub site_yes : {s : List ℕ} {g : Network} {groups tests : ℕ} {near ws sizes cores : List ℕ} (h : Header) → Ok h ≡ open_of s → Room ws sizes
+    → Groups s g groups tests near ws sizes cores → SiteFound s g (record { opened = Ok h; groups = groups; tests = tests }) near ws sizes cores
 site_yes h e room k = record { answered = e; room = room; found = λ i d. k; cleared = λ y d. given_refused _ _ y (ap open_answer d) }
 
 pub groups_are : {s : List ℕ} {g : Network} {groups tests : ℕ} {near ws table sizes cores : List ℕ} → Accepted s → length sizes ≡ 512

@@ -17,7 +17,7 @@
 --     HeldWithin s within ..   where the edges and the table held the site's network, they now hold that of the handsets within the set
 --     Neighbours s near ws sizes   of an accepted image: the set of its near edges, its neighbour table, and the sizes of the table's rows
 --     NeighboursRead s answer ..   what opening the image answers and leaves: the reader's answer; the neighbours after a yes, 0 everywhere after a no
-use Rattle.std.specs.Prelude.{ℕ, ◌+◌, ◌*◌, ◌-◌, ◌≤◌, ◌<◌, min, ◌≡◌, ◌⊎◌, Bool, ◌&&◌, not, List, T, leb, eqb, length, get_or}
+use Rattle.std.specs.Prelude.{ℕ, ◌+◌, ◌*◌, ◌-◌, ◌≤◌, ◌<◌, min, ◌≡◌, ◌⊎◌, Bool, ◌&&◌, not, List, T, leb, eqb, length, get_or, Err, Ok, Option, Result}
 use Rattle.sets.specs.Below.{bit, sum}
 use Rattle.sets.specs.Bits.{bit_of, bit_at, cell}
 use Rattle.sets.specs.Rows.{SetOf, Table, Counted}
@@ -28,10 +28,7 @@ use Rattle.image.specs.Questions.{Accepted, open_of}
 use Rattle.image.specs.Rows.{Room, zeros, Cleared}
 use Rattle.image.specs.declared.Header.{Header}
 use Rattle.image.specs.declared.Refusal.{Refusal}
-use Rattle.image.specs.declared.Opened.{Opened}
-use Rattle.image.specs.declared.Opened.TheVariants.{Site, Refused}
 use Rattle.near.specs.Near.{proximity_of, is_near}
-use Rattle.near.specs.declared.Proximity.{Proximity}
 use Rattle.community.specs.Network.{Network, meets_epsilon}
 use Rattle.community.specs.ForProofs.{Sound}
 use Rattle.search.specs.Communities.{similar_in, core_in, Grouped}
@@ -48,7 +45,7 @@ in_word word base k = leb base k && eqb (bit_of word (k - base)) 1
 pub record WordOf (w : ℕ) (f : ℕ → Bool) : Type 0 where
   pub bits : (k : ℕ) → k < 64 → bit_of w k ≡ bit (f k)
 
-abbrev pub edge_proximity : List ℕ → List ℕ → ℕ → ℕ → Proximity
+abbrev pub edge_proximity : List ℕ → List ℕ → ℕ → ℕ → Option ℕ
 edge_proximity handsets edges limit k = proximity_of (handset_record handsets (end_a edges k)) (handset_record handsets (end_b edges k)) limit
 
 abbrev pub passes_near : List ℕ → List ℕ → ℕ → ℕ → Bool
@@ -115,8 +112,8 @@ pub record Neighbours (s near ws sizes : List ℕ) : Type 0 where
   pub table : Table ws (neighbour_in (network s))
   pub counted : Counted ws sizes
 
-pub record NeighboursRead (s : List ℕ) (answer : Opened) (near ws sizes : List ℕ) : Type 0 where
+pub record NeighboursRead (s : List ℕ) (answer : Result Header Refusal) (near ws sizes : List ℕ) : Type 0 where
   pub answered : answer ≡ open_of s
   pub room : Room ws sizes
-  pub neighbours : (h : Header) → answer ≡ Site h → Neighbours s near ws sizes
-  pub cleared : (x : Refusal) → answer ≡ Refused x → (near ≡ zeros edge_words) × Cleared ws sizes
+  pub neighbours : (h : Header) → answer ≡ Ok h → Neighbours s near ws sizes
+  pub cleared : (x : Refusal) → answer ≡ Err x → (near ≡ zeros edge_words) × Cleared ws sizes

@@ -13,7 +13,7 @@
 --     RowsFound s g r ws cores     the same of a call that keeps the near edges and the near counts to itself
 --     among g f                    the network among the handsets that pass a test, under the same numbers: the others have no neighbours, not even themselves
 --     PartFound s within r ..      what a call that finds the communities among the handsets within a set answers and leaves
-use Rattle.std.specs.Prelude.{ℕ, ◌/◌, ◌≤◌, ◌<◌, ◌≡◌, Bool, ◌&&◌, List, ltb, length, get_or}
+use Rattle.std.specs.Prelude.{ℕ, ◌/◌, ◌≤◌, ◌<◌, ◌≡◌, Bool, ◌&&◌, List, ltb, length, get_or, Err, Ok}
 use Rattle.sets.specs.Below.{bit, count}
 use Rattle.sets.specs.Bits.{bit_at, cell}
 use Rattle.sets.specs.Rows.{SetOf}
@@ -23,7 +23,6 @@ use Rattle.image.specs.Questions.{open_of}
 use Rattle.image.specs.Rows.{Room, zeros, Cleared}
 use Rattle.image.specs.declared.Header.{Header}
 use Rattle.image.specs.declared.Refusal.{Refusal}
-use Rattle.image.specs.declared.Opened.TheVariants.{Site, Refused}
 use Rattle.community.specs.Network.{Network, neighbourhood_size}
 use Rattle.community.specs.Site.{network}
 use Rattle.search.specs.Communities.{both, similar_in, core_in, Grouped}
@@ -67,8 +66,8 @@ pub record Groups (s : List ℕ) (g : Network) (groups tests : ℕ) (near ws siz
 pub record SiteFound (s : List ℕ) (g : Network) (r : SiteGroups) (near ws sizes cores : List ℕ) : Type 0 where
   pub answered : r.opened ≡ open_of s
   pub room : Room ws sizes
-  pub found : (h : Header) → r.opened ≡ Site h → Groups s g r.groups r.tests near ws sizes cores
-  pub cleared : (x : Refusal) → r.opened ≡ Refused x → (r.groups ≡ 0) × (r.tests ≡ 0) × (near ≡ zeros edge_words) × Cleared ws sizes × (cores ≡ zeros 8)
+  pub found : (h : Header) → r.opened ≡ Ok h → Groups s g r.groups r.tests near ws sizes cores
+  pub cleared : (x : Refusal) → r.opened ≡ Err x → (r.groups ≡ 0) × (r.tests ≡ 0) × (near ≡ zeros edge_words) × Cleared ws sizes × (cores ≡ zeros 8)
 
 -- for some near edges and near counts
 pub record RowsFound (s : List ℕ) (g : Network) (r : SiteGroups) (ws cores : List ℕ) : Type 0 where

@@ -24,8 +24,7 @@ ghost use Rattle.graph.specs.ForProofs.{HasEnds, in_word, WordOf, edge_proximity
 ghost use Rattle.graph.specs.ForProofs.{both_within, SelfTaken, Drawn, Finds, HeldWithin};
 
 use fields::Ends;
-use image::{Header, Opened};
-use near::Proximity;
+use image::{Header, Refusal};
 
 // How many words a set of edges has, one bit an edge.
 pub const EDGE_WORDS: usize = limits::EDGES_MOST / 64;
@@ -54,7 +53,7 @@ struct Found {
 // The reader's answer, how many communities were found, and by how many tests for similarity.
 #[derive(Clone, Copy)]
 pub struct SiteGroups {
-    pub opened: Opened,
+    pub opened: Result<Header, Refusal>,
     pub groups: usize,
     pub tests: u32,
 }
@@ -83,7 +82,7 @@ fn ends_at(edges: &[u8], k: usize) -> Ends
 }
 
 // The near test of the ends of edge k.
-fn test_edge<'a>(handsets: &'a [u8], edges: &'a [u8], k: usize, limit: u64) -> Proximity
+fn test_edge<'a>(handsets: &'a [u8], edges: &'a [u8], k: usize, limit: u64) -> Option<u64>
     requires { (length handsets.now ≤ handset_bytes * 512) × (HasEnds edges.now (length handsets.now / handset_bytes) k) }
     ensures { result ≡ edge_proximity handsets.now edges.now limit k }
 {
@@ -107,8 +106,8 @@ fn near_word<'a>(handsets: &'a [u8], edges: &'a [u8], base: usize, count: usize,
         k -= 1;
         let tested = test_edge(handsets, edges, base + k, limit);
         let one = match tested {
-            Proximity::Near(_) => 1u64,
-            Proximity::NotNear => 0u64,
+            Some(_) => 1u64,
+            None => 0u64,
         };
         word = (word << 1) | one;
     }
@@ -286,12 +285,12 @@ fn open_neighbours(
     near: &mut [u64; EDGE_WORDS],
     table: &mut [u64; sets::TABLE_WORDS],
     sizes: &mut [u32; 512],
-) -> Opened
+) -> Result<Header, Refusal>
     ensures { NeighboursRead image.now result near.new table.new sizes.new }
 {
     *near = [0u64; EDGE_WORDS];
     let opened = image::open_rows(image, table, sizes);
-    let Opened::Site(h) = opened else {
+    let Ok(h) = opened else {
         return opened;
     };
     let m = h.m as usize;
@@ -350,7 +349,7 @@ pub fn find_rows(
     let mut sizes = [0u32; 512];
     *cores = [0u64; 8];
     let opened = open_neighbours(image, &mut near, table, &mut sizes);
-    let Opened::Site(h) = opened else {
+    let Ok(h) = opened else {
         return SiteGroups {
             opened,
             groups: 0,
@@ -378,7 +377,7 @@ pub fn find_site(
 {
     *cores = [0u64; 8];
     let opened = open_neighbours(image, near, table, sizes);
-    let Opened::Site(h) = opened else {
+    let Ok(h) = opened else {
         return SiteGroups {
             opened,
             groups: 0,
@@ -498,7 +497,7 @@ pub fn find_part<'a>(
 {
     *cores = [0u64; 8];
     let opened = open_neighbours(image, near, table, sizes);
-    let Opened::Site(h) = opened else {
+    let Ok(h) = opened else {
         return SiteGroups {
             opened,
             groups: 0,

@@ -2,6 +2,7 @@
 --
 --     planar_images      the theorem of specs/Plane: bytes that are zero are no width
 --     planar_distance    the theorems: the square of dz is 0
+use Rattle.std.specs.Prelude.{Err}
 use Prim.Native.Nat.{ℕ, ◌<◌}
 use native.Mathlib.Omega.{arith}
 use mathlib.Core.Path.{◌≡◌, sym, ap, ap₂, ◌∙◌}
@@ -17,7 +18,6 @@ use Rattle.image.specs.Questions.{ask_header, ask_image, open_of}
 use Rattle.image.specs.Signed.{signed_coordinate, square, signed_sum, signed_apart, signed_distance, Bytes}
 use Rattle.image.specs.Answers.{refusal}
 use Rattle.history.specs.Plane.{PlanarImages, planar_apart, PlanarDistance}
-use Rattle.image.specs.declared.Opened.TheVariants.{Refused}
 use Rattle.image.proofs.Acceptance.{go_on, refuse}
 use Rattle.image.proofs.Signed.{signed_positions}
 
@@ -26,7 +26,7 @@ unfolding header_of
 width_zero s long low high = omega (arith, number_le 2 s 30 (leb→le header_bytes (length s) long), low, high)
 
 refused_with_4 : (s : List ℕ) → T (leb header_bytes (length s)) → T (eqb (header_of s).len (length s)) → T (counts_fit (header_of s).n (header_of s).m)
-    → get_or s 30 0 ≡ 0 → get_or s 31 0 ≡ 0 → open_of s ≡ Refused (refusal 4)
+    → get_or s 30 0 ≡ 0 → get_or s 31 0 ≡ 0 → open_of s ≡ Err (refusal 4)
 unfolding open_of ask_image ask_header
 refused_with_4 s q1 q2 q3 low high =
     go_on (leb header_bytes (length s)) _ _ _ q1

@@ -10,6 +10,7 @@
 --     anew             the writer answers its length, and the buffer then begins with it
 --     its_tables       the tables of an older image
 --     taken_over       the theorem
+use Rattle.std.specs.Prelude.{Err, Ok, Result}
 use Prim.Native.Nat.{ℕ, zero, suc, ◌+◌, ◌*◌, ◌/◌, ◌%◌, ◌≤◌, ◌<◌}
 use native.Mathlib.Omega.{arith}
 use mathlib.Core.Path.{◌≡◌, refl, sym, ap, ap₂, ◌∙◌, subst}
@@ -30,7 +31,6 @@ use Rattle.image.specs.Image.{header_of, handset_count, edge_count, limit_of, ed
 use Rattle.image.specs.Questions.{bad_end, is_loop, repeats_earlier, open_of, Accepted}
 use Rattle.image.specs.Signed.{within_limits, signed_coordinate, square}
 use Rattle.image.specs.Answers.{refusal}
-use Rattle.image.specs.declared.Opened.TheVariants as O
 use Rattle.image.proofs.Acceptance.{opened, ends_below}
 use Rattle.image.proofs.Edges.{joins_cases}
 use Rattle.near.specs.Near.{neighbour}
@@ -44,17 +44,16 @@ use Rattle.layout.proofs.Numbers.{record_numbers}
 use Rattle.layout.proofs.Reading.{Asked, image_below, handsets_read, edges_read, header_accepted}
 use Rattle.writer.specs.Holds.{parameters_of, Holds}
 use Rattle.writer.specs.Writer.{WriteCall}
-use Rattle.writer.specs.declared.Encoded.{Encoded}
-use Rattle.writer.specs.declared.Encoded.TheVariants as E
 use Rattle.writer.proofs.Outcome.{written}
 use Rattle.writer.proofs.Tables.{every_entry, edges_below, EndTable, ends_low, ends_are, asked_by, image_holds, ends_in, ends_in_lem, coordinates_by, coordinates_length, coordinate_at}
 use Rattle.history.specs.Plane.{planar_apart}
 use Rattle.history.specs.TakenOver.{planar_width, planar_limit_most, planar_coordinate, PlanarAccepted, planar_near, planar_network, PlanarHolds, Kept, TakenOver}
+use Rattle.image.specs.declared.Refusal.{Refusal}
 use Rattle.history.proofs.Plane.{planar_images, planar_distance}
 
 -- ---- the older image is refused
 
-refused : (s : List ℕ) → PlanarAccepted s → open_of s ≡ O.Refused (refusal 4)
+refused : (s : List ℕ) → PlanarAccepted s → open_of s ≡ Err (refusal 4)
 unfolding header_of
 refused s ok =
     let none : (header_of s).width ≡ 0 = eqb→eq (header_of s).width 0 ok.q4 in
@@ -219,8 +218,8 @@ module _ (s : List ℕ) (x : Parameters) (coords : List ℤ) (ends : List ℕ) (
       handset : (v : ℕ) → v < handset_count s → v < x.n
       handset v h = subst (λ (y : Parameters). v < y.n) held.parameters h
 
-  anew : (l : List ℕ) (r : Encoded) (l' : List ℕ) → (header_for x).len ≤ length l → WriteCall x coords ends l r l'
-      → (r ≡ E.Length (header_for x).len) × Kept s (take (header_for x).len l')
+  anew : (l : List ℕ) (r : Result ℕ Refusal) (l' : List ℕ) → (header_for x).len ≤ length l → WriteCall x coords ends l r l'
+      → (r ≡ Ok (header_for x).len) × Kept s (take (header_for x).len l')
   anew l r l' room call =
       let w = written x coords ends asked (opened image image_accepted) l r l' room call in
       (w.0, subst (Kept s) (sym w.1) kept)

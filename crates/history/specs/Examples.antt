@@ -4,10 +4,9 @@
 --     planar_s     site S with mu 4 as it was written until paper 02, order 7: no z, and zero in bytes 30 and 31
 --     planar G    two handsets, tied, at (-1, -1) and (0, 1), as they were written until then: the edge first, G for the near distance
 --     Examples    the list
-use Rattle.std.specs.Prelude.{ℕ, ◌≡◌, true, false, List, ◌∷◌, ◌++◌, pos, negsuc, take, replicate}
+use Rattle.std.specs.Prelude.{ℕ, ◌≡◌, true, false, List, ◌∷◌, ◌++◌, pos, negsuc, take, replicate, Err}
 use Rattle.image.specs.Answers.{refusal}
 use Rattle.image.specs.Questions.{open_of}
-use Rattle.image.specs.declared.Opened.TheVariants.{Refused}
 use Rattle.community.specs.Examples.{header, small, minus, edges_s, pair}
 use Rattle.history.specs.NearTest.{older_neighbour}
 use Rattle.history.specs.TakenOver.{planar_coordinate, planar_near}
@@ -28,5 +27,5 @@ pub record Examples : Type 0 where
   pub planar_second : (planar_coordinate (planar 5) 1 0 ≡ pos 0) × (planar_coordinate (planar 5) 1 1 ≡ pos 1)
   pub planar_near_lem : planar_near (planar 5) 0 1 ≡ true
   pub planar_apart_lem : planar_near (planar 4) 0 1 ≡ false
-  pub pair_refused : open_of (planar 5) ≡ Refused (refusal 4)
-  pub site_s_refused : open_of planar_s ≡ Refused (refusal 4)
+  pub pair_refused : open_of (planar 5) ≡ Err (refusal 4)
+  pub site_s_refused : open_of planar_s ≡ Err (refusal 4)

@@ -15,7 +15,7 @@
 --       refused                     an older image that was accepted is refused with 4
 --       written                     its numbers are written where the buffer is long enough, and what is written keeps the site
 --       its_tables                  every older image that was accepted has its tables
-use Rattle.std.specs.Prelude.{ℕ, ◌+◌, ◌*◌, ◌≤◌, ◌<◌, ◌≡◌, Bool, ◌&&◌, ◌||◌, not, List, T, leb, eqb, ℤ, pos, length, get_or, take}
+use Rattle.std.specs.Prelude.{ℕ, ◌+◌, ◌*◌, ◌≤◌, ◌<◌, ◌≡◌, Bool, ◌&&◌, ◌||◌, not, List, T, leb, eqb, ℤ, pos, length, get_or, take, Err, Ok, Result}
 use Rattle.std.specs.Int.Signed.{le_z}
 use Rattle.little_endian.specs.Bytes.{number, Below}
 use Rattle.fields.specs.Fields.{coordinate_bytes, coordinate_count, edge_bytes, end_count, header_bytes}
@@ -24,7 +24,6 @@ use Rattle.image.specs.Image.{header_of, handset_count, edge_count, limit_of, ep
 use Rattle.image.specs.Questions.{bad_end, is_loop, repeats_earlier, open_of, Accepted}
 use Rattle.image.specs.Signed.{signed32, within_limits}
 use Rattle.image.specs.Answers.{refusal}
-use Rattle.image.specs.declared.Opened.TheVariants as O
 use Rattle.community.specs.Network.{Network}
 use Rattle.community.specs.Site.{network}
 use Rattle.points.specs.Points.{signed_distance_to}
@@ -32,8 +31,7 @@ use Rattle.layout.specs.Layout.{header_for, Signed32}
 use Rattle.layout.specs.declared.Parameters.{Parameters}
 use Rattle.writer.specs.Holds.{parameters_of}
 use Rattle.writer.specs.Writer.{WriteCall}
-use Rattle.writer.specs.declared.Encoded.{Encoded}
-use Rattle.writer.specs.declared.Encoded.TheVariants as E
+use Rattle.image.specs.declared.Refusal.{Refusal}
 use Rattle.history.specs.Plane.{planar_apart}
 
 abbrev pub planar_count : ℕ
@@ -92,9 +90,9 @@ pub record Kept (s t : List ℕ) : Type 0 where
 
 -- x are the parameters, coords and ends the two tables and l the buffer as lent; r is the answer, and l' the buffer after the call
 pub record TakenOver : Type 0 where
-  pub refused : (s : List ℕ) → PlanarAccepted s → open_of s ≡ O.Refused (refusal 4)
-  pub written : (s : List ℕ) (x : Parameters) (coords : List ℤ) (ends l : List ℕ) (r : Encoded) (l' : List ℕ) → PlanarAccepted s → Below 256 s
+  pub refused : (s : List ℕ) → PlanarAccepted s → open_of s ≡ Err (refusal 4)
+  pub written : (s : List ℕ) (x : Parameters) (coords : List ℤ) (ends l : List ℕ) (r : Result ℕ Refusal) (l' : List ℕ) → PlanarAccepted s → Below 256 s
       → PlanarHolds s x coords ends → (header_for x).len ≤ length l → WriteCall x coords ends l r l'
-      → (r ≡ E.Length (header_for x).len) × Kept s (take (header_for x).len l')
+      → (r ≡ Ok (header_for x).len) × Kept s (take (header_for x).len l')
   pub its_tables : (s : List ℕ) → PlanarAccepted s → Below 256 s
       → (coords : List ℤ) × (ends : List ℕ) × Signed32 coords × Below 65536 ends × PlanarHolds s (parameters_of (header_of s)) coords ends

@@ -14,6 +14,7 @@
 --     header_short, header_other, header_on     how questions 1 and 2 go, with the header in hand
 --     header_no           where one of questions 1 to 6 gets a no, that is the answer; header_yes: where all get a yes, what that says of the image
 --     header_passed       and then the answer is that of questions 7 to 10
+use Rattle.std.specs.Prelude.{Err, Ok, Result}
 use Prim.Native.Nat.{ℕ, ◌+◌, ◌*◌, ◌-◌, ◌≤◌, ◌<◌}
 use native.Mathlib.Omega.{arith}
 use mathlib.Core.Path.{◌≡◌, refl, sym, ap, ◌∙◌, subst}
@@ -32,21 +33,19 @@ use Rattle.image.specs.Questions.{tables_fit, bad_end, is_loop, repeats_earlier,
 use Rattle.image.specs.Acceptance.{Acceptance}
 use Rattle.image.specs.declared.Header.{Header}
 use Rattle.image.specs.declared.Refusal.{Refusal}
-use Rattle.image.specs.declared.Opened.{Opened}
-use Rattle.image.specs.declared.Opened.TheVariants.{Site, Refused}
 
-pub pass : {h : Header} (b : Bool) (k p : ℕ) (next : Opened) → ask b k p next ≡ Site h → T b × (next ≡ Site h)
+pub pass : {h : Header} (b : Bool) (k p : ℕ) (next : Result Header Refusal) → ask b k p next ≡ Ok h → T b × (next ≡ Ok h)
 unfolding ask
 pass true k p next e = (tt, e)
 pass false k p next e = let z : ◌≡◌ {A = ℕ} 0 1 = cc in absurd (omega arith)
 
-pub go_on : (b : Bool) (k p : ℕ) (next : Opened) → T b → ask b k p next ≡ next
+pub go_on : (b : Bool) (k p : ℕ) (next : Result Header Refusal) → T b → ask b k p next ≡ next
 unfolding ask
 go_on true k p next t = refl
 go_on false k p next t = absurd t
 
-module _ (n : ℕ) (bad : ℕ → Bool) (k : ℕ) (next : Opened) where
-  pass_each : {h : Header} → ask_each n bad k next ≡ Site h → ((i : ℕ) → i < n → T (not (bad i))) × (next ≡ Site h)
+module _ (n : ℕ) (bad : ℕ → Bool) (k : ℕ) (next : Result Header Refusal) where
+  pass_each : {h : Header} → ask_each n bad k next ≡ Ok h → ((i : ℕ) → i < n → T (not (bad i))) × (next ≡ Ok h)
   unfolding ask_each
   pass_each e = let a = pass (not (any n bad)) k _ next e in (any_none n bad a.0, a.1)
 
@@ -54,11 +53,11 @@ module _ (n : ℕ) (bad : ℕ → Bool) (k : ℕ) (next : Opened) where
   unfolding ask_each
   go_on_each f = go_on (not (any n bad)) k _ next (none_any n bad f)
 
-same : {h g : Header} → Site g ≡ Site h → g ≡ h
+same : {h g : Header} → Ok g ≡ Ok h → g ≡ h
 same e = cc
 
 -- questions 7 to 10 answer no other header than that of which they were asked
-pub records_header : (handsets edges : List ℕ) (g : Header) {h : Header} → ask_records handsets edges g ≡ Site h → g ≡ h
+pub records_header : (handsets edges : List ℕ) (g : Header) {h : Header} → ask_records handsets edges g ≡ Ok h → g ≡ h
 unfolding ask_records ask_edges
 records_header handsets edges g e =
     let a7 = pass_each g.n (λ v. out_of_limits (handset_record handsets v)) _ _ e in
@@ -67,9 +66,9 @@ records_header handsets edges g e =
     let a10 = pass_each g.m (repeats_earlier edges) _ _ a9.1 in
     same a10.1
 
-module _ (s : List ℕ) (next : Opened) where
+module _ (s : List ℕ) (next : Result Header Refusal) where
   -- questions 1 to 6 got a yes, and the rest answered the header
-  pass_header : {h : Header} → ask_image s next ≡ Site h → HeaderAccepted s × (next ≡ Site h)
+  pass_header : {h : Header} → ask_image s next ≡ Ok h → HeaderAccepted s × (next ≡ Ok h)
   unfolding ask_image ask_header
   pass_header e =
       let a1 = pass (leb 32 (length s)) _ _ _ e in
@@ -91,7 +90,7 @@ module _ (s : List ℕ) (next : Opened) where
       ∙ go_on (thresholds_fit (header_of s).limit (header_of s).p (header_of s).q (header_of s).mu) _ _ _ a.q5
       ∙ go_on (tables_fit (header_of s)) _ _ _ a.q6
 
-pub accepted : (s : List ℕ) (h : Header) → open_of s ≡ Site h → Accepted s × (h ≡ header_of s)
+pub accepted : (s : List ℕ) (h : Header) → open_of s ≡ Ok h → Accepted s × (h ≡ header_of s)
 unfolding open_of ask_records ask_edges
 accepted s h e =
     let a = pass_header s _ e in
@@ -101,7 +100,7 @@ accepted s h e =
     let a10 = pass_each (edge_count s) (repeats_earlier (edge_records s)) _ _ a9.1 in
     (record { header = a.0; q7 = a7.0; q8 = a8.0; q9 = a9.0; q10 = a10.0 }, sym (same a10.1))
 
-pub opened : (s : List ℕ) → Accepted s → open_of s ≡ Site (header_of s)
+pub opened : (s : List ℕ) → Accepted s → open_of s ≡ Ok (header_of s)
 unfolding open_of ask_records ask_edges
 opened s a =
     go_on_header s _ a.header
@@ -112,17 +111,17 @@ opened s a =
 
 module _ {A : Type 0} (s : List ℕ) (f : Header → A) (g : Refusal → A) where
   pub when_accepted : Accepted s → when_opened s f g ≡ f (header_of s)
-  when_accepted a = ap (λ (o : Opened). by_answer o f g) (opened s a)
+  when_accepted a = ap (λ (o : Result Header Refusal). by_answer o f g) (opened s a)
 
-  pub when_refused : (r : Refusal) → open_of s ≡ Refused r → when_opened s f g ≡ g r
-  when_refused r e = ap (λ (o : Opened). by_answer o f g) e
+  pub when_refused : (r : Refusal) → open_of s ≡ Err r → when_opened s f g ≡ g r
+  when_refused r e = ap (λ (o : Result Header Refusal). by_answer o f g) e
 
-  pub when_either : (P : A → Type 0) → (Accepted s → P (f (header_of s))) → ((r : Refusal) → open_of s ≡ Refused r → P (g r)) → P (when_opened s f g)
+  pub when_either : (P : A → Type 0) → (Accepted s → P (f (header_of s))) → ((r : Refusal) → open_of s ≡ Err r → P (g r)) → P (when_opened s f g)
   when_either P p q = go (open_of s) refl
     where
-      go : (o : Opened) → open_of s ≡ o → P (by_answer o f g)
-      go (Site h) e = let a = accepted s h e in subst (λ (x : Header). P (f x)) (sym a.1) (p a.0)
-      go (Refused r) e = q r e
+      go : (o : Result Header Refusal) → open_of s ≡ o → P (by_answer o f g)
+      go (Ok h) e = let a = accepted s h e in subst (λ (x : Header). P (f x)) (sym a.1) (p a.0)
+      go (Err r) e = q r e
 
 pub acceptance : Acceptance
 acceptance = record { only_accepted = λ s h e. (accepted s h e).0; the_header = λ s h e. (accepted s h e).1; every_accepted = opened }
@@ -180,36 +179,36 @@ good_ends records n k bad =
     let t : T (x && y) = yes_of (x && y) bad in
     (ltb→lt (end_a records k) n (and_left x y t), ltb→lt (end_b records k) n (and_right x y t))
 
-pub refuse : (b : Bool) (k p : ℕ) (next : Opened) → b ≡ false → ask b k p next ≡ Refused (record { number = k; place = p })
+pub refuse : (b : Bool) (k p : ℕ) (next : Result Header Refusal) → b ≡ false → ask b k p next ≡ Err (record { number = k; place = p })
 unfolding ask
 refuse true k p next e = let z : ◌≡◌ {A = ℕ} 0 1 = cc in absurd (omega arith)
 refuse false k p next e = refl
 
-pub header_short : (s : List ℕ) (next : Opened) → length s < 32 → ask_image s next ≡ Refused (record { number = 1; place = 0 })
+pub header_short : (s : List ℕ) (next : Result Header Refusal) → length s < 32 → ask_image s next ≡ Err (record { number = 1; place = 0 })
 unfolding ask_image
 header_short s next l = refuse (leb 32 (length s)) _ _ _ (lt-leb 32 (length s) l)
 
 module _ (s : List ℕ) (l : 32 ≤ length s) where
-  pub header_other : (next : Opened) → ((header_of s).len ≡ length s → ⊥) → ask_image s next ≡ Refused (record { number = 2; place = 0 })
+  pub header_other : (next : Result Header Refusal) → ((header_of s).len ≡ length s → ⊥) → ask_image s next ≡ Err (record { number = 2; place = 0 })
   unfolding ask_image
   header_other next d =
       go_on (leb 32 (length s)) _ _ _ (le→leb 32 (length s) l)
       ∙ refuse (eqb (header_of s).len (length s)) _ _ _ (ne_eqb (header_of s).len (length s) d)
 
-  pub header_on : (h : Header) → h ≡ header_of s → h.len ≡ length s → ask_image s (Site (header_of s)) ≡ ask_header h (Site h)
+  pub header_on : (h : Header) → h ≡ header_of s → h.len ≡ length s → ask_image s (Ok (header_of s)) ≡ ask_header h (Ok h)
   unfolding ask_image
   header_on h e d =
       go_on (leb 32 (length s)) _ _ _ (le→leb 32 (length s) l)
       ∙ go_on (eqb (header_of s).len (length s)) _ _ _ (eqb_of (header_of s).len (length s) (ap (λ (x : Header). x.len) (sym e) ∙ d))
-      ∙ ap (λ (x : Header). ask_header x (Site x)) (sym e)
+      ∙ ap (λ (x : Header). ask_header x (Ok x)) (sym e)
 
-stop : {r : Refusal} (b : Bool) (k p : ℕ) (x y : Opened) → (x ≡ Refused r → y ≡ Refused r) → ask b k p x ≡ Refused r → ask b k p y ≡ Refused r
+stop : {r : Refusal} (b : Bool) (k p : ℕ) (x y : Result Header Refusal) → (x ≡ Err r → y ≡ Err r) → ask b k p x ≡ Err r → ask b k p y ≡ Err r
 unfolding ask
 stop true k p x y f e = f e
 stop false k p x y f e = e
 
 -- a no to one of questions 1 to 6 is the answer to all ten
-pub header_no : (s : List ℕ) (r : Refusal) → ask_image s (Site (header_of s)) ≡ Refused r → open_of s ≡ Refused r
+pub header_no : (s : List ℕ) (r : Refusal) → ask_image s (Ok (header_of s)) ≡ Err r → open_of s ≡ Err r
 unfolding open_of ask_image ask_header
 header_no s r e =
     stop (leb 32 (length s)) _ _ _ _
@@ -217,9 +216,9 @@ header_no s r e =
     (stop (counts_fit (header_of s).n (header_of s).m) _ _ _ _
     (stop (eqb (header_of s).width handset_bytes) _ _ _ _
     (stop (thresholds_fit (header_of s).limit (header_of s).p (header_of s).q (header_of s).mu) _ _ _ _
-    (stop (tables_fit (header_of s)) _ _ (Site (header_of s)) _ (λ z. let w : ◌≡◌ {A = ℕ} 0 1 = cc in absurd (omega arith))))))) e
+    (stop (tables_fit (header_of s)) _ _ (Ok (header_of s)) _ (λ z. let w : ◌≡◌ {A = ℕ} 0 1 = cc in absurd (omega arith))))))) e
 
-pub header_yes : (s : List ℕ) (h : Header) → ask_image s (Site (header_of s)) ≡ Site h → HeaderAccepted s × (h ≡ header_of s)
+pub header_yes : (s : List ℕ) (h : Header) → ask_image s (Ok (header_of s)) ≡ Ok h → HeaderAccepted s × (h ≡ header_of s)
 header_yes s h e = let a = pass_header s _ e in (a.0, sym (same a.1))
 
 module _ (s : List ℕ) (a : HeaderAccepted s) where
@@ -247,7 +246,7 @@ module _ (s : List ℕ) (a : HeaderAccepted s) where
   edges_length = simp (length-take, length-drop) (omega (arith, header_fits.edges_to, header_length))
 
 -- for the reader: with the header in hand, what its numbers keep to, and what is left to ask
-pub header_passed : (s : List ℕ) (h : Header) → ask_image s (Site (header_of s)) ≡ Site h
+pub header_passed : (s : List ℕ) (h : Header) → ask_image s (Ok (header_of s)) ≡ Ok h
     → Fits h × (h.len ≡ length s) × (open_of s ≡ ask_records (take (handset_bytes * h.n) (drop h.handsets s)) (take (edge_bytes * h.m) (drop h.edges s)) h)
 unfolding open_of handset_records edge_records
 header_passed s h e =

@@ -1,4 +1,5 @@
 -- Two answers with the same number, place and values are the same answer: a header has values and a refusal none, and each is made of its parts.
+use Rattle.std.specs.Prelude.{Err, Ok, Result}
 use Prim.Native.Nat.{ℕ}
 use native.Mathlib.Omega.{arith}
 use mathlib.Core.Path.{◌≡◌, sym, ap, ap₂}
@@ -7,8 +8,6 @@ use lib.ListN.{get_or}
 use Rattle.image.specs.Answers.{Answer, refused, given, open_answer, OneAnswer}
 use Rattle.image.specs.declared.Header.{Header}
 use Rattle.image.specs.declared.Refusal.{Refusal}
-use Rattle.image.specs.declared.Opened.{Opened}
-use Rattle.image.specs.declared.Opened.TheVariants.{Site, Refused}
 
 -- values are none of a refusal's
 pub given_refused : {A : Type 0} (x : ℕ) (xs : List ℕ) (r : Refusal) → given (x ∷ xs) ≡ refused r → A
@@ -26,9 +25,9 @@ refused_same r q e =
     make : ℕ → ℕ → Refusal
     make a b = record { number = a; place = b }
 
-pub open_same : (a b : Opened) → open_answer a ≡ open_answer b → a ≡ b
-open_same (Site h) (Site g) e =
-    ap Site (ap make (ap (λ (a : Answer). a.values) e))
+pub open_same : (a b : Result Header Refusal) → open_answer a ≡ open_answer b → a ≡ b
+open_same (Ok h) (Ok g) e =
+    ap Ok (ap make (ap (λ (a : Answer). a.values) e))
   where
     make : List ℕ → Header
     make l = record {
@@ -43,9 +42,9 @@ open_same (Site h) (Site g) e =
       mu = get_or l 8 0;
       width = get_or l 9 0;
     }
-open_same (Site h) (Refused r) e = given_refused _ _ r e
-open_same (Refused r) (Site h) e = given_refused _ _ r (sym e)
-open_same (Refused r) (Refused q) e = ap Refused (refused_same r q e)
+open_same (Ok h) (Err r) e = given_refused _ _ r e
+open_same (Err r) (Ok h) e = given_refused _ _ r (sym e)
+open_same (Err r) (Err q) e = ap Err (refused_same r q e)
 
 pub one_answer : OneAnswer
 one_answer = record { opened = open_same }

@@ -7,6 +7,7 @@
 --     edges_repeat        the first fault is the refusal with number 10
 --     held_no, held_yes   what the tables have after a no, and after a yes; held_related, related_linked: the same, of the image's own records
 --     reading_yes, reading_no     so the reader's answer, rows and sizes are what the definition says
+use Rattle.std.specs.Prelude.{Err, Ok, Result}
 use Prim.Native.Nat.{ℕ, zero, suc, ◌*◌, ◌≤◌, ◌<◌}
 use native.Mathlib.Omega.{arith}
 use mathlib.Core.Path.{◌≡◌, refl, sym, ap, ◌∙◌, subst}
@@ -24,8 +25,6 @@ use Rattle.image.specs.Rows.{related, Held, Reading, Room, zeros}
 use Rattle.image.specs.ForProofs.{linked, faulty, Added}
 use Rattle.image.specs.declared.Header.{Header}
 use Rattle.image.specs.declared.Refusal.{Refusal}
-use Rattle.image.specs.declared.Opened.{Opened}
-use Rattle.image.specs.declared.Opened.TheVariants.{Site, Refused}
 use Rattle.image.proofs.Rows.{cleared_room}
 use Rattle.image.proofs.Acceptance.{go_on_each}
 use Rattle.image.proofs.Scanning.{each_no, none_bad}
@@ -60,7 +59,7 @@ module _ (edges : List ℕ) (n : ℕ) where
   first_repeat m b l = find_cong m (faulty edges n) (repeats_earlier edges) (λ k h. fault_repeat k (b k h) (l k h))
 
 module _ (edges : List ℕ) (h : Header) (found : ℕ) (first : found ≡ find h.m (faulty edges h.n)) where
-  pub edges_yes : h.m ≤ found → ask_edges edges h ≡ Site h
+  pub edges_yes : h.m ≤ found → ask_edges edges h ≡ Ok h
   unfolding ask_edges
   edges_yes l =
       let none = any_none h.m (faulty edges h.n) (none_bad h.m (faulty edges h.n) (omega arith)) in
@@ -69,7 +68,7 @@ module _ (edges : List ℕ) (h : Header) (found : ℕ) (first : found ≡ find h
       ∙ go_on_each h.m (repeats_earlier edges) 10 _ (λ k q. no_repeat edges h.n k (none k q))
 
   pub edges_repeat : found < h.m → ((k : ℕ) → k < h.m → T (not (bad_end edges h.n k))) → ((k : ℕ) → k < h.m → T (not (is_loop edges k)))
-      → ask_edges edges h ≡ Refused (record { number = 10; place = found })
+      → ask_edges edges h ≡ Err (record { number = 10; place = found })
   unfolding ask_edges
   edges_repeat l b o =
       go_on_each h.m (bad_end edges h.n) 8 _ b
@@ -77,13 +76,13 @@ module _ (edges : List ℕ) (h : Header) (found : ℕ) (first : found ≡ find h
       ∙ each_no h.m (repeats_earlier edges) found (first ∙ first_repeat edges h.n h.m b o) 10 _ l
 
 -- ---- what is left behind
-no_site : {r : Refusal} {h : Header} → Refused r ≡ Site h → ⊥
+no_site : {r : Refusal} {h : Header} → Err r ≡ Ok h → ⊥
 no_site e = let z : ◌≡◌ {A = ℕ} 0 1 = cc in omega arith
 
-pub held_no : {f : ℕ → ℕ → Bool} {rows sizes : List ℕ} {answer : Opened} (r : Refusal) → answer ≡ Refused r → Held f answer rows sizes
+pub held_no : {f : ℕ → ℕ → Bool} {rows sizes : List ℕ} {answer : Result Header Refusal} (r : Refusal) → answer ≡ Err r → Held f answer rows sizes
 held_no r e = record { table = λ h d. absurd (no_site (sym e ∙ d)); counted = λ h d. absurd (no_site (sym e ∙ d)) }
 
-pub held_yes : {edges rows sizes : List ℕ} {n m found : ℕ} {answer : Opened} → Added edges n m found rows sizes → m ≤ found
+pub held_yes : {edges rows sizes : List ℕ} {n m found : ℕ} {answer : Result Header Refusal} → Added edges n m found rows sizes → m ≤ found
     → Held (linked n edges m) answer rows sizes
 held_yes a l = record { table = λ h d. a.table l; counted = λ h d. a.counted l }
 
@@ -92,14 +91,14 @@ pub related_linked : (s : List ℕ) (u v : ℕ) → related s u v ≡ linked (ha
 unfolding related linked adjacent
 related_linked s u v = refl
 
-pub held_related : (s : List ℕ) (h : Header) → h ≡ header_of s → {answer : Opened} {rows sizes : List ℕ}
+pub held_related : (s : List ℕ) (h : Header) → h ≡ header_of s → {answer : Result Header Refusal} {rows sizes : List ℕ}
     → Held (linked h.n (take (edge_bytes * h.m) (drop h.edges s)) h.m) answer rows sizes → Held (related s) answer rows sizes
 unfolding edge_records related linked adjacent
 held_related s h e {answer} {rows} {sizes} l =
     subst (λ (x : Header). Held (linked x.n (take (edge_bytes * x.m) (drop x.edges s)) x.m) answer rows sizes) e l
 
-module _ (s : List ℕ) (answer : Opened) (is : answer ≡ open_of s) where
-  pub reading_yes : {rows sizes : List ℕ} (h : Header) → answer ≡ Site h → Room rows sizes → Held (related s) answer rows sizes → Reading s answer rows sizes
+module _ (s : List ℕ) (answer : Result Header Refusal) (is : answer ≡ open_of s) where
+  pub reading_yes : {rows sizes : List ℕ} (h : Header) → answer ≡ Ok h → Room rows sizes → Held (related s) answer rows sizes → Reading s answer rows sizes
   reading_yes h e room k = record {
     answered = ap open_answer is;
     room = room;
@@ -107,7 +106,7 @@ module _ (s : List ℕ) (answer : Opened) (is : answer ≡ open_of s) where
     cleared = λ x d. absurd (no_site (sym d ∙ e));
   }
 
-  pub reading_no : (r : Refusal) → answer ≡ Refused r → Reading s answer (zeros 4096) (zeros 512)
+  pub reading_no : (r : Refusal) → answer ≡ Err r → Reading s answer (zeros 4096) (zeros 512)
   reading_no r e = record {
     answered = ap open_answer is;
     room = cleared_room (refl, refl);

@@ -6,6 +6,7 @@
 --     scan_found, scan_ended                   so the place where the scan stops is `find`
 --     none_bad                                 none is bad where the first is the end
 --     each_no, each_yes, each_passed           a question to each record, by whether the scan came to the end
+use Rattle.std.specs.Prelude.{Err, Result}
 use Prim.Native.Nat.{ℕ, ◌+◌, ◌≤◌, ◌<◌}
 use native.Mathlib.Omega.{arith}
 use native.Mathlib.Numerals.{add-one}
@@ -20,9 +21,9 @@ use Rattle.sets.proofs.Tests.{decide, any_none, find_law, find_none, find_is, T_
 use Rattle.limits.specs.Limits.{out_of_limits}
 use Rattle.image.specs.Image.{handset_record}
 use Rattle.image.specs.Questions.{bad_end, is_loop, ask, ask_each}
+use Rattle.image.specs.declared.Header.{Header}
+use Rattle.image.specs.declared.Refusal.{Refusal}
 use Rattle.image.specs.ForProofs.{bad_record}
-use Rattle.image.specs.declared.Opened.{Opened}
-use Rattle.image.specs.declared.Opened.TheVariants.{Refused}
 
 module _ (question : ℕ) (records : List ℕ) (n k : ℕ) where
   pub bad_handset : question ≡ 7 → bad_record question records n k ≡ out_of_limits (handset_record records k)
@@ -71,11 +72,11 @@ some_bad : (n : ℕ) (bad : ℕ → Bool) → find n bad < n → T (any n bad)
 some_bad n bad h = ⊎_elim (λ t. t) (λ t. absurd (omega (arith, find_none n bad t))) (decide (any n bad))
 
 module _ (n : ℕ) (bad : ℕ → Bool) (r : ℕ) (found : r ≡ find n bad) where
-  pub each_no : (number : ℕ) (next : Opened) → r < n → ask_each n bad number next ≡ Refused (record { number = number; place = r })
+  pub each_no : (number : ℕ) (next : Result Header Refusal) → r < n → ask_each n bad number next ≡ Err (record { number = number; place = r })
   unfolding ask_each ask
   each_no number next h = rw (T_true (any n bad) (some_bad n bad (omega arith)), ← found)
 
-  pub each_yes : (number : ℕ) (next : Opened) → n ≤ r → ask_each n bad number next ≡ next
+  pub each_yes : (number : ℕ) (next : Result Header Refusal) → n ≤ r → ask_each n bad number next ≡ next
   unfolding ask_each ask
   each_yes number next h = rw (T_false (any n bad) (none_bad n bad (omega arith)))
 

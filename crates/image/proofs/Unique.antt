@@ -3,6 +3,7 @@
 --
 --     table_one       tables of one relation are equal; sizes_one: and so are the sizes of one table
 --     reading_one     two readings of one image are equal; one_reading: as specs/Rows states it
+use Rattle.std.specs.Prelude.{Err, Ok, Result}
 use Prim.Native.Nat.{ℕ, ◌+◌, ◌*◌, ◌/◌, ◌%◌, ◌<◌}
 use native.Mathlib.Omega.{arith}
 use native.Mathlib.Nat.{mod-lt, zero-lt-suc}
@@ -16,8 +17,8 @@ use Rattle.sets.proofs.Words.{word_one, word_cell}
 use Rattle.image.specs.Questions.{open_of}
 use Rattle.sets.specs.Rows.{Table, Counted}
 use Rattle.image.specs.Rows.{related, Reading, OneReading}
-use Rattle.image.specs.declared.Opened.{Opened}
-use Rattle.image.specs.declared.Opened.TheVariants.{Site, Refused}
+use Rattle.image.specs.declared.Header.{Header}
+use Rattle.image.specs.declared.Refusal.{Refusal}
 use Rattle.image.proofs.Answers.{open_same}
 
 pub table_one : {rows other : List ℕ} (f : ℕ → ℕ → Bool) → length rows ≡ 4096 → length other ≡ 4096 → Words rows → Words other → Table rows f → Table other f → rows ≡ other
@@ -34,7 +35,7 @@ pub sizes_one : {rows sizes other : List ℕ} → length sizes ≡ 512 → lengt
 sizes_one {rows} {sizes} {other} l m c d =
     ext_get_or 0 sizes other (l ∙ sym m) (λ u h. let b : u < 512 = omega (arith, h, l) in c.rows u b ∙ sym (d.rows u b))
 
-pub reading_one : (s : List ℕ) {a b : Opened} {rows sizes rows' sizes' : List ℕ} → Words rows → Words rows' → Reading s a rows sizes → Reading s b rows' sizes'
+pub reading_one : (s : List ℕ) {a b : Result Header Refusal} {rows sizes rows' sizes' : List ℕ} → Words rows → Words rows' → Reading s a rows sizes → Reading s b rows' sizes'
     → (a ≡ b) × (rows ≡ rows') × (sizes ≡ sizes')
 reading_one s {a} {b} {rows} {sizes} {rows'} {sizes'} w w' r r' =
     let t = go (open_of s) is is' in (is ∙ sym is', t.0, t.1)
@@ -45,11 +46,11 @@ reading_one s {a} {b} {rows} {sizes} {rows'} {sizes'} w w' r r' =
     is' : b ≡ open_of s
     is' = open_same b (open_of s) r'.answered
 
-    go : (o : Opened) → a ≡ o → b ≡ o → (rows ≡ rows') × (sizes ≡ sizes')
-    go (Site h) e d =
+    go : (o : Result Header Refusal) → a ≡ o → b ≡ o → (rows ≡ rows') × (sizes ≡ sizes')
+    go (Ok h) e d =
         let same : rows ≡ rows' = table_one (related s) r.room.0 r'.room.0 w w' (r.held.table h e) (r'.held.table h d) in
         (same, sizes_one r.room.1 r'.room.1 (subst (λ (ws : List ℕ). Counted ws sizes) same (r.held.counted h e)) (r'.held.counted h d))
-    go (Refused x) e d = let c = r.cleared x e in let k = r'.cleared x d in (c.0 ∙ sym k.0, c.1 ∙ sym k.1)
+    go (Err x) e d = let c = r.cleared x e in let k = r'.cleared x d in (c.0 ∙ sym k.0, c.1 ∙ sym k.1)
 
 pub one_reading : OneReading
 one_reading = record { same = λ s a b rows sizes rows' sizes' w w' r r'. reading_one s w w' r r' }

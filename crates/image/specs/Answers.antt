@@ -7,10 +7,9 @@
 --     open_answer o    the reader's answer: the header's numbers in their order, or the refusal
 --     Injective f     two for which f gives the same are the same
 --     OneAnswer       the theorem: the number, place and values leave nothing of the reader's answer free (proved in proofs/Answers)
-use Rattle.std.specs.Prelude.{ℕ, ◌≡◌, List, [], ◌∷◌}
+use Rattle.std.specs.Prelude.{ℕ, ◌≡◌, List, [], ◌∷◌, Err, Ok, Result}
+use Rattle.image.specs.declared.Header.{Header}
 use Rattle.image.specs.declared.Refusal.{Refusal}
-use Rattle.image.specs.declared.Opened.{Opened}
-use Rattle.image.specs.declared.Opened.TheVariants.{Site, Refused}
 
 pub record Answer : Type 0 where
   pub number : ℕ
@@ -26,9 +25,9 @@ refusal k = record { number = k; place = 0 }
 abbrev pub given : List ℕ → Answer
 given vs = record { number = 0; place = 0; values = vs }
 
-abbrev pub open_answer : Opened → Answer
-open_answer (Site h) = given (h.n ∷ h.m ∷ h.handsets ∷ h.edges ∷ h.len ∷ h.limit ∷ h.p ∷ h.q ∷ h.mu ∷ h.width ∷ [])
-open_answer (Refused r) = refused r
+abbrev pub open_answer : Result Header Refusal → Answer
+open_answer (Ok h) = given (h.n ∷ h.m ∷ h.handsets ∷ h.edges ∷ h.len ∷ h.limit ∷ h.p ∷ h.q ∷ h.mu ∷ h.width ∷ [])
+open_answer (Err r) = refused r
 
 abbrev pub Injective : {A B : Type 0} → (A → B) → Type 0
 Injective {A} f = (a b : A) → f a ≡ f b → a ≡ b

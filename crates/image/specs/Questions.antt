@@ -14,15 +14,13 @@
 --     refusal_of o                the refusal in an answer, for the else of let .. else; number 0 where the image is accepted
 --     HeaderAccepted s           questions 1 to 6 pass
 --     Accepted s                 every question passes (specs/Acceptance: exactly when the reader answers the header)
-use Rattle.std.specs.Prelude.{ℕ, ◌+◌, ◌*◌, ◌<◌, Bool, true, false, ◌&&◌, ◌||◌, not, List, T, leb, ltb, eqb, length}
+use Rattle.std.specs.Prelude.{ℕ, ◌+◌, ◌*◌, ◌<◌, Bool, true, false, ◌&&◌, ◌||◌, not, List, T, leb, ltb, eqb, length, Err, Ok, Result}
 use Rattle.sets.specs.Below.{any, find}
 use Rattle.fields.specs.Fields.{header_bytes, handset_bytes, edge_bytes}
 use Rattle.limits.specs.Limits.{counts_fit, thresholds_fit, width_fits, out_of_limits}
 use Rattle.image.specs.Image.{header_of, handset_count, edge_count, handset_records, edge_records, handset_record, end_a, end_b, joins}
 use Rattle.image.specs.declared.Header.{Header}
 use Rattle.image.specs.declared.Refusal.{Refusal}
-use Rattle.image.specs.declared.Opened.{Opened}
-use Rattle.image.specs.declared.Opened.TheVariants.{Site, Refused}
 
 abbrev pub tables_fit : Header → Bool
 tables_fit h =
@@ -42,31 +40,31 @@ unfolding any joins end_a end_b
 repeats_earlier records k = any k (joins records (end_a records k) (end_b records k))
 
 -- a yes goes on; a no is the refusal with its number and place
-unfoldable pub ask : Bool → ℕ → ℕ → Opened → Opened
+unfoldable pub ask : Bool → ℕ → ℕ → Result Header Refusal → Result Header Refusal
 ask true number place next = next
-ask false number place next = Refused (record { number = number; place = place })
+ask false number place next = Err (record { number = number; place = place })
 
 -- a question to each of n records: its no is at the first bad one
-unfoldable pub ask_each : ℕ → (ℕ → Bool) → ℕ → Opened → Opened
+unfoldable pub ask_each : ℕ → (ℕ → Bool) → ℕ → Result Header Refusal → Result Header Refusal
 unfolding ask any find
 ask_each n bad number next = ask (not (any n bad)) number (find n bad) next
 
 -- questions 8 to 10, of the edges
-unfoldable pub ask_edges : List ℕ → Header → Opened
+unfoldable pub ask_edges : List ℕ → Header → Result Header Refusal
 unfolding ask_each bad_end is_loop repeats_earlier
 ask_edges edges h =
     ask_each h.m (bad_end edges h.n) 8
     (ask_each h.m (is_loop edges) 9
     (ask_each h.m (repeats_earlier edges) 10
-    (Site h)))
+    (Ok h)))
 
 -- questions 7 to 10, of the two tables
-unfoldable pub ask_records : List ℕ → List ℕ → Header → Opened
+unfoldable pub ask_records : List ℕ → List ℕ → Header → Result Header Refusal
 unfolding ask_each out_of_limits handset_record ask_edges
 ask_records handsets edges h = ask_each h.n (λ v. out_of_limits (handset_record handsets v)) 7 (ask_edges edges h)
 
 -- questions 3 to 6, of the header
-unfoldable pub ask_header : Header → Opened → Opened
+unfoldable pub ask_header : Header → Result Header Refusal → Result Header Refusal
 unfolding ask
 ask_header h next =
     ask (counts_fit h.n h.m) 3 0
@@ -76,7 +74,7 @@ ask_header h next =
     next)))
 
 -- questions 1 to 6, of the image's length and header
-unfoldable pub ask_image : List ℕ → Opened → Opened
+unfoldable pub ask_image : List ℕ → Result Header Refusal → Result Header Refusal
 unfolding ask header_of ask_header
 ask_image s next =
     ask (leb header_bytes (length s)) 1 0
@@ -84,20 +82,20 @@ ask_image s next =
     (ask_header (header_of s)
     next))
 
-unfoldable pub open_of : List ℕ → Opened
+unfoldable pub open_of : List ℕ → Result Header Refusal
 unfolding ask_image header_of ask_records handset_records edge_records
 open_of s = ask_image s (ask_records (handset_records s) (edge_records s) (header_of s))
 
-abbrev pub by_answer : {A : Type 0} → Opened → (Header → A) → (Refusal → A) → A
-by_answer (Site h) f g = f h
-by_answer (Refused r) f g = g r
+abbrev pub by_answer : {A : Type 0} → Result Header Refusal → (Header → A) → (Refusal → A) → A
+by_answer (Ok h) f g = f h
+by_answer (Err r) f g = g r
 
 abbrev pub when_opened : {A : Type 0} → List ℕ → (Header → A) → (Refusal → A) → A
 when_opened s f g = by_answer (open_of s) f g
 
-abbrev pub refusal_of : Opened → Refusal
-refusal_of (Site h) = record { number = 0; place = 0 }
-refusal_of (Refused r) = r
+abbrev pub refusal_of : Result Header Refusal → Refusal
+refusal_of (Ok h) = record { number = 0; place = 0 }
+refusal_of (Err r) = r
 
 pub record HeaderAccepted (s : List ℕ) : Type 0 where
   pub q1 : T (leb header_bytes (length s))

@@ -7,7 +7,7 @@
 --     Held f answer ..       after a yes the rows hold f, and the sizes are theirs
 --     Reading s answer ..    what the reader tells and leaves: after a yes the rows of `related` and their sizes, after a no two cleared tables
 --     OneReading             the theorem: two readings of one image, in tables of words of 64 bits, tell and leave the same (proved in proofs/Unique)
-use Rattle.std.specs.Prelude.{ℕ, ◌≡◌, Bool, ◌&&◌, ◌||◌, List, ltb, eqb, length, replicate}
+use Rattle.std.specs.Prelude.{ℕ, ◌≡◌, Bool, ◌&&◌, ◌||◌, List, ltb, eqb, length, replicate, Err, Ok, Result}
 use Rattle.sets.specs.Bits.{Words}
 use Rattle.sets.specs.Rows.{table_words, Table, Counted}
 use Rattle.image.specs.Image.{handset_count, adjacent}
@@ -15,8 +15,6 @@ use Rattle.image.specs.Questions.{open_of}
 use Rattle.image.specs.Answers.{open_answer}
 use Rattle.image.specs.declared.Header.{Header}
 use Rattle.image.specs.declared.Refusal.{Refusal}
-use Rattle.image.specs.declared.Opened.{Opened}
-use Rattle.image.specs.declared.Opened.TheVariants.{Site, Refused}
 
 unfoldable pub related : List ℕ → ℕ → ℕ → Bool
 unfolding adjacent
@@ -31,16 +29,16 @@ zeros n = replicate n 0
 abbrev pub Cleared : List ℕ → List ℕ → Type 0
 Cleared rows sizes = (rows ≡ zeros table_words) × (sizes ≡ zeros 512)
 
-pub record Held (f : ℕ → ℕ → Bool) (answer : Opened) (rows sizes : List ℕ) : Type 0 where
-  pub table : (h : Header) → answer ≡ Site h → Table rows f
-  pub counted : (h : Header) → answer ≡ Site h → Counted rows sizes
+pub record Held (f : ℕ → ℕ → Bool) (answer : Result Header Refusal) (rows sizes : List ℕ) : Type 0 where
+  pub table : (h : Header) → answer ≡ Ok h → Table rows f
+  pub counted : (h : Header) → answer ≡ Ok h → Counted rows sizes
 
-pub record Reading (s : List ℕ) (answer : Opened) (rows sizes : List ℕ) : Type 0 where
+pub record Reading (s : List ℕ) (answer : Result Header Refusal) (rows sizes : List ℕ) : Type 0 where
   pub answered : open_answer answer ≡ open_answer (open_of s)
   pub room : Room rows sizes
   pub held : Held (related s) answer rows sizes
-  pub cleared : (x : Refusal) → answer ≡ Refused x → Cleared rows sizes
+  pub cleared : (x : Refusal) → answer ≡ Err x → Cleared rows sizes
 
 pub record OneReading : Type 0 where
-  pub same : (s : List ℕ) (a b : Opened) (rows sizes rows' sizes' : List ℕ) → Words rows → Words rows' → Reading s a rows sizes → Reading s b rows' sizes'
+  pub same : (s : List ℕ) (a b : Result Header Refusal) (rows sizes rows' sizes' : List ℕ) → Words rows → Words rows' → Reading s a rows sizes → Reading s b rows' sizes'
       → (a ≡ b) × (rows ≡ rows') × (sizes ≡ sizes')

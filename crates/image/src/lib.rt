@@ -6,7 +6,7 @@
 // (a record is the slice of its table that it is read from).
 #![tactic(auto)]
 
-ghost use Rattle.std.specs.Prelude.{◌≡◌, ◌&&◌, ◌+◌, ◌*◌, ◌≤◌, ◌<◌, ltb, eqb, length, take, drop};
+ghost use Rattle.std.specs.Prelude.{◌≡◌, ◌&&◌, ◌+◌, ◌*◌, ◌≤◌, ◌<◌, ltb, eqb, length, take, drop, Ok, Err};
 ghost use Rattle.sets.specs.Below.{find};
 ghost use Rattle.sets.specs.Bits.{cell, with_bit};
 ghost use Rattle.sets.specs.Rows.{table_words, Table, Counted};
@@ -37,13 +37,6 @@ pub struct Header {
 pub struct Refusal {
     pub number: u32,
     pub place: usize,
-}
-
-// The reader's answer.
-#[derive(Clone, Copy)]
-pub enum Opened {
-    Site(Header),
-    Refused(Refusal),
 }
 
 // The header's numbers as they stand; 0 for one that is not there.
@@ -79,24 +72,29 @@ fn tables_fit(h: Header) -> bool
 }
 
 // The answer of a no.
-fn refused(number: u32, place: usize) -> Opened
-    ensures { result ≡ Opened.Refused (record { number = number; place = place }) }
+fn refused(number: u32, place: usize) -> Result<Header, Refusal>
+    ensures { result ≡ Err (record { number = number; place = place }) }
 {
-    Opened::Refused(Refusal { number, place })
+    Err(Refusal { number, place })
 }
 
 // A question: a yes goes on, a no is the refusal with its number and place.
-fn put_question(yes: bool, number: u32, place: usize, next: Opened) -> Opened
+fn put_question(
+    yes: bool,
+    number: u32,
+    place: usize,
+    next: Result<Header, Refusal>,
+) -> Result<Header, Refusal>
     ensures { result ≡ ask yes number place next }
 {
     if yes { next } else { refused(number, place) }
 }
 
 // Questions 3 to 6, of the header alone.
-fn ask_header(h: Header) -> Opened
-    ensures { result ≡ ask_header h (Opened.Site h) }
+fn ask_header(h: Header) -> Result<Header, Refusal>
+    ensures { result ≡ ask_header h (Ok h) }
 {
-    let q6 = put_question(tables_fit(h), 6, 0, Opened::Site(h));
+    let q6 = put_question(tables_fit(h), 6, 0, Ok(h));
     let thresholds = limits::thresholds_fit(h.limit, h.p as u64, h.q as u64, h.mu as u64);
     let q5 = put_question(thresholds, 5, 0, q6);
     let q4 = put_question(limits::width_fits(h.width), 4, 0, q5);
@@ -202,7 +200,12 @@ fn add_edges(records: &[u8], m: usize, n: usize, rows: &mut [u64], sizes: &mut [
 
 // Questions 8 to 10, each to every edge before the next. Where no edge is at fault, one pass says so; where an edge is, but none for 8 or 9, it is the
 // first repeat. After a yes the cleared table that is lent has the rows of all edges.
-fn ask_edges(records: &[u8], h: Header, rows: &mut [u64], sizes: &mut [u32]) -> Opened
+fn ask_edges(
+    records: &[u8],
+    h: Header,
+    rows: &mut [u64],
+    sizes: &mut [u32],
+) -> Result<Header, Refusal>
     requires { (h.n ≤ 512) × (edge_bytes * h.m ≤ length records.now) × (Cleared rows.old sizes.old) }
     ensures answer { result ≡ ask_edges records.now h }
     ensures held { Held (linked h.n records.now h.m) result rows.new sizes.new }
@@ -211,7 +214,7 @@ fn ask_edges(records: &[u8], h: Header, rows: &mut [u64], sizes: &mut [u32]) -> 
     add_selves(rows, sizes, h.n as usize);
     let fault = add_edges(records, m, h.n as usize, rows, sizes);
     if m <= fault {
-        return Opened::Site(h);
+        return Ok(h);
     }
     let bad = first_bad(8, records, m, h.n as usize);
     if bad < m {
@@ -231,7 +234,7 @@ fn ask_records(
     h: Header,
     rows: &mut [u64],
     sizes: &mut [u32],
-) -> Opened
+) -> Result<Header, Refusal>
     requires { (h.n ≤ 512) × (handset_bytes * h.n ≤ length handsets.now) × (edge_bytes * h.m ≤ length edges.now) × (Cleared rows.old sizes.old) }
     ensures answer { result ≡ ask_records handsets.now edges.now h }
     ensures held { Held (linked h.n edges.now h.m) result rows.new sizes.new }
@@ -244,7 +247,12 @@ fn ask_records(
 }
 
 // Questions 7 to 10, each table read from the slice of the image that begins at its offset.
-fn ask_tables(image: &[u8], h: Header, rows: &mut [u64], sizes: &mut [u32]) -> Opened
+fn ask_tables(
+    image: &[u8],
+    h: Header,
+    rows: &mut [u64],
+    sizes: &mut [u32],
+) -> Result<Header, Refusal>
     requires { (h.n ≤ 512) × (h.handsets + handset_bytes * h.n ≤ length image.now) × (h.edges + edge_bytes * h.m ≤ length image.now) × (Cleared rows.old sizes.old) }
     ensures answer { result ≡ ask_records (take (handset_bytes * h.n) (drop h.handsets image.now)) (take (edge_bytes * h.m) (drop h.edges image.now)) h }
     ensures held { Held (linked h.n (take (edge_bytes * h.m) (drop h.edges image.now)) h.m) result rows.new sizes.new }
@@ -257,8 +265,8 @@ fn ask_tables(image: &[u8], h: Header, rows: &mut [u64], sizes: &mut [u32]) -> O
 }
 
 // Puts questions 1 to 6 to an image, in order, and stops at the first no: an image that gets a yes to all has both tables in it.
-fn open_header(image: &[u8]) -> Opened
-    ensures { result ≡ ask_image image.now (Opened.Site (header_of image.now)) }
+fn open_header(image: &[u8]) -> Result<Header, Refusal>
+    ensures { result ≡ ask_image image.now (Ok (header_of image.now)) }
 {
     if image.len() < fields::HEADER_BYTES {
         return refused(1, 0);
@@ -271,13 +279,13 @@ fn open_header(image: &[u8]) -> Opened
 }
 
 // Puts questions 1 to 10 to an image, in order, and stops at the first no. After a yes the cleared table that is lent has the rows of all edges.
-fn read_image(image: &[u8], rows: &mut [u64], sizes: &mut [u32]) -> Opened
+fn read_image(image: &[u8], rows: &mut [u64], sizes: &mut [u32]) -> Result<Header, Refusal>
     requires { Cleared rows.old sizes.old }
     ensures answer { result ≡ open_of image.now }
     ensures held { Held (related image.now) result rows.new sizes.new }
 {
     let checked = open_header(image);
-    let Opened::Site(h) = checked else {
+    let Ok(h) = checked else {
         return checked;
     };
     ask_tables(image, h, rows, sizes)
@@ -289,13 +297,13 @@ pub fn open_rows(
     image: &[u8],
     rows: &mut [u64; sets::TABLE_WORDS],
     sizes: &mut [u32; 512],
-) -> Opened
+) -> Result<Header, Refusal>
     ensures { Reading image.now result rows.new sizes.new }
 {
     *rows = [0u64; sets::TABLE_WORDS];
     *sizes = [0u32; 512];
     let answer = read_image(image, rows, sizes);
-    let Opened::Refused(_) = answer else {
+    let Err(_) = answer else {
         return answer;
     };
     *rows = [0u64; sets::TABLE_WORDS];
@@ -304,7 +312,7 @@ pub fn open_rows(
 }
 
 // The same, without the rows.
-pub fn open(image: &[u8]) -> Opened
+pub fn open(image: &[u8]) -> Result<Header, Refusal>
     ensures { open_answer result ≡ open_answer (open_of image.now) }
 {
     let mut rows = [0u64; sets::TABLE_WORDS];

@@ -1,6 +1,7 @@
 -- How long a report can be: 20 digits for a number, and four bytes for a member, line by line.
 --
 --     text_most     a report is no longer than `most_bytes` of its counts
+use Rattle.std.specs.Prelude.{None, Option, Some}
 use Prim.Native.Nat.{ℕ, zero, suc, ◌+◌, ◌*◌, ◌≤◌, min}
 use native.Mathlib.Omega.{arith}
 use native.Mathlib.Numerals.{add-one}
@@ -13,8 +14,6 @@ use Rattle.sets.specs.Below.{select}
 use Rattle.sets.specs.Bits.{bit_at, cell}
 use Rattle.sets.proofs.Counting.{count_le}
 use Rattle.sets.proofs.Selecting.{length_select}
-use Rattle.near.specs.declared.Proximity.{Proximity}
-use Rattle.near.specs.declared.Proximity.TheVariants.{Near, NotNear}
 use Rattle.community.specs.Tables.{member_table}
 use Rattle.rows.specs.Rows.{row_members, rows_of, row_in}
 use Rattle.rows.proofs.Rows.{row_in_lem}
@@ -67,10 +66,10 @@ unfolding score_text
 score_most (Ratio a b) = omega (arith, length-append (decimal a) (bytes "/" ++ decimal b), length-append (bytes "/") (decimal b), decimal_most a, decimal_most b)
 score_most Nothing = omega arith
 
-reach_most : (r : Proximity) → length (reach_text r) ≤ 20
+reach_most : (r : Option ℕ) → length (reach_text r) ≤ 20
 unfolding reach_text
-reach_most (Near d) = decimal_most d
-reach_most NotNear = omega arith
+reach_most (Some d) = decimal_most d
+reach_most None = omega arith
 
 -- what stands before a group's members
 scores_most : (k : ℕ) (c : Scores) → length (scores_text k c) ≤ 130
@@ -88,7 +87,7 @@ scores_most k c =
       score_most c.conductance,
     )
 
-group_most : (k : ℕ) (c : Scores) (r : Proximity) (l : List ℕ) → length (group_line k c r l) ≤ 160 + length (numbers l)
+group_most : (k : ℕ) (c : Scores) (r : Option ℕ) (l : List ℕ) → length (group_line k c r l) ≤ 160 + length (numbers l)
 unfolding group_line
 group_most k c r l =
     let members : List ℕ = numbers l ++ newline in

@@ -14,10 +14,8 @@
 --     group_reach rs k        the reach of group k, from a table of reaches
 --     table_lines ..          the lines of the first k groups, from the groups as rows, the tallies and the reaches
 --     table_text ..           the whole text from the numbers of the first and last line, the tables and the two sets; no more than 512 groups
-use Rattle.std.specs.Prelude.{ℕ, zero, suc, ◌+◌, min, List, [], ◌++◌, length, get_or}
+use Rattle.std.specs.Prelude.{ℕ, zero, suc, ◌+◌, min, List, [], ◌++◌, length, get_or, None, Option, Some}
 use Rattle.image.specs.declared.Refusal.{Refusal}
-use Rattle.near.specs.declared.Proximity.{Proximity}
-use Rattle.near.specs.declared.Proximity.TheVariants.{Near, NotNear}
 use Rattle.rows.specs.Rows.{row_in}
 use Rattle.scores.specs.declared.Score.{Score}
 use Rattle.scores.specs.declared.Score.TheVariants.{Ratio, Nothing}
@@ -46,11 +44,11 @@ score_text Nothing = bytes "-"
 unfoldable pub scores_text : ℕ → Scores → List ℕ
 scores_text k c = bytes "group " ++ (decimal k ++ (bytes " density " ++ (score_text c.density ++ (bytes " conductance " ++ score_text c.conductance))))
 
-unfoldable pub reach_text : Proximity → List ℕ
-reach_text (Near d) = decimal d
-reach_text NotNear = bytes "-"
+unfoldable pub reach_text : Option ℕ → List ℕ
+reach_text (Some d) = decimal d
+reach_text None = bytes "-"
 
-unfoldable pub group_line : ℕ → Scores → Proximity → List ℕ → List ℕ
+unfoldable pub group_line : ℕ → Scores → Option ℕ → List ℕ → List ℕ
 group_line k c r l = scores_text k c ++ (bytes " reach " ++ (reach_text r ++ (bytes ":" ++ (numbers l ++ newline))))
 
 unfoldable pub list_line : List ℕ → List ℕ → List ℕ
@@ -69,11 +67,11 @@ refused_text r = bytes "refused " ++ (decimal r.number ++ (bytes " " ++ (decimal
 unfoldable pub group_tally : List ℕ → ℕ → ℕ → Tally
 group_tally ts k size = record { pairs = pairs_of size; joined = get_or ts k 0; leaving = get_or ts (512 + k) 0 }
 
-abbrev pub reach_of : ℕ → Proximity
-reach_of zero = NotNear
-reach_of (suc d) = Near d
+abbrev pub reach_of : ℕ → Option ℕ
+reach_of zero = None
+reach_of (suc d) = Some d
 
-unfoldable pub group_reach : List ℕ → ℕ → Proximity
+unfoldable pub group_reach : List ℕ → ℕ → Option ℕ
 group_reach rs k = reach_of (get_or rs k 0)
 
 unfoldable pub table_lines : List ℕ → List ℕ → List ℕ → ℕ → List ℕ

@@ -11,7 +11,6 @@ ghost use Rattle.lines.specs.Lines.{head_line, score_text, scores_text, reach_te
 ghost use Rattle.lines.specs.ForProofs.{four_line};
 
 use image::Refusal;
-use near::Proximity;
 use rows::Counts;
 use scores::{Score, Tally};
 use totals::Totals;
@@ -137,12 +136,12 @@ fn put_scores(text: &mut [u8], at: usize, k: usize, tally: Tally) -> usize
 }
 
 // Writes a reach: its squared distance, or a hyphen where there is none.
-fn put_reach(text: &mut [u8], at: usize, reach: Proximity) -> usize
+fn put_reach(text: &mut [u8], at: usize, reach: Option<u64>) -> usize
     ensures { Wrote text.old at (reach_text reach) text.new result }
 {
     match reach {
-        Proximity::Near(d) => text::put_decimal(text, at, d),
-        Proximity::NotNear => text::put(text, at, 45),
+        Some(d) => text::put_decimal(text, at, d),
+        None => text::put(text, at, 45),
     }
 }
 
@@ -152,7 +151,7 @@ fn put_group(
     at: usize,
     k: usize,
     tally: Tally,
-    reach: Proximity,
+    reach: Option<u64>,
     row: &[u64],
 ) -> usize
     ensures { Wrote text.old at (group_line k (scores_for tally) reach (elements_of row.now)) text.new result }
@@ -178,17 +177,17 @@ fn group_tally(tallies: &[u32], k: usize, size: usize) -> Tally
 }
 
 // The reach of group k, from the table of reaches; none past the table's end.
-fn group_reach(reaches: &[u64], k: usize) -> Proximity
+fn group_reach(reaches: &[u64], k: usize) -> Option<u64>
     ensures { result ≡ group_reach reaches.now k }
 {
     if reaches.len() <= k {
-        return Proximity::NotNear;
+        return None;
     }
     let entry = reaches[k];
     if entry == 0 {
-        return Proximity::NotNear;
+        return None;
     }
-    Proximity::Near(entry - 1)
+    Some(entry - 1)
 }
 
 // What stands at a place of a table; 0 past its end.

@@ -3,6 +3,7 @@
 --     yes, no          the three answers where the question gets a yes, and where it gets a no
 --     agree            the lookup and its companion agree
 --     members_slice    where the question gets a yes, the part is the slice of the table from start k up to start k+1
+use Rattle.std.specs.Prelude.{Err, Ok}
 use Prim.Native.Nat.{ℕ, zero, suc, ◌+◌, ◌-◌, ◌≤◌, ◌<◌}
 use native.Mathlib.Omega.{arith}
 use mathlib.Core.Path.{◌≡◌, refl, sym, ap, ◌∙◌}
@@ -15,7 +16,6 @@ use Rattle.image.specs.Answers.{refusal}
 use Rattle.lookup.specs.Lookup.{start_of, placed, between, members_of, looked_of, Agree}
 use Rattle.lookup.specs.ForProofs.{span_of}
 use Rattle.lookup.specs.declared.Span.{Span}
-use Rattle.lookup.specs.declared.Looked.TheVariants.{Found, Refused}
 
 module _ (s : List ℕ) (size k : ℕ) where
   pub placed_yes : k + 1 < length s → start_of s k ≤ start_of s (k + 1) → start_of s (k + 1) ≤ size → placed s size k ≡ true
@@ -51,11 +51,11 @@ module _ (starts table : List ℕ) (k : ℕ) where
   unfolding members_of
   members_no e = simp e
 
-  pub looked_yes : placed starts (length table) k ≡ true → looked_of starts table k ≡ Found (length (members_of starts table k))
+  pub looked_yes : placed starts (length table) k ≡ true → looked_of starts table k ≡ Ok (length (members_of starts table k))
   unfolding looked_of
   looked_yes e = simp e
 
-  pub looked_no : placed starts (length table) k ≡ false → looked_of starts table k ≡ Refused (refusal 14)
+  pub looked_no : placed starts (length table) k ≡ false → looked_of starts table k ≡ Err (refusal 14)
   unfolding looked_of
   looked_no e = simp e
 
@@ -68,14 +68,14 @@ module _ (starts table : List ℕ) (k : ℕ) where
       go false e = rw (span_no starts (length table) k e) (members_no e)
 
   pub looked_span : (r : Span) → r ≡ span_of starts (length table) k → r.past ≤ length table
-      → looked_of starts table k ≡ cond r.found (Found (r.past - r.first)) (Refused (refusal 14))
+      → looked_of starts table k ≡ cond r.found (Ok (r.past - r.first)) (Err (refusal 14))
   looked_span r d h = go (placed starts (length table) k) refl
     where
-      go : (b : Bool) → placed starts (length table) k ≡ b → looked_of starts table k ≡ cond r.found (Found (r.past - r.first)) (Refused (refusal 14))
+      go : (b : Bool) → placed starts (length table) k ≡ b → looked_of starts table k ≡ cond r.found (Ok (r.past - r.first)) (Err (refusal 14))
       go true e =
           let s = d ∙ span_yes starts (length table) k e in
           let inside : start_of starts (k + 1) ≤ length table = rw s at h in
-          rw s (looked_yes e ∙ ap Found (ap length (members_yes e) ∙ simp (length-take, length-drop) (omega arith)))
+          rw s (looked_yes e ∙ ap Ok (ap length (members_yes e) ∙ simp (length-take, length-drop) (omega arith)))
       go false e = rw (d ∙ span_no starts (length table) k e) (looked_no e)
 
   pub agree : Agree starts table k (members_of starts table k) (looked_of starts table k)

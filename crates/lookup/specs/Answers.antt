@@ -3,14 +3,13 @@
 --
 --     look_answer a     the count of the group's members, or the refusal
 --     OneAnswer        the theorem: the number, place and values leave nothing of the answer free (proved in proofs/Answers)
-use Rattle.std.specs.Prelude.{[], ◌∷◌}
+use Rattle.std.specs.Prelude.{[], ◌∷◌, Err, Ok, Result}
+use Rattle.image.specs.declared.Refusal.{Refusal}
 use Rattle.image.specs.Answers.{Answer, refused, given, Injective}
-use Rattle.lookup.specs.declared.Looked.{Looked}
-use Rattle.lookup.specs.declared.Looked.TheVariants.{Found, Refused}
 
-abbrev pub look_answer : Looked → Answer
-look_answer (Found n) = given (n ∷ [])
-look_answer (Refused r) = refused r
+abbrev pub look_answer : Result ℕ Refusal → Answer
+look_answer (Ok n) = given (n ∷ [])
+look_answer (Err r) = refused r
 
 pub record OneAnswer : Type 0 where
   pub looked : Injective look_answer

@@ -8,11 +8,9 @@
 --     Agree starts table k ..     what a part and the companion's answer on the same tables and k have to do with each other
 --
 -- The laws are in proofs/Agreement.
-use Rattle.std.specs.Prelude.{ℕ, ◌+◌, ◌-◌, ◌≡◌, Bool, ◌&&◌, cond, List, [], T, leb, ltb, length, get_or, take, drop}
+use Rattle.std.specs.Prelude.{ℕ, ◌+◌, ◌-◌, ◌≡◌, Bool, ◌&&◌, cond, List, [], T, leb, ltb, length, get_or, take, drop, Err, Ok, Result}
 use Rattle.image.specs.Answers.{refusal}
 use Rattle.image.specs.declared.Refusal.{Refusal}
-use Rattle.lookup.specs.declared.Looked.{Looked}
-use Rattle.lookup.specs.declared.Looked.TheVariants.{Found, Refused}
 
 abbrev pub start_of : List ℕ → ℕ → ℕ
 start_of starts k = get_or starts k 0
@@ -27,12 +25,12 @@ unfoldable pub members_of : List ℕ → List ℕ → ℕ → List ℕ
 unfolding placed
 members_of starts table k = cond (placed starts (length table) k) (between (start_of starts k) (start_of starts (k + 1)) table) []
 
-unfoldable pub looked_of : List ℕ → List ℕ → ℕ → Looked
+unfoldable pub looked_of : List ℕ → List ℕ → ℕ → Result ℕ Refusal
 unfolding placed members_of
-looked_of starts table k = cond (placed starts (length table) k) (Found (length (members_of starts table k))) (Refused (refusal 14))
+looked_of starts table k = cond (placed starts (length table) k) (Ok (length (members_of starts table k))) (Err (refusal 14))
 
 -- the lookup and its companion agree: a part is given where there is no refusal, with the count of its members; 14 is the only refusal, and the part is
 -- then empty
-pub record Agree (starts table : List ℕ) (k : ℕ) (part : List ℕ) (looked : Looked) : Type 0 where
-  pub found : (n : ℕ) → looked ≡ Found n → T (placed starts (length table) k) × (part ≡ between (start_of starts k) (start_of starts (k + 1)) table) × (n ≡ length part)
-  pub refused : (r : Refusal) → looked ≡ Refused r → (T (placed starts (length table) k) → ⊥) × (r ≡ refusal 14) × (part ≡ [])
+pub record Agree (starts table : List ℕ) (k : ℕ) (part : List ℕ) (looked : Result ℕ Refusal) : Type 0 where
+  pub found : (n : ℕ) → looked ≡ Ok n → T (placed starts (length table) k) × (part ≡ between (start_of starts k) (start_of starts (k + 1)) table) × (n ≡ length part)
+  pub refused : (r : Refusal) → looked ≡ Err r → (T (placed starts (length table) k) → ⊥) × (r ≡ refusal 14) × (part ≡ [])

@@ -11,13 +11,6 @@ ghost use Rattle.lookup.specs.ForProofs.{span_of};
 
 use image::Refusal;
 
-// What the companion answers: how many members group k has, or the refusal.
-#[derive(Clone, Copy)]
-pub enum Looked {
-    Found(usize),
-    Refused(Refusal),
-}
-
 // Where group k stands in the member table.
 #[derive(Clone, Copy)]
 struct Span {
@@ -64,15 +57,15 @@ pub fn members<'a>(starts: &'a [u32], table: &'a [u16], k: usize) -> &'a [u16]
 }
 
 // The companion of `members`, on the same arguments: refusal 14 with place 0, or the count of the members.
-pub fn find_group(starts: &[u32], table: &[u16], k: usize) -> Looked
+pub fn find_group(starts: &[u32], table: &[u16], k: usize) -> Result<usize, Refusal>
     ensures { look_answer result ≡ look_answer (looked_of starts.now table.now k) }
 {
     let s = find_span(starts, table.len(), k);
     if s.found {
         let count = s.past - s.first;
-        Looked::Found(count)
+        Ok(count)
     } else {
-        Looked::Refused(Refusal {
+        Err(Refusal {
             number: 14,
             place: 0,
         })

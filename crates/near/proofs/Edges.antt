@@ -4,6 +4,7 @@
 --     ends_none      past the last record both ends are 0
 --     ends_most      ends that are near are no farther apart than the limit
 --     ends_accepted  of an edge of an accepted image, the test by the handset records is the test of its ends
+use Rattle.std.specs.Prelude.{None, Some}
 use Rattle.std.proofs.Common.{◌≡◌, ℕ, ◌+◌, ◌-◌, ◌*◌, ◌/◌, ◌<◌, ◌≤◌, Bool, true, false, cond, ◌&&◌, ltb, List, length, take, drop, sym, refl, ap, ◌∙◌, ap₂, add-zero, arith, length-drop, take_all, lt-ltb}
 use borrow.Author.Tests.{lt-leb}
 use Rattle.little_endian.specs.Bytes.{number}
@@ -14,7 +15,6 @@ use Rattle.image.specs.Image.{handset_count, edge_count, limit_of, handset_recor
 use Rattle.image.specs.Questions.{Accepted}
 use Rattle.image.proofs.Acceptance.{handsets_length, ends_below}
 use Rattle.near.specs.Near.{proximity_of, handsets_in, ends_proximity, proximity}
-use Rattle.near.specs.declared.Proximity.TheVariants.{Near, NotNear}
 use Rattle.near.proofs.Near.{near_apart, near_most, edge_proximity_lem}
 
 -- a number in the rest of a list, by a slice of it that is long enough
@@ -38,11 +38,11 @@ ends_none records k h =
     let none : (at : ℕ) → edge_bytes * k ≤ at → number end_bytes records at ≡ 0 = λ at l. number_none end_bytes records at refl (lt-leb (at + end_bytes) (length records) (omega (arith, h, l))) in
     sym (ap₂ (λ (x y : ℕ). record { a = x; b = y }) (none (edge_bytes * k) (omega arith)) (none (edge_bytes * k + end_bytes) (omega arith)))
 
-pub ends_most : (handsets : List ℕ) (u v limit d : ℕ) → ends_proximity handsets u v limit ≡ Near d → d ≤ limit
+pub ends_most : (handsets : List ℕ) (u v limit d : ℕ) → ends_proximity handsets u v limit ≡ Some d → d ≤ limit
 unfolding ends_proximity
 ends_most handsets u v limit d e = go (ltb u (handsets_in handsets) && ltb v (handsets_in handsets)) e
   where
-    go : (b : Bool) → cond b (proximity_of (handset_record handsets u) (handset_record handsets v) limit) NotNear ≡ Near d → d ≤ limit
+    go : (b : Bool) → cond b (proximity_of (handset_record handsets u) (handset_record handsets v) limit) None ≡ Some d → d ≤ limit
     go true q = (near_most (handset_record handsets u) (handset_record handsets v) limit d q).1
     go false q = near_apart d q
 
@@ -55,5 +55,5 @@ ends_accepted s ok k h =
     let b : ℕ = end_b (edge_records s) k in
     let there : (v : ℕ) → v < handset_count s → ltb v (handsets_in hs) ≡ true = λ v l. lt-ltb v (handsets_in hs) (omega (arith, l, handsets_length s ok.header)) in
     let below = ends_below s ok k h in
-    ap₂ (λ (x y : Bool). cond (x && y) (proximity_of (handset_record hs a) (handset_record hs b) (limit_of s)) NotNear) (there a below.0) (there b below.1)
+    ap₂ (λ (x y : Bool). cond (x && y) (proximity_of (handset_record hs a) (handset_record hs b) (limit_of s)) None) (there a below.0) (there b below.1)
     ∙ sym (edge_proximity_lem s ok k h)

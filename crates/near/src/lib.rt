@@ -10,16 +10,9 @@ ghost use Rattle.near.specs.Near.{proximity_of, proximity_answer, ends_proximity
 
 use fields::Ends;
 
-// What the near test of two handsets answers: near with the squared distance, or not near.
-#[derive(Clone, Copy)]
-pub enum Proximity {
-    Near(u64),
-    NotNear,
-}
-
 // The near test of two handsets, by their records: near with their squared distance where that is at most the limit, else not near. What is left of the limit
 // wraps only where they are not near.
-pub fn proximity_of(a: &[u8], b: &[u8], limit: u64) -> Proximity
+pub fn proximity_of(a: &[u8], b: &[u8], limit: u64) -> Option<u64>
     ensures { proximity_answer result ≡ proximity_answer (proximity_of a.now b.now limit) }
 {
     let mut fits = true;
@@ -33,11 +26,7 @@ pub fn proximity_of(a: &[u8], b: &[u8], limit: u64) -> Proximity
         room = std::num::wrapping_sub_u64(room, d);
         i += 1;
     }
-    if fits {
-        Proximity::Near(limit - room)
-    } else {
-        Proximity::NotNear
-    }
+    if fits { Some(limit - room) } else { None }
 }
 
 // The ends of edge k, by the edge records; 0 for one that is not there.
@@ -58,13 +47,13 @@ pub fn ends_at(edges: &[u8], k: usize) -> Ends
 }
 
 // The near test of two handsets by their numbers, from the handset records: not near where a record is missing.
-pub fn test_ends(handsets: &[u8], u: usize, v: usize, limit: u64) -> Proximity
+pub fn test_ends(handsets: &[u8], u: usize, v: usize, limit: u64) -> Option<u64>
     ensures { result ≡ ends_proximity handsets.now u v limit }
 {
     let n = handsets.len() / fields::HANDSET_BYTES;
     let both = (u < n) & (v < n);
     if !both {
-        return Proximity::NotNear;
+        return None;
     }
     let a = fields::HANDSET_BYTES * u;
     let a_past = a + fields::HANDSET_BYTES;

@@ -11,7 +11,7 @@ ghost use Rattle.community.specs.Site.{communities_of};
 ghost use Rattle.nearest.specs.Nearest.{nearest_in, nearest_of, nearest_answer};
 ghost use Rattle.nearest.specs.ForProofs.{wrapped, Closest, Takes, TakesWord, RowsFilled, PointHeld};
 
-use image::{Header, Opened, Refusal};
+use image::{Header, Refusal};
 
 // What a call for the nearest group answers: its number and the squared distance of its nearest member, that there are no groups, or the refusal.
 #[derive(Clone, Copy)]
@@ -137,7 +137,7 @@ pub fn nearest_group(image: &[u8], x: i32, y: i32, z: i32) -> Nearest
     let mut cores = [0u64; 8];
     let found = graph::find_rows(image, &mut table, &mut cores);
     let opened = found.opened;
-    let Opened::Site(h) = opened else {
+    let Ok(h) = opened else {
         return Nearest::Refused(refusals::refusal_of(opened));
     };
     if points::in_limits(x, y, z) {

@@ -8,6 +8,7 @@
 --     plan_made, starts_made, members_made          the answer and the tables of a plan for which both tables have room
 --     known_past, known_handset                     the role call's answer, for a number past the handsets and for a handset
 --     role_found, known_found                       the role and the answer for a handset, from the communities found
+use Rattle.std.specs.Prelude.{Err, Ok, Result}
 use Prim.Native.Nat.{ℕ, ◌+◌, ◌≤◌, ◌<◌, min}
 use native.Mathlib.Omega.{arith}
 use mathlib.Core.Path.{◌≡◌, refl, sym, ap, ap₂, ◌∙◌, subst}
@@ -25,7 +26,6 @@ use Rattle.image.specs.Answers.{refusal, given}
 use Rattle.image.specs.Questions.{Accepted, open_of, refusal_of}
 use Rattle.image.specs.declared.Header.{Header}
 use Rattle.image.specs.declared.Refusal.{Refusal}
-use Rattle.image.specs.declared.Opened.TheVariants as O
 use Rattle.image.proofs.Acceptance.{accepted, accepted_fits, when_accepted, when_refused}
 use Rattle.community.specs.Network.{Network, is_core, role, neighbourhood_size, role_among, role_values}
 use Rattle.community.specs.Tables.{start_table, member_table}
@@ -34,26 +34,24 @@ use Rattle.community.specs.declared.Standing.{Standing}
 use Rattle.search.specs.Communities.{core_in}
 use Rattle.rows.specs.Rows.{rows_of}
 use Rattle.tables.specs.Plan.{by_room, made, plan_answer, over, role_for, PlanWritten}
-use Rattle.tables.specs.declared.Planned.{Planned}
-use Rattle.tables.specs.declared.Planned.TheVariants as P
 use Rattle.graph.specs.Graph.{SiteFound}
 use Rattle.graph.specs.declared.SiteGroups.{SiteGroups}
 use Rattle.graph.proofs.Laws.{site_read, site_rows}
+use Rattle.rows.specs.declared.Counts.{Counts}
 use Rattle.planner.specs.Plan.{PlanCall, plan_of, starts_after, members_after, known_of, known_answer, standing}
-use Rattle.planner.specs.declared.Known.TheVariants as K
 
 -- ---- what is told of an image
 pub told_no : {s : List ℕ} {g : Network} {a : SiteGroups} {near rows sizes cores : List ℕ} → SiteFound s g a near rows sizes cores
-    → (x y : Refusal) → a.opened ≡ O.Refused x → y ≡ refusal_of a.opened → open_of s ≡ O.Refused y
-told_no r x y e f = sym r.answered ∙ e ∙ ap O.Refused (sym (f ∙ ap refusal_of e))
+    → (x y : Refusal) → a.opened ≡ Err x → y ≡ refusal_of a.opened → open_of s ≡ Err y
+told_no r x y e f = sym r.answered ∙ e ∙ ap Err (sym (f ∙ ap refusal_of e))
 
 pub told_yes : {s : List ℕ} {g : Network} {a : SiteGroups} {near rows sizes cores : List ℕ} → SiteFound s g a near rows sizes cores
-    → (h : Header) → a.opened ≡ O.Site h → Accepted s × (h.n ≡ handset_count s)
+    → (h : Header) → a.opened ≡ Ok h → Accepted s × (h.n ≡ handset_count s)
 told_yes {s} r h e = let k = accepted s h (sym r.answered ∙ e) in (k.0, ap (λ (x : Header). x.n) k.1)
 
 -- ---- a refused image
-module _ (s : List ℕ) (r : Refusal) (e : open_of s ≡ O.Refused r) where
-  pub plan_refused : (ss ms : List ℕ) → PlanCall s ss ms (P.Refused r) ss ms
+module _ (s : List ℕ) (r : Refusal) (e : open_of s ≡ Err r) where
+  pub plan_refused : (ss ms : List ℕ) → PlanCall s ss ms (Err r) ss ms
   unfolding plan_of starts_after members_after
   plan_refused ss ms = record {
     answer = ap plan_answer (sym (when_refused s _ _ r e));
@@ -61,7 +59,7 @@ module _ (s : List ℕ) (r : Refusal) (e : open_of s ≡ O.Refused r) where
     members = sym (when_refused s _ _ r e);
   }
 
-  pub known_refused : (v : ℕ) → K.Refused r ≡ known_of s v
+  pub known_refused : (v : ℕ) → Err r ≡ known_of s v
   unfolding known_of
   known_refused v = sym (when_refused s _ _ r e)
 
@@ -70,7 +68,7 @@ module _ (s : List ℕ) (ok : Accepted s) where
   pub handsets_most_lem : (network s).n ≤ 512
   handsets_most_lem = (accepted_fits s ok).n_limit
 
-  pub plan_found : {r : SiteGroups} {near rows sizes cores : List ℕ} → SiteFound s (network s) r near rows sizes cores → (ss ms : List ℕ) (a : Planned) (ss' ms' : List ℕ)
+  pub plan_found : {r : SiteGroups} {near rows sizes cores : List ℕ} → SiteFound s (network s) r near rows sizes cores → (ss ms : List ℕ) (a : Result Counts Refusal) (ss' ms' : List ℕ)
       → PlanWritten (rows_of rows (min r.groups 512)) ss ms a ss' ms' → PlanCall s ss ms a ss' ms'
   unfolding plan_of starts_after members_after communities_of
   plan_found f ss ms a ss' ms' w =
@@ -82,14 +80,14 @@ module _ (s : List ℕ) (ok : Accepted s) where
       }
 
   -- the role call's answer, by the test of the number
-  known_is : (v : ℕ) (b : Bool) → ltb v (handset_count s) ≡ b → known_of s v ≡ cond b (K.Handset (standing s v)) (K.Refused (refusal 13))
+  known_is : (v : ℕ) (b : Bool) → ltb v (handset_count s) ≡ b → known_of s v ≡ cond b (Ok (standing s v)) (Err (refusal 13))
   unfolding known_of
-  known_is v b e = when_accepted s _ _ ok ∙ ap (λ (x : Bool). cond x (K.Handset (standing s v)) (K.Refused (refusal 13))) e
+  known_is v b e = when_accepted s _ _ ok ∙ ap (λ (x : Bool). cond x (Ok (standing s v)) (Err (refusal 13))) e
 
-  pub known_handset : (v : ℕ) → v < handset_count s → known_of s v ≡ K.Handset (standing s v)
+  pub known_handset : (v : ℕ) → v < handset_count s → known_of s v ≡ Ok (standing s v)
   known_handset v h = known_is v true (lt-ltb v (handset_count s) h)
 
-  pub known_past : (v : ℕ) → handset_count s ≤ v → K.Refused (refusal 13) ≡ known_of s v
+  pub known_past : (v : ℕ) → handset_count s ≤ v → Err (refusal 13) ≡ known_of s v
   known_past v h = sym (known_is v false (le-ltb v (handset_count s) h))
 
   -- the bit of a handset in the set of cores says whether it is one
@@ -107,7 +105,7 @@ module _ (s : List ℕ) (ok : Accepted s) where
       ap₂ (λ (b : Bool) (gs : List (List ℕ)). role_among gs b v) (core_bit (site_read s ok (network s) refl f).core_set v h) (site_rows s ok (network s) refl f)
 
   pub known_found : (v : ℕ) → v < handset_count s → (x : Standing) → x.neighbours ≡ neighbourhood_size (network s) v
-      → role_values x.role ≡ role_values (role (network s) v) → known_answer (K.Handset x) ≡ known_answer (known_of s v)
+      → role_values x.role ≡ role_values (role (network s) v) → known_answer (Ok x) ≡ known_answer (known_of s v)
   unfolding standing
   known_found v h x p q = ap₂ (λ (n : ℕ) (vs : List ℕ). given (n ∷ vs)) p q ∙ ap known_answer (sym (known_handset v h))
 

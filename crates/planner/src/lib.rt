@@ -8,32 +8,25 @@ ghost use Rattle.std.specs.Prelude.{◌≡◌};
 ghost use Rattle.planner.specs.Plan.{PlanCall, known_answer, known_of};
 
 use community::Standing;
-use image::{Opened, Refusal};
-use tables::Planned;
-
-// What a call for a role answers.
-#[derive(Clone, Copy)]
-pub enum Known {
-    Handset(Standing),
-    Refused(Refusal),
-}
+use image::Refusal;
+use rows::Counts;
 
 // The plan of an image in both tables. A refusal writes nothing.
-pub fn plan(image: &[u8], starts: &mut [u32], members: &mut [u16]) -> Planned
+pub fn plan(image: &[u8], starts: &mut [u32], members: &mut [u16]) -> Result<Counts, Refusal>
     ensures { PlanCall image.now starts.old members.old result starts.new members.new }
 {
     let mut table = [0u64; sets::TABLE_WORDS];
     let mut cores = [0u64; 8];
     let found = graph::find_rows(image, &mut table, &mut cores);
     let opened = found.opened;
-    let Opened::Site(_) = opened else {
-        return Planned::Refused(refusals::refusal_of(opened));
+    let Ok(_) = opened else {
+        return Err(refusals::refusal_of(opened));
     };
     tables::write_plan(&table, found.groups, starts, members)
 }
 
 // The near count and the role of handset v.
-pub fn role(image: &[u8], v: usize) -> Known
+pub fn role(image: &[u8], v: usize) -> Result<Standing, Refusal>
     ensures { known_answer result ≡ known_answer (known_of image.now v) }
 {
     let mut near = [0u64; graph::EDGE_WORDS];
@@ -42,17 +35,17 @@ pub fn role(image: &[u8], v: usize) -> Known
     let mut cores = [0u64; 8];
     let found = graph::find_site(image, &mut near, &mut table, &mut sizes, &mut cores);
     let opened = found.opened;
-    let Opened::Site(h) = opened else {
-        return Known::Refused(refusals::refusal_of(opened));
+    let Ok(h) = opened else {
+        return Err(refusals::refusal_of(opened));
     };
     if h.n as usize <= v {
-        return Known::Refused(Refusal {
+        return Err(Refusal {
             number: 13,
             place: 0,
         });
     }
     let role = tables::role_in(&cores, &table, found.groups, v);
-    Known::Handset(Standing {
+    Ok(Standing {
         neighbours: sizes[v],
         role,
     })

@@ -7,15 +7,15 @@ ghost use Rattle.std.specs.Prelude.{◌≡◌, min};
 ghost use Rattle.image.specs.Questions.{refusal_of};
 ghost use Rattle.refusals.specs.Refusals.{refusal_code};
 
-use image::{Opened, Refusal};
+use image::{Header, Refusal};
 
 // The refusal of an answer, for the else of a caller's let .. else; number 0 where the image was accepted.
-pub fn refusal_of(o: Opened) -> Refusal
+pub fn refusal_of(o: Result<Header, Refusal>) -> Refusal
     ensures { result ≡ refusal_of o }
 {
     match o {
-        Opened::Refused(r) => r,
-        Opened::Site(_) => Refusal {
+        Err(r) => r,
+        Ok(_) => Refusal {
             number: 0,
             place: 0,
         },

@@ -4,6 +4,7 @@
 --     rows_held          the rows that a call finds, of an accepted image
 --     rows_counted       the counts of the rows are those that a text lists
 --     text_held          the text from the tables as the report's functions leave them
+use Rattle.std.specs.Prelude.{None, Option, Some}
 use Prim.Native.Nat.{ℕ, zero, suc, ◌+◌, ◌≤◌, ◌<◌, min}
 use native.Mathlib.Omega.{arith}
 use mathlib.Core.Path.{◌≡◌, refl, sym, ap, ap₂, ◌∙◌, subst, subst₂}
@@ -17,8 +18,6 @@ use Rattle.image.specs.Image.{header_of, handset_count, edge_count, limit_of, ha
 use Rattle.image.specs.Questions.{Accepted}
 use Rattle.image.specs.declared.Header.{Header}
 use Rattle.near.specs.Near.{ends_proximity}
-use Rattle.near.specs.declared.Proximity.{Proximity}
-use Rattle.near.specs.declared.Proximity.TheVariants.{Near, NotNear}
 use Rattle.image.proofs.Acceptance.{accepted_fits, edges_length}
 use Rattle.image.proofs.Records.{edge_slice, handset_slice, edge_slice_is, handset_slice_is}
 use Rattle.near.proofs.Edges.{ends_accepted}
@@ -81,9 +80,9 @@ lines_are s gs rows ts rs (suc k) p q r =
     (rw (p k (omega arith), q k (omega arith), r k (omega arith)))
 
 -- a table's number stands for the reach that it was made of
-entry_back : (r : Proximity) → reach_of (reach_entry r) ≡ r
-entry_back (Near d) = refl
-entry_back NotNear = refl
+entry_back : (r : Option ℕ) → reach_of (reach_entry r) ≡ r
+entry_back (Some d) = refl
+entry_back None = refl
 
 module _ {s : List ℕ} {h : Header} {rows : List ℕ} {k : ℕ} {core_set : List ℕ} (held : RowsHeld s h rows k core_set) where
   groups_are : length (communities (network s)) ≡ k
@@ -129,7 +128,7 @@ module _ {s : List ℕ} {h : Header} {rows : List ℕ} {k : ℕ} {core_set : Lis
       let hs : List ℕ = handset_records s in
       let here : ℕ → Bool = is_member rows k j in
       let limit : min (limit_of s) limit_most ≡ limit_of s = omega (arith, (accepted_fits s held.accepted).square_limit) in
-      let share : ℕ → ℕ → Proximity = λ x e. cond (here (end_a edges e) && here (end_b edges e)) (ends_proximity hs (end_a edges e) (end_b edges e) x) NotNear in
+      let share : ℕ → ℕ → (Option ℕ) = λ x e. cond (here (end_a edges e) && here (end_b edges e)) (ends_proximity hs (end_a edges e) (end_b edges e) x) None in
       ap reach_of (c.reaches j (omega (arith, held.few)))
       ∙ entry_back (farthest (edges_in edges) (share (min (limit_of s) limit_most)))
       ∙ ap₂ (λ (n x : ℕ). farthest n (share x)) all_edges limit
@@ -137,8 +136,8 @@ module _ {s : List ℕ} {h : Header} {rows : List ℕ} {k : ℕ} {core_set : Lis
       (λ e q.
       let a : ℕ = end_a edges e in
       let b : ℕ = end_b edges e in
-      ap₂ (λ (x y : Bool). cond (x && y) (ends_proximity hs a b (limit_of s)) NotNear) (member_is j a l) (member_is j b l)
-      ∙ ap (λ (p : Proximity). cond (contains a list && contains b list) p NotNear) (ends_accepted s held.accepted e q))
+      ap₂ (λ (x y : Bool). cond (x && y) (ends_proximity hs a b (limit_of s)) None) (member_is j a l) (member_is j b l)
+      ∙ ap (λ (p : Option ℕ). cond (contains a list && contains b list) p None) (ends_accepted s held.accepted e q))
 
   -- the text from tables that hold what the image has
   text_is : (c : Counts) (t : Totals) (ts rs outlier-set : List ℕ) → c ≡ counts_of (rows_of rows k) → GroupsCounted (edge_records s) rows k ts

@@ -16,7 +16,7 @@
 --     program_text s room     what the report program prints for an input, with a buffer of room bytes; 15 for an input that does not end within
 --                            65,536 bytes
 --     OneAnswer              the theorem: the number, place and values leave nothing of the answer free (proved in proofs/Answers)
-use Rattle.std.specs.Prelude.{ℕ, zero, suc, ◌≡◌, cond, List, [], ◌∷◌, ◌++◌, leb, ltb, length, get_or}
+use Rattle.std.specs.Prelude.{ℕ, zero, suc, ◌≡◌, cond, List, [], ◌∷◌, ◌++◌, leb, ltb, length, get_or, Err, Ok, Result}
 use Rattle.sets.specs.Below.{select}
 use Rattle.image.specs.Image.{handset_count, edge_count}
 use Rattle.image.specs.Questions.{when_opened}
@@ -30,9 +30,8 @@ use Rattle.scores.specs.Scored.{tally_of, scores_for}
 use Rattle.totals.specs.Totals.{is_outlier, totals}
 use Rattle.text.specs.Text.{bytes}
 use Rattle.lines.specs.Lines.{head_line, group_line, list_line, totals_line, refused_text}
+use Rattle.image.specs.declared.Refusal.{Refusal}
 use Rattle.lines.specs.declared.Head.{Head}
-use Rattle.reporting.specs.declared.Reported.{Reported}
-use Rattle.reporting.specs.declared.Reported.TheVariants as R
 
 -- ---- the report of an accepted image
 
@@ -57,32 +56,32 @@ report_text s = report_with s (communities (network s))
 
 -- ---- the call's answer
 
-unfoldable pub written_of : List ℕ → ℕ → Reported
-written_of t room = cond (leb (length t) room) (R.Written (length t)) (R.Refused (refusal 16))
+unfoldable pub written_of : List ℕ → ℕ → Result ℕ Refusal
+written_of t room = cond (leb (length t) room) (Ok (length t)) (Err (refusal 16))
 
 unfoldable pub written_in : List ℕ → List ℕ → List ℕ
 written_in t buffer = cond (leb (length t) (length buffer)) (over t buffer) buffer
 
-unfoldable pub report_of : List ℕ → ℕ → Reported
-report_of s room = when_opened s (λ h. written_of (report_text s) room) R.Refused
+unfoldable pub report_of : List ℕ → ℕ → Result ℕ Refusal
+report_of s room = when_opened s (λ h. written_of (report_text s) room) Err
 
 unfoldable pub text_after : List ℕ → List ℕ → List ℕ
 text_after s buffer = when_opened s (λ h. written_in (report_text s) buffer) (λ r. buffer)
 
-abbrev pub report_answer : Reported → Answer
-report_answer (R.Written k) = given (k ∷ [])
-report_answer (R.Refused r) = refused r
+abbrev pub report_answer : Result ℕ Refusal → Answer
+report_answer (Ok k) = given (k ∷ [])
+report_answer (Err r) = refused r
 
 -- of the image s, the buffer l as lent, the answer r, and the buffer l' after the call
-pub record ReportCall (s l : List ℕ) (r : Reported) (l' : List ℕ) : Type 0 where
+pub record ReportCall (s l : List ℕ) (r : Result ℕ Refusal) (l' : List ℕ) : Type 0 where
   pub answer : report_answer r ≡ report_answer (report_of s (length l))
   pub text : l' ≡ text_after s l
 
 -- ---- the report program
 
-abbrev pub printed : List ℕ → Reported → List ℕ
-printed s (R.Written k) = report_text s
-printed s (R.Refused r) = refused_text r
+abbrev pub printed : List ℕ → Result ℕ Refusal → List ℕ
+printed s (Ok k) = report_text s
+printed s (Err r) = refused_text r
 
 unfoldable pub program_text : List ℕ → ℕ → List ℕ
 program_text s room = cond (ltb 65536 (length s)) (refused_text (refusal 15)) (printed s (report_of s room))

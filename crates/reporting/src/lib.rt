@@ -10,16 +10,9 @@ ghost use Rattle.lines.specs.ForProofs.{most_bytes};
 ghost use Rattle.reporting.specs.Report.{report_text, ReportCall, program_text};
 ghost use Rattle.reporting.specs.ForProofs.{RowsCounted, RowsHeld, Filled};
 
-use image::{Header, Opened, Refusal};
+use image::{Header, Refusal};
 use lines::{Head, Numbers};
 use rows::Counts;
-
-// What a call for a report answers: the text's length, or the refusal.
-#[derive(Clone, Copy)]
-pub enum Reported {
-    Written(usize),
-    Refused(Refusal),
-}
 
 // An upper bound on the length of a report with these counts: 160 bytes for what stands before a group's members, four for a member, and 4,608 for the other lines.
 fn most_bytes(counts: Counts) -> usize
@@ -39,7 +32,7 @@ fn write_text<'a>(
     reaches: &'a [u64; 512],
     cores: &'a [u64; 8],
     outliers: &'a [u64; 8],
-) -> Reported
+) -> Result<usize, Refusal>
     requires { RowsCounted rows.now numbers.head.counts }
     ensures { Filled (table_text numbers rows.now tallies.now reaches.now cores.now outliers.now) text.old result text.new }
 {
@@ -50,9 +43,9 @@ fn write_text<'a>(
     }
     if need <= text.len() {
         let length = lines::put_report(text, numbers, rows, tallies, reaches, cores, outliers);
-        return Reported::Written(length);
+        return Ok(length);
     }
-    Reported::Refused(Refusal {
+    Err(Refusal {
         number: 16,
         place: 0,
     })
@@ -66,7 +59,7 @@ fn report_groups<'a>(
     rows: &'a [u64; sets::TABLE_WORDS],
     groups: usize,
     cores: &'a [u64; 8],
-) -> Reported
+) -> Result<usize, Refusal>
     requires { RowsHeld image.now h rows.now groups cores.now }
     ensures { Filled (report_text image.now) text.old result text.new }
 {
@@ -98,7 +91,7 @@ fn report_groups<'a>(
 
 // Writes the report of an image into the buffer, and answers the text's length. A refused image, or a buffer that does not hold the whole text
 // (16), is refused with nothing written; past the text the buffer holds what it held.
-pub fn report(image: &[u8], text: &mut [u8]) -> Reported
+pub fn report(image: &[u8], text: &mut [u8]) -> Result<usize, Refusal>
     ensures { ReportCall image.now text.old result text.new }
 {
     let mut rows = [0u64; sets::TABLE_WORDS];
@@ -106,8 +99,8 @@ pub fn report(image: &[u8], text: &mut [u8]) -> Reported
     let found = graph::find_rows(image, &mut rows, &mut cores);
     let opened = found.opened;
     let groups = found.groups;
-    let Opened::Site(h) = opened else {
-        return Reported::Refused(refusals::refusal_of(opened));
+    let Ok(h) = opened else {
+        return Err(refusals::refusal_of(opened));
     };
     report_groups(text, image, h, &rows, groups, &cores)
 }
@@ -126,7 +119,7 @@ pub fn program_text(input: &[u8], out: &mut [u8]) -> usize
     }
     let reported = report(input, out);
     match reported {
-        Reported::Written(length) => length,
-        Reported::Refused(refusal) => lines::put_refusal(out, refusal),
+        Ok(length) => length,
+        Err(refusal) => lines::put_refusal(out, refusal),
     }
 }

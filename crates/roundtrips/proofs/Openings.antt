@@ -4,6 +4,7 @@
 --     SameRecords s t   the images s and t have the same parameters and the same records
 --     SameOpening s t   both images are accepted, or both are refused with the same number, 7 to 10, and place
 --     same_opening      that is so where their parameters and records are the same and both headers are accepted
+use Rattle.std.specs.Prelude.{Err, Ok, Result}
 use Prim.Native.Nat.{ℕ, ◌≤◌}
 use native.Mathlib.Omega.{arith}
 use mathlib.Core.Path.{◌≡◌, refl, sym, ◌∙◌}
@@ -15,10 +16,9 @@ use Rattle.limits.specs.Limits.{out_of_limits}
 use Rattle.image.specs.Image.{header_of, handset_records, edge_records, handset_record}
 use Rattle.image.specs.Questions.{bad_end, is_loop, repeats_earlier, ask, ask_each, ask_edges, ask_records, open_of, HeaderAccepted}
 use Rattle.image.specs.declared.Refusal.{Refusal}
-use Rattle.image.specs.declared.Opened.{Opened}
-use Rattle.image.specs.declared.Opened.TheVariants.{Site, Refused}
 use Rattle.image.proofs.Acceptance.{go_on_header}
 use Rattle.layout.specs.declared.Parameters.{Parameters}
+use Rattle.image.specs.declared.Header.{Header}
 use Rattle.writer.specs.Holds.{parameters_of}
 
 pub record SameRecords (s t : List ℕ) : Type 0 where
@@ -28,14 +28,14 @@ pub record SameRecords (s t : List ℕ) : Type 0 where
 
 abbrev pub SameOpening : List ℕ → List ℕ → Type 0
 SameOpening s t =
-    ((open_of s ≡ Site (header_of s)) × (open_of t ≡ Site (header_of t)))
-    ⊎ ((q : Refusal) × (7 ≤ q.number) × (q.number ≤ 10) × (open_of s ≡ Refused q) × (open_of t ≡ Refused q))
+    ((open_of s ≡ Ok (header_of s)) × (open_of t ≡ Ok (header_of t)))
+    ⊎ ((q : Refusal) × (7 ≤ q.number) × (q.number ≤ 10) × (open_of s ≡ Err q) × (open_of t ≡ Err q))
 
 -- what questions make of the answer that comes after them
-abbrev Settled : (Opened → Opened) → Type 0
-Settled f = ((next : Opened) → f next ≡ next) ⊎ ((q : Refusal) × (7 ≤ q.number) × (q.number ≤ 10) × ((next : Opened) → f next ≡ Refused q))
+abbrev Settled : ((Result Header Refusal) → Result Header Refusal) → Type 0
+Settled f = ((next : Result Header Refusal) → f next ≡ next) ⊎ ((q : Refusal) × (7 ≤ q.number) × (q.number ≤ 10) × ((next : Result Header Refusal) → f next ≡ Err q))
 
-each_settled : (n : ℕ) (bad : ℕ → Bool) (k : ℕ) → 7 ≤ k → k ≤ 10 → (rest : Opened → Opened) → Settled rest → Settled (λ next. ask_each n bad k (rest next))
+each_settled : (n : ℕ) (bad : ℕ → Bool) (k : ℕ) → 7 ≤ k → k ≤ 10 → (rest : Result Header Refusal → Result Header Refusal) → Settled rest → Settled (λ next. ask_each n bad k (rest next))
 unfolding ask_each ask
 each_settled n bad k l h rest a = go (not (any n bad))
   where
@@ -44,7 +44,7 @@ each_settled n bad k l h rest a = go (not (any n bad))
     go false = inr (record { number = k; place = find n bad }, l, h, λ next. refl)
 
 -- questions 7 to 10
-abbrev asked : Parameters → List ℕ → List ℕ → Opened → Opened
+abbrev asked : Parameters → List ℕ → List ℕ → Result Header Refusal → Result Header Refusal
 asked x handsets edges next =
     ask_each x.n (λ v. out_of_limits (handset_record handsets v)) 7
     (ask_each x.m (bad_end edges x.n) 8 (ask_each x.m (is_loop edges) 9 (ask_each x.m (repeats_earlier edges) 10 next)))
@@ -56,7 +56,7 @@ asked_settled x handsets edges =
     (each_settled x.m _ 9 (omega arith) (omega arith) _
     (each_settled x.m _ 10 (omega arith) (omega arith) (λ next. next) (inl (λ next. refl)))))
 
-open_asked : (s : List ℕ) → HeaderAccepted s → open_of s ≡ asked (parameters_of (header_of s)) (handset_records s) (edge_records s) (Site (header_of s))
+open_asked : (s : List ℕ) → HeaderAccepted s → open_of s ≡ asked (parameters_of (header_of s)) (handset_records s) (edge_records s) (Ok (header_of s))
 unfolding open_of ask_records ask_edges
 open_asked s ok = go_on_header s _ ok
 
@@ -64,9 +64,9 @@ module _ (s t : List ℕ) (same : SameRecords s t) (ok : HeaderAccepted s) (fine
   pub same_opening : SameOpening s t
   same_opening = go (asked_settled (parameters_of (header_of s)) (handset_records s) (edge_records s))
     where
-      of_t : open_of t ≡ asked (parameters_of (header_of s)) (handset_records s) (edge_records s) (Site (header_of t))
-      of_t = open_asked t fine ∙ sym (λ i. asked (same.parameters i) (same.handsets i) (same.edges i) (Site (header_of t)))
+      of_t : open_of t ≡ asked (parameters_of (header_of s)) (handset_records s) (edge_records s) (Ok (header_of t))
+      of_t = open_asked t fine ∙ sym (λ i. asked (same.parameters i) (same.handsets i) (same.edges i) (Ok (header_of t)))
 
       go : Settled (asked (parameters_of (header_of s)) (handset_records s) (edge_records s)) → SameOpening s t
-      go (inl f) = inl (open_asked s ok ∙ f (Site (header_of s)), of_t ∙ f (Site (header_of t)))
-      go (inr (q, l, h, f)) = inr (q, l, h, open_asked s ok ∙ f (Site (header_of s)), of_t ∙ f (Site (header_of t)))
+      go (inl f) = inl (open_asked s ok ∙ f (Ok (header_of s)), of_t ∙ f (Ok (header_of t)))
+      go (inr (q, l, h, f)) = inr (q, l, h, open_asked s ok ∙ f (Ok (header_of s)), of_t ∙ f (Ok (header_of t)))

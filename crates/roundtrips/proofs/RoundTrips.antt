@@ -8,6 +8,7 @@
 --     no_longer                    the image written is no longer than one that holds its tables
 --     written_again                an accepted image's tables are written where there is room, and what is written has the image's outcome
 --     round_trips                  the theorem
+use Rattle.std.specs.Prelude.{Err, Ok, Result}
 use Prim.Native.Nat.{ℕ, ◌+◌, ◌*◌, ◌≤◌}
 use native.Mathlib.Omega.{arith}
 use mathlib.Core.Path.{◌≡◌, sym, ap, ◌∙◌, subst}
@@ -24,8 +25,6 @@ use Rattle.image.specs.Questions.{open_of, by_answer, HeaderAccepted, Accepted}
 use Rattle.image.specs.Answers.{refusal}
 use Rattle.image.specs.declared.Header.{Header}
 use Rattle.image.specs.declared.Refusal.{Refusal}
-use Rattle.image.specs.declared.Opened.{Opened}
-use Rattle.image.specs.declared.Opened.TheVariants as O
 use Rattle.image.proofs.Acceptance.{accepted, opened, header_fits, header_length, tables_clear}
 use Rattle.image.proofs.Answers.{open_same}
 use Rattle.layout.specs.Layout.{header_for, image_of, Signed32}
@@ -33,8 +32,6 @@ use Rattle.layout.specs.declared.Parameters.{Parameters}
 use Rattle.layout.proofs.Reading.{Asked, image_below, header_read, handsets_read, edges_read, header_accepted}
 use Rattle.writer.specs.Holds.{parameters_of, Holds}
 use Rattle.writer.specs.Writer.{ask_buffer, WriteCall}
-use Rattle.writer.specs.declared.Encoded.{Encoded}
-use Rattle.writer.specs.declared.Encoded.TheVariants as E
 use Rattle.writer.proofs.Drafting.{by_reader}
 use Rattle.writer.proofs.Outcome.{no_length, Granted, granted, front, rest, kept, answer_by, written, too_short}
 use Rattle.writer.proofs.Tables.{asked_by, handsets_are, edges_are, image_holds, tables_of}
@@ -44,22 +41,22 @@ use Rattle.roundtrips.proofs.Same.{same_outcome}
 
 -- ---- the cases of an answer
 
-no_site : {A : Type 0} {h : Header} {q : Refusal} → O.Site h ≡ O.Refused q → A
+no_site : {A : Type 0} {h : Header} {q : Refusal} → Ok h ≡ Err q → A
 no_site e = let z : ◌≡◌ {A = ℕ} 0 1 = cc in absurd (omega arith)
 
-same_refusal : {q p : Refusal} → O.Refused q ≡ O.Refused p → q ≡ p
+same_refusal : {q p : Refusal} → Err q ≡ Err p → q ≡ p
 same_refusal e = cc
 
-same_no : {q p : Refusal} → E.Refused q ≡ E.Refused p → q ≡ p
+same_no : {q p : Refusal} → Err q ≡ Err p → q ≡ p
 same_no e = cc
 
-only_20 : (q : Refusal) (b : Bool) (k : ℕ) → E.Refused q ≡ cond b (E.Length k) (E.Refused (refusal 20)) → q.number ≡ 20
+only_20 : (q : Refusal) (b : Bool) (k : ℕ) → Err q ≡ cond b (Ok k) (Err (refusal 20)) → q.number ≡ 20
 only_20 q true k e = no_length (sym e)
 only_20 q false k e = ap (λ (p : Refusal). p.number) (same_no e)
 
 -- ---- what is written is read back
 
-reads_back : (x : Parameters) (coords : List ℤ) (ends l : List ℕ) (k : ℕ) (l' : List ℕ) → WriteCall x coords ends l (E.Length k) l'
+reads_back : (x : Parameters) (coords : List ℤ) (ends l : List ℕ) (k : ℕ) (l' : List ℕ) → WriteCall x coords ends l (Ok k) l'
     → Signed32 coords → Below 65536 ends → ReadsBack x coords ends l k l'
 reads_back x coords ends l k l' call signed low =
     let g : Granted x coords ends (length l) k = granted x coords ends l k l' call in
@@ -99,33 +96,33 @@ module _ (s : List ℕ) (x : Parameters) (coords : List ℤ) (ends : List ℕ) (
   image_opening : SameOpening s (image_of x coords ends)
   image_opening = same_opening s (image_of x coords ends) records_of ok (header_accepted x coords ends asked_of)
 
-  accepted_image : Accepted s → open_of (image_of x coords ends) ≡ O.Site (header_of (image_of x coords ends))
+  accepted_image : Accepted s → open_of (image_of x coords ends) ≡ Ok (header_of (image_of x coords ends))
   accepted_image good = go image_opening
     where
-      go : SameOpening s (image_of x coords ends) → open_of (image_of x coords ends) ≡ O.Site (header_of (image_of x coords ends))
+      go : SameOpening s (image_of x coords ends) → open_of (image_of x coords ends) ≡ Ok (header_of (image_of x coords ends))
       go (inl (_, again)) = again
       go (inr (p, _, _, here, _)) = no_site (sym (opened s good) ∙ here)
 
-  module _ (l : List ℕ) (r : Encoded) (l' : List ℕ) (call : WriteCall x coords ends l r l') where
-    answered : (o : Opened) → open_of (image_of x coords ends) ≡ o → r ≡ by_answer o (ask_buffer (length l)) E.Refused
+  module _ (l : List ℕ) (r : Result ℕ Refusal) (l' : List ℕ) (call : WriteCall x coords ends l r l') where
+    answered : (o : Result Header Refusal) → open_of (image_of x coords ends) ≡ o → r ≡ by_answer o (ask_buffer (length l)) Err
     answered o e = answer_by x coords ends l r l' call asked_of o e
 
-    writer_too : (q : Refusal) → SameOpening s (image_of x coords ends) → open_of s ≡ O.Refused q
-        → (r ≡ E.Refused q) × (7 ≤ q.number) × (q.number ≤ 10)
+    writer_too : (q : Refusal) → SameOpening s (image_of x coords ends) → open_of s ≡ Err q
+        → (r ≡ Err q) × (7 ≤ q.number) × (q.number ≤ 10)
     writer_too q (inl (site, _)) e = no_site (sym site ∙ e)
     writer_too q (inr (p, from, to, here, again)) e =
         let same : p ≡ q = same_refusal (sym here ∙ e) in
         let number : p.number ≡ q.number = ap (λ (y : Refusal). y.number) same in
-        (answered _ again ∙ ap E.Refused same, omega arith, omega arith)
+        (answered _ again ∙ ap Err same, omega arith, omega arith)
 
-    image_too : (q : Refusal) → SameOpening s (image_of x coords ends) → r ≡ E.Refused q → (open_of s ≡ O.Refused q) ⊎ (q.number ≡ 20)
+    image_too : (q : Refusal) → SameOpening s (image_of x coords ends) → r ≡ Err q → (open_of s ≡ Err q) ⊎ (q.number ≡ 20)
     image_too q (inl (_, again)) e = inr (only_20 q (leb _ (length l)) _ (sym e ∙ answered _ again))
-    image_too q (inr (p, _, _, here, again)) e = inl (here ∙ ap O.Refused (same_no (sym (answered _ again) ∙ e)))
+    image_too q (inr (p, _, _, here, again)) e = inl (here ∙ ap Err (same_no (sym (answered _ again) ∙ e)))
 
-    written_again : Accepted s → (header_for x).len ≤ length l → (r ≡ E.Length (header_for x).len) × SameOutcome s (take (header_for x).len l')
+    written_again : Accepted s → (header_for x).len ≤ length l → (r ≡ Ok (header_for x).len) × SameOutcome s (take (header_for x).len l')
     written_again good room =
         let image : List ℕ = image_of x coords ends in
-        let again : open_of image ≡ O.Site (header_of image) = accepted_image good in
+        let again : open_of image ≡ Ok (header_of image) = accepted_image good in
         let outcome : SameOutcome s image = same_outcome s image records_of good (accepted image (header_of image) again).0 in
         let w = written x coords ends asked_of again l r l' room call in
         (w.0, subst (SameOutcome s) (sym w.1) outcome)

@@ -3,6 +3,7 @@
 --
 --     network_is, tally_is, reach_is, text_is     the network, the tally and the reach of a list, and the report's text
 --     same_outcome                                so every call has the same outcome (specs/RoundTrips)
+use Rattle.std.specs.Prelude.{Err, None, Ok, Option, Some}
 use Prim.Native.Nat.{ℕ, zero, suc}
 use mathlib.Core.Path.{◌≡◌, refl, sym, ap, ap₂, ◌∙◌}
 use mathlib.Core.Bool.{◌&&◌, cond}
@@ -19,8 +20,6 @@ use Rattle.image.specs.Questions.{when_opened, Accepted}
 use Rattle.image.specs.declared.Header.{Header}
 use Rattle.image.specs.declared.Refusal.{Refusal}
 use Rattle.near.specs.Near.{proximity_of, proximity, is_near, neighbour}
-use Rattle.near.specs.declared.Proximity.{Proximity}
-use Rattle.near.specs.declared.Proximity.TheVariants.{Near, NotNear}
 use Rattle.image.proofs.Acceptance.{when_accepted}
 use Rattle.community.specs.Network.{Network, neighbourhood_size, cores, communities, contains, role}
 use Rattle.community.specs.Scores.{count_pairs, pairs, every_edge, joined_by, joined_pairs, just_one, leaving}
@@ -31,7 +30,6 @@ use Rattle.rows.specs.Rows.{counts_of}
 use Rattle.tables.specs.Plan.{planned, table_after}
 use Rattle.tables.proofs.Answers.{plan_same}
 use Rattle.planner.specs.Plan.{plan_of, starts_after, members_after, standing, known_of}
-use Rattle.planner.specs.declared.Known.TheVariants as K
 use Rattle.planner.proofs.Answers.{known_same}
 use Rattle.scores.specs.Scored.{tally_of, scores_for, ask_entries, tallied_of, scored_for, scored_of}
 use Rattle.scores.specs.declared.Tally.{Tally}
@@ -66,9 +64,9 @@ module _ (s t : List ℕ) (same : SameRecords s t) where
   proximity_is : (u v : ℕ) → proximity s u v ≡ proximity t u v
   unfolding proximity adjacent
   proximity_is u v = λ i.
-      cond (eqb u v) (Near 0)
+      cond (eqb u v) (Some 0)
       (cond (any (same.parameters i).m (joins (same.edges i) u v))
-      (proximity_of (handset_record (same.handsets i) u) (handset_record (same.handsets i) v) (same.parameters i).limit) NotNear)
+      (proximity_of (handset_record (same.handsets i) u) (handset_record (same.handsets i) v) (same.parameters i).limit) None)
 
   network_is : network s ≡ network t
   unfolding neighbour mu
@@ -93,14 +91,14 @@ module _ (s t : List ℕ) (same : SameRecords s t) where
   unfolding reach inside
   reach_is l = λ i.
       farthest (same.parameters i).m
-      (λ k. cond (contains (end_a (same.edges i) k) l && contains (end_b (same.edges i) k) l) (proximity_is (end_a (same.edges i) k) (end_b (same.edges i) k) i) NotNear)
+      (λ k. cond (contains (end_a (same.edges i) k) l && contains (end_b (same.edges i) k) l) (proximity_is (end_a (same.edges i) k) (end_b (same.edges i) k) i) None)
 
   lines_are : (gs : List (List ℕ)) (k : ℕ) → group_lines s gs k ≡ group_lines t gs k
   unfolding group_lines
   lines_are gs zero = refl
   lines_are gs (suc k) =
       ap₂ (λ (lines line : List ℕ). lines ++ line) (lines_are gs k)
-      (ap₂ (λ (c : Tally) (r : Proximity). group_line k (scores_for c) r (get_or gs k [])) (tally_is (get_or gs k [])) (reach_is (get_or gs k [])))
+      (ap₂ (λ (c : Tally) (r : Option ℕ). group_line k (scores_for c) r (get_or gs k [])) (tally_is (get_or gs k [])) (reach_is (get_or gs k [])))
 
   text_is : report_text s ≡ report_text t
   unfolding report_text report_with
@@ -135,7 +133,7 @@ module _ (s t : List ℕ) (same : SameRecords s t) (ok : Accepted s) (fine : Acc
   unfolding known_of standing
   known_is v =
       by_header _ _ _
-      (ap (λ (g : Network). cond (ltb v g.n) (K.Handset (record { neighbours = neighbourhood_size g v; role = role g v })) (K.Refused (refusal 13)))
+      (ap (λ (g : Network). cond (ltb v g.n) (Ok (record { neighbours = neighbourhood_size g v; role = role g v })) (Err (refusal 13)))
       (network_is s t same))
 
   tallied_is : (l : List ℕ) → tallied_of s l ≡ tallied_of t l

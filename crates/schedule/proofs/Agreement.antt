@@ -4,6 +4,7 @@
 --     workday, restday                the plan for a time
 --     in_workday, in_restday          the companion's answer in each plan, from the lookup's
 --     agreement                       the call and its companion agree
+use Rattle.std.specs.Prelude.{Err, Ok, Result}
 use Prim.Native.Nat.{ℕ}
 use native.Mathlib.Omega.{arith}
 use mathlib.Core.Path.{◌≡◌, refl, ap, ◌∙◌}
@@ -16,8 +17,6 @@ use Rattle.sets.proofs.Tests.{T_true, T_false}
 use Rattle.image.specs.Answers.{refusal}
 use Rattle.image.specs.declared.Refusal.{Refusal}
 use Rattle.lookup.specs.Lookup.{members_of, looked_of}
-use Rattle.lookup.specs.declared.Looked.{Looked}
-use Rattle.lookup.specs.declared.Looked.TheVariants as L
 use Rattle.lookup.proofs.Agreement as lookup
 use Rattle.schedule.specs.declared.Time.{Time}
 use Rattle.schedule.specs.declared.Window.{Window}
@@ -49,29 +48,29 @@ module _ (t : Time) (w : Window) where
   restday e = simp e
 
 -- the answer in the chosen plan, from what its companion answered
-pub in_workday : {c : Choice} {l a : Looked} (b : Looked) → c ≡ C.Workday → l ≡ a → in_plan S.Workday l ≡ scheduled_of c a b
+pub in_workday : {c : Choice} {l a : Result ℕ Refusal} (b : Result ℕ Refusal) → c ≡ C.Workday → l ≡ a → in_plan S.Workday l ≡ scheduled_of c a b
 unfolding scheduled_of
 in_workday b e f = rw (e, f)
 
-pub in_restday : {c : Choice} {l b : Looked} (a : Looked) → c ≡ C.Restday → l ≡ b → in_plan S.Restday l ≡ scheduled_of c a b
+pub in_restday : {c : Choice} {l b : Result ℕ Refusal} (a : Result ℕ Refusal) → c ≡ C.Restday → l ≡ b → in_plan S.Restday l ≡ scheduled_of c a b
 unfolding scheduled_of
 in_restday a e f = rw (e, f)
 
 -- the companion's answer without the plan's name
-unnamed : Scheduled → Looked
-unnamed (S.Workday n) = L.Found n
-unnamed (S.Restday n) = L.Found n
-unnamed (S.Refused r) = L.Refused r
+unnamed : Scheduled → Result ℕ Refusal
+unnamed (S.Workday n) = Ok n
+unnamed (S.Restday n) = Ok n
+unnamed (S.Refused r) = Err r
 
-workday_unnamed : (l : Looked) → l ≡ unnamed (in_plan S.Workday l)
+workday_unnamed : (l : Result ℕ Refusal) → l ≡ unnamed (in_plan S.Workday l)
 unfolding unnamed
-workday_unnamed (L.Found n) = refl
-workday_unnamed (L.Refused r) = refl
+workday_unnamed (Ok n) = refl
+workday_unnamed (Err r) = refl
 
-restday_unnamed : (l : Looked) → l ≡ unnamed (in_plan S.Restday l)
+restday_unnamed : (l : Result ℕ Refusal) → l ≡ unnamed (in_plan S.Restday l)
 unfolding unnamed
-restday_unnamed (L.Found n) = refl
-restday_unnamed (L.Refused r) = refl
+restday_unnamed (Ok n) = refl
+restday_unnamed (Err r) = refl
 
 -- which table an answer names, 0 for none
 table : Scheduled → ℕ
@@ -79,15 +78,15 @@ table (S.Workday n) = 1
 table (S.Restday n) = 2
 table (S.Refused r) = 0
 
-in_first : (l : Looked) → table (in_plan S.Workday l) ≡ 2 → ⊥
+in_first : (l : Result ℕ Refusal) → table (in_plan S.Workday l) ≡ 2 → ⊥
 unfolding table
-in_first (L.Found n) e = omega arith
-in_first (L.Refused r) e = omega arith
+in_first (Ok n) e = omega arith
+in_first (Err r) e = omega arith
 
-in_second : (l : Looked) → table (in_plan S.Restday l) ≡ 1 → ⊥
+in_second : (l : Result ℕ Refusal) → table (in_plan S.Restday l) ≡ 1 → ⊥
 unfolding table
-in_second (L.Found n) e = omega arith
-in_second (L.Refused r) e = omega arith
+in_second (Ok n) e = omega arith
+in_second (Err r) e = omega arith
 
 module _ (k : ℕ) (starts members starts' members' : List ℕ) where
   abbrev pub part : Choice → List ℕ

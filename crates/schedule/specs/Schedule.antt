@@ -15,13 +15,11 @@
 --     Agreement             the theorem: what the two calls answer, by their contracts, agrees (proved in proofs/Agreement)
 --
 -- The dates are those of dates/specs/Dates, the lookup in one plan and its question 14 those of lookup/specs/Lookup.
-use Rattle.std.specs.Prelude.{ℕ, ◌≡◌, Bool, ◌&&◌, cond, List, [], ◌⊎◌, T, leb, ltb, length}
+use Rattle.std.specs.Prelude.{ℕ, ◌≡◌, Bool, ◌&&◌, cond, List, [], ◌⊎◌, T, leb, ltb, length, Err, Ok, Result}
 use Rattle.image.specs.Answers.{refusal}
 use Rattle.image.specs.declared.Refusal.{Refusal}
 use Rattle.dates.specs.Dates.{date_exists, weekday_of}
 use Rattle.lookup.specs.Lookup.{members_of, looked_of}
-use Rattle.lookup.specs.declared.Looked.{Looked}
-use Rattle.lookup.specs.declared.Looked.TheVariants as L
 use Rattle.schedule.specs.declared.Time.{Time}
 use Rattle.schedule.specs.declared.Window.{Window}
 use Rattle.schedule.specs.declared.Choice.{Choice}
@@ -63,12 +61,12 @@ part_of C.Workday a b = a
 part_of C.Restday a b = b
 part_of (C.Neither r) a b = []
 
-abbrev pub in_plan : (ℕ → Scheduled) → Looked → Scheduled
-in_plan plan (L.Found n) = plan n
-in_plan plan (L.Refused r) = S.Refused r
+abbrev pub in_plan : (ℕ → Scheduled) → Result ℕ Refusal → Scheduled
+in_plan plan (Ok n) = plan n
+in_plan plan (Err r) = S.Refused r
 
 -- a is the companion's answer in the first plan, b that in the second
-unfoldable pub scheduled_of : Choice → Looked → Looked → Scheduled
+unfoldable pub scheduled_of : Choice → Result ℕ Refusal → Result ℕ Refusal → Scheduled
 scheduled_of C.Workday a b = in_plan S.Workday a
 scheduled_of C.Restday a b = in_plan S.Restday b
 scheduled_of (C.Neither r) a b = S.Refused r

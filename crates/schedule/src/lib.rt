@@ -10,7 +10,6 @@ ghost use Rattle.schedule.specs.Schedule.{minutes_fit, is_working, choice_of, pa
 ghost use Rattle.schedule.specs.Answers.{scheduled_answer};
 
 use image::Refusal;
-use lookup::Looked;
 
 // The minutes of a day.
 const DAY_MINUTES: u32 = 1440;
@@ -123,15 +122,15 @@ pub fn find_group_at(
         Choice::Workday => {
             let looked = lookup::find_group(workday_starts, workday_members, k);
             match looked {
-                Looked::Found(count) => Scheduled::Workday(count),
-                Looked::Refused(r) => Scheduled::Refused(r),
+                Ok(count) => Scheduled::Workday(count),
+                Err(r) => Scheduled::Refused(r),
             }
         }
         Choice::Restday => {
             let looked = lookup::find_group(restday_starts, restday_members, k);
             match looked {
-                Looked::Found(count) => Scheduled::Restday(count),
-                Looked::Refused(r) => Scheduled::Refused(r),
+                Ok(count) => Scheduled::Restday(count),
+                Err(r) => Scheduled::Refused(r),
             }
         }
         Choice::Neither(r) => Scheduled::Refused(r),

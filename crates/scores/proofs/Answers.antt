@@ -1,6 +1,7 @@
 -- Two answers with the same number, place and values are the same answer: a refusal has no values, and a tally or two scores are made of theirs.
 --
 --     tally_same, scored_same     the answer is the one with the same number, place and values
+use Rattle.std.specs.Prelude.{Err, Ok, Result}
 use Prim.Native.Nat.{ℕ}
 use mathlib.Core.Path.{◌≡◌, refl, sym, ap, ◌∙◌}
 use mathlib.Core.Bool.{cond}
@@ -12,22 +13,18 @@ use Rattle.image.specs.declared.Refusal.{Refusal}
 use Rattle.image.proofs.Answers.{given_refused, refused_same}
 use Rattle.scores.specs.Answers.{tally_answer, score_values, score_answer, OneAnswer}
 use Rattle.scores.specs.declared.Tally.{Tally}
-use Rattle.scores.specs.declared.Tallied.{Tallied}
-use Rattle.scores.specs.declared.Tallied.TheVariants as T
 use Rattle.scores.specs.declared.Score.{Score}
 use Rattle.scores.specs.declared.Score.TheVariants.{Ratio, Nothing}
 use Rattle.scores.specs.declared.Scores.{Scores}
-use Rattle.scores.specs.declared.Scored.{Scored}
-use Rattle.scores.specs.declared.Scored.TheVariants as S
 
-pub tally_same : (a b : Tallied) → tally_answer a ≡ tally_answer b → a ≡ b
-tally_same (T.Of t) (T.Of u) e = ap T.Of (ap make (ap (λ (a : Answer). a.values) e))
+pub tally_same : (a b : Result Tally Refusal) → tally_answer a ≡ tally_answer b → a ≡ b
+tally_same (Ok t) (Ok u) e = ap Ok (ap make (ap (λ (a : Answer). a.values) e))
   where
     make : List ℕ → Tally
     make l = record { pairs = get_or l 0 0; joined = get_or l 1 0; leaving = get_or l 2 0 }
-tally_same (T.Of t) (T.Refused r) e = given_refused _ _ r e
-tally_same (T.Refused r) (T.Of t) e = given_refused _ _ r (sym e)
-tally_same (T.Refused r) (T.Refused q) e = ap T.Refused (refused_same r q e)
+tally_same (Ok t) (Err r) e = given_refused _ _ r e
+tally_same (Err r) (Ok t) e = given_refused _ _ r (sym e)
+tally_same (Err r) (Err q) e = ap Err (refused_same r q e)
 
 -- the score that a list of values starts with, and the values behind it
 abbrev first_score : List ℕ → Score
@@ -49,12 +46,12 @@ scores_refused : {A : Type 0} (d c : Score) (r : Refusal) → given (score_value
 scores_refused (Ratio a b) c r e = given_refused _ _ r e
 scores_refused Nothing c r e = given_refused _ _ r e
 
-pub scored_same : (a b : Scored) → score_answer a ≡ score_answer b → a ≡ b
-scored_same (S.Of x) (S.Of y) e =
-    ap S.Of (sym (scores_in_lem x.density x.conductance) ∙ ap (λ (a : Answer). scores_in a.values) e ∙ scores_in_lem y.density y.conductance)
-scored_same (S.Of x) (S.Refused r) e = scores_refused x.density x.conductance r e
-scored_same (S.Refused r) (S.Of x) e = scores_refused x.density x.conductance r (sym e)
-scored_same (S.Refused r) (S.Refused q) e = ap S.Refused (refused_same r q e)
+pub scored_same : (a b : Result Scores Refusal) → score_answer a ≡ score_answer b → a ≡ b
+scored_same (Ok x) (Ok y) e =
+    ap Ok (sym (scores_in_lem x.density x.conductance) ∙ ap (λ (a : Answer). scores_in a.values) e ∙ scores_in_lem y.density y.conductance)
+scored_same (Ok x) (Err r) e = scores_refused x.density x.conductance r e
+scored_same (Err r) (Ok x) e = scores_refused x.density x.conductance r (sym e)
+scored_same (Err r) (Err q) e = ap Err (refused_same r q e)
 
 pub one_answer : OneAnswer
 one_answer = record { tally = tally_same; scored = scored_same }

@@ -8,6 +8,7 @@
 --     ties_of, leaves      what one edge adds to t, and whether it adds to o, by a table; ties_le: at most 512 * 512
 --     joined_none, leaving_none, joined_more, leaving_more     no edge, and one more; joined_le, leaving_le: how much the first edges make
 --     table_tally         the counts by a table of multiplicities are the tally over the edges
+use Rattle.std.specs.Prelude.{Err, Ok}
 use Prim.Native.Nat.{ℕ, zero, suc, ◌+◌, ◌*◌, ◌≤◌, ◌<◌}
 use native.Mathlib.Omega.{arith}
 use native.Mathlib.Numerals.{add-one}
@@ -32,7 +33,6 @@ use Rattle.community.proofs.Multiplicities.{multiplicity_contains}
 use Rattle.scores.specs.Scored.{bad_entry, ask_entries}
 use Rattle.scores.specs.ForProofs.{tally_at, GoodEntries, Multiplicities, joined_sum, leaving_sum}
 use Rattle.scores.specs.declared.Tally.{Tally}
-use Rattle.scores.specs.declared.Tallied.TheVariants as T
 
 some_bad : (n : ℕ) (l : List ℕ) (i : ℕ) → (n ≤ get_or l i 0) ⊎ (512 ≤ i) → T (bad_entry n l i)
 unfolding bad_entry
@@ -70,7 +70,7 @@ table_le l table a m v = omega (arith, m.held v, multiplicity_le l v, a.short)
 -- ---- question 13, by the place where the scan of the entries stopped
 
 module _ (n : ℕ) (l : List ℕ) (t : Tally) (r : ℕ) (e : r ≡ find (length l) (bad_entry n l)) where
-  pub entries_no : r < length l → T.Refused (record { number = 13; place = r }) ≡ ask_entries n l t
+  pub entries_no : r < length l → Err (record { number = 13; place = r }) ≡ ask_entries n l t
   unfolding ask_entries
   entries_no h =
       ⊎_elim (λ y. rw (T_true (any (length l) (bad_entry n l)) y, ← e)) (λ z. absurd (omega (arith, find_none (length l) (bad_entry n l) z)))
@@ -81,7 +81,7 @@ module _ (n : ℕ) (l : List ℕ) (t : Tally) (r : ℕ) (e : r ≡ find (length 
       ⊎_elim (λ y. absurd (omega (arith, (find_law (length l) (bad_entry n l) y).0))) (λ z. z)
       (decide (any (length l) (bad_entry n l)))
 
-  pub entries_yes : length l ≤ r → T.Of t ≡ ask_entries n l t
+  pub entries_yes : length l ≤ r → Ok t ≡ ask_entries n l t
   unfolding ask_entries
   entries_yes h = rw (T_false (any (length l) (bad_entry n l)) (none_bad h))
 
@@ -91,7 +91,7 @@ unfolding bad_entry
 good_entry n l i a b t =
     ⊎_elim (λ x. omega (arith, leb→le n (get_or l i 0) x)) (λ x. omega (arith, leb→le 512 i x)) (or_cases (leb n (get_or l i 0)) (leb 512 i) t)
 
-pub entries_good : (n : ℕ) (l : List ℕ) (t : Tally) → length l ≤ 512 → ((i : ℕ) → i < length l → get_or l i 0 < n) → ask_entries n l t ≡ T.Of t
+pub entries_good : (n : ℕ) (l : List ℕ) (t : Tally) → length l ≤ 512 → ((i : ℕ) → i < length l → get_or l i 0 < n) → ask_entries n l t ≡ Ok t
 unfolding ask_entries
 entries_good n l t a b =
     rw (T_false (any (length l) (bad_entry n l)) (none_any (length l) (bad_entry n l) (λ i h. not_T (bad_entry n l i) (good_entry n l i (omega arith) (b i h)))))

@@ -11,6 +11,7 @@
 --     site_fits          the bounds of an opened image: its edge records stand in it, at most 4,096, for at most 512 handsets
 --     site_tallied       question 13 and the tally over the edge records of an opened image are the call's answer for it
 --     site_refused       the call's answer for a refused image is its refusal
+use Rattle.std.specs.Prelude.{Err, Ok}
 use Prim.Native.Nat.{ℕ, ◌+◌, ◌*◌, ◌≤◌, ◌<◌}
 use mathlib.Core.Path.{◌≡◌, refl, sym, ap, ap₂, ◌∙◌, subst}
 use mathlib.Core.Bool.{Bool, true, false, ◌&&◌, cond}
@@ -27,7 +28,6 @@ use Rattle.image.specs.Image.{handset_count, edge_count, edge_records, end_a, en
 use Rattle.image.specs.Questions.{is_loop, repeats_earlier, open_of, Accepted}
 use Rattle.image.specs.declared.Header.{Header}
 use Rattle.image.specs.declared.Refusal.{Refusal}
-use Rattle.image.specs.declared.Opened.TheVariants as O
 use Rattle.image.proofs.Acceptance.{accepted, Fits, accepted_fits, edges_fit, when_accepted, when_refused}
 use Rattle.image.proofs.Records.{edge_slice, edge_slice_is}
 use Rattle.community.specs.Network.{contains}
@@ -36,8 +36,6 @@ use Rattle.community.proofs.Multiplicities.{Apart, multiplicity_once}
 use Rattle.community.proofs.Edges.{joins_make, joins_take, pair_sym, pair_trans}
 use Rattle.scores.specs.Scored.{tally_by, tally_of, ask_entries, tallied_of, scores_for, scored_for, scored_of}
 use Rattle.scores.specs.ForProofs.{tally_at}
-use Rattle.scores.specs.declared.Tallied.TheVariants as T
-use Rattle.scores.specs.declared.Scored.TheVariants as S
 use Rattle.scores.proofs.Pairing.{pairs_product}
 use Rattle.scores.proofs.Entries.{entries_good}
 
@@ -133,15 +131,15 @@ module _ (s : List ℕ) (a : Accepted s) where
 
 -- a list of at most 512 handsets
 module _ (s : List ℕ) (a : Accepted s) (l : List ℕ) (few : length l ≤ 512) (below : (i : ℕ) → i < length l → get_or l i 0 < handset_count s) where
-  pub good_tallied : tallied_of s l ≡ T.Of (tally_of s l)
+  pub good_tallied : tallied_of s l ≡ Ok (tally_of s l)
   unfolding tallied_of
   good_tallied = when_accepted s _ _ a ∙ entries_good (handset_count s) l (tally_of s l) few below
 
-  pub good_scored : scored_of s l ≡ S.Of (scores_for (tally_of s l))
+  pub good_scored : scored_of s l ≡ Ok (scores_for (tally_of s l))
   unfolding scored_of
   good_scored = ap scored_for good_tallied
 
-module _ (s : List ℕ) (h : Header) (e : open_of s ≡ O.Site h) where
+module _ (s : List ℕ) (h : Header) (e : open_of s ≡ Ok h) where
   pub site_fits : (h.edges + edge_bytes * h.m ≤ length s) × (h.m ≤ edges_most) × (h.n ≤ handsets_most)
   site_fits =
       let r = accepted s h e in
@@ -157,6 +155,6 @@ module _ (s : List ℕ) (h : Header) (e : open_of s ≡ O.Site h) where
       ∙ ap (ask_entries (handset_count s) l) (tally_is s r.0 every_edge l)
       ∙ sym (when_accepted s _ _ r.0)
 
-pub site_refused : (s : List ℕ) (r : Refusal) (l : List ℕ) → open_of s ≡ O.Refused r → tallied_of s l ≡ T.Refused r
+pub site_refused : (s : List ℕ) (r : Refusal) (l : List ℕ) → open_of s ≡ Err r → tallied_of s l ≡ Err r
 unfolding tallied_of
 site_refused s r l e = when_refused s _ _ r e

@@ -5,26 +5,25 @@
 --     score_values x     a score: 1, its dividend and its divisor; 0 where there is none
 --     score_answer x     the density, then the conductance, or the refusal
 --     OneAnswer         the theorem: the number, place and values leave nothing of an answer free (proved in proofs/Answers)
-use Rattle.std.specs.Prelude.{ℕ, List, [], ◌∷◌, ◌++◌}
+use Rattle.std.specs.Prelude.{ℕ, List, [], ◌∷◌, ◌++◌, Err, Ok, Result}
 use Rattle.image.specs.Answers.{Answer, refused, given, Injective}
-use Rattle.scores.specs.declared.Tallied.{Tallied}
-use Rattle.scores.specs.declared.Tallied.TheVariants as T
 use Rattle.scores.specs.declared.Score.{Score}
+use Rattle.image.specs.declared.Refusal.{Refusal}
+use Rattle.scores.specs.declared.Scores.{Scores}
+use Rattle.scores.specs.declared.Tally.{Tally}
 use Rattle.scores.specs.declared.Score.TheVariants.{Ratio, Nothing}
-use Rattle.scores.specs.declared.Scored.{Scored}
-use Rattle.scores.specs.declared.Scored.TheVariants as S
 
-abbrev pub tally_answer : Tallied → Answer
-tally_answer (T.Of t) = given (t.pairs ∷ t.joined ∷ t.leaving ∷ [])
-tally_answer (T.Refused r) = refused r
+abbrev pub tally_answer : Result Tally Refusal → Answer
+tally_answer (Ok t) = given (t.pairs ∷ t.joined ∷ t.leaving ∷ [])
+tally_answer (Err r) = refused r
 
 abbrev pub score_values : Score → List ℕ
 score_values (Ratio a b) = 1 ∷ a ∷ b ∷ []
 score_values Nothing = 0 ∷ []
 
-abbrev pub score_answer : Scored → Answer
-score_answer (S.Of x) = given (score_values x.density ++ score_values x.conductance)
-score_answer (S.Refused r) = refused r
+abbrev pub score_answer : Result Scores Refusal → Answer
+score_answer (Ok x) = given (score_values x.density ++ score_values x.conductance)
+score_answer (Err r) = refused r
 
 pub record OneAnswer : Type 0 where
   pub tally : Injective tally_answer

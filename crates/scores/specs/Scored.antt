@@ -9,18 +9,15 @@
 --     scored_of s l           the same with the scores for the tally
 --
 -- The laws are in proofs/Tallying.
-use Rattle.std.specs.Prelude.{ℕ, ◌+◌, ◌*◌, ◌-◌, Bool, true, ◌||◌, cond, List, leb, eqb, length, get_or}
+use Rattle.std.specs.Prelude.{ℕ, ◌+◌, ◌*◌, ◌-◌, Bool, true, ◌||◌, cond, List, leb, eqb, length, get_or, Err, Ok, Result}
 use Rattle.sets.specs.Below.{any, find}
 use Rattle.image.specs.Questions.{open_of, when_opened}
 use Rattle.community.specs.Scores.{count_pairs, pairs, every_edge, joined_pairs, leaving}
 use Rattle.scores.specs.declared.Tally.{Tally}
-use Rattle.scores.specs.declared.Tallied.{Tallied}
-use Rattle.scores.specs.declared.Tallied.TheVariants as T
 use Rattle.scores.specs.declared.Score.{Score}
 use Rattle.scores.specs.declared.Score.TheVariants.{Ratio, Nothing}
+use Rattle.image.specs.declared.Refusal.{Refusal}
 use Rattle.scores.specs.declared.Scores.{Scores}
-use Rattle.scores.specs.declared.Scored.{Scored}
-use Rattle.scores.specs.declared.Scored.TheVariants as S
 
 abbrev pub pairs_of : ℕ → ℕ
 pairs_of n = count_pairs n (λ i j. true)
@@ -46,18 +43,18 @@ unfoldable pub bad_entry : ℕ → List ℕ → ℕ → Bool
 bad_entry n l i = leb n (get_or l i 0) || leb 512 i
 
 -- question 13: a no is the refusal with the first bad entry's index
-unfoldable pub ask_entries : ℕ → List ℕ → Tally → Tallied
+unfoldable pub ask_entries : ℕ → List ℕ → Tally → Result Tally Refusal
 unfolding any find bad_entry
-ask_entries n l t = cond (any (length l) (bad_entry n l)) (T.Refused (record { number = 13; place = find (length l) (bad_entry n l) })) (T.Of t)
+ask_entries n l t = cond (any (length l) (bad_entry n l)) (Err (record { number = 13; place = find (length l) (bad_entry n l) })) (Ok t)
 
-unfoldable pub tallied_of : List ℕ → List ℕ → Tallied
+unfoldable pub tallied_of : List ℕ → List ℕ → Result Tally Refusal
 unfolding open_of ask_entries tally_of
-tallied_of s l = when_opened s (λ h. ask_entries h.n l (tally_of s l)) T.Refused
+tallied_of s l = when_opened s (λ h. ask_entries h.n l (tally_of s l)) Err
 
-abbrev pub scored_for : Tallied → Scored
-scored_for (T.Of t) = S.Of (scores_for t)
-scored_for (T.Refused r) = S.Refused r
+abbrev pub scored_for : Result Tally Refusal → Result Scores Refusal
+scored_for (Ok t) = Ok (scores_for t)
+scored_for (Err r) = Err r
 
-unfoldable pub scored_of : List ℕ → List ℕ → Scored
+unfoldable pub scored_of : List ℕ → List ℕ → Result Scores Refusal
 unfolding tallied_of scores_for
 scored_of s l = scored_for (tallied_of s l)

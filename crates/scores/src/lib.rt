@@ -13,7 +13,7 @@ ghost use Rattle.scores.specs.Scored.{pairs_of, bad_entry, score, scores_for, ta
 ghost use Rattle.scores.specs.Answers.{tally_answer, score_answer};
 ghost use Rattle.scores.specs.ForProofs.{tally_at, GoodEntries, joined_sum, leaving_sum};
 
-use image::{Opened, Refusal};
+use image::Refusal;
 
 // A quotient that is not reduced, or no score where its divisor is 0.
 #[derive(Clone, Copy)]
@@ -28,26 +28,12 @@ pub struct Scores {
     pub conductance: Score,
 }
 
-// What a call for the scores answers.
-#[derive(Clone, Copy)]
-pub enum Scored {
-    Of(Scores),
-    Refused(Refusal),
-}
-
 // s, t and o of a list: all pairs of places, those whose handsets are adjacent, and the edges with just one end in the list.
 #[derive(Clone, Copy)]
 pub struct Tally {
     pub pairs: u32,
     pub joined: u32,
     pub leaving: u32,
-}
-
-// What a call for the tally answers.
-#[derive(Clone, Copy)]
-pub enum Tallied {
-    Of(Tally),
-    Refused(Refusal),
 }
 
 // Question 13 for one entry: it is not below n, or stands at index 512 or later.
@@ -129,16 +115,16 @@ fn tally_listed(edges: &[u8], m: usize, list: &[u16]) -> Tally
 }
 
 // The tally of a list of handsets of an image: the image's refusal, 13 with the first bad entry's index, or s, t and o.
-pub fn tally_list(image: &[u8], list: &[u16]) -> Tallied
+pub fn tally_list(image: &[u8], list: &[u16]) -> Result<Tally, Refusal>
     ensures { tally_answer result ≡ tally_answer (tallied_of image.now list.now) }
 {
     let opened = image::open(image);
-    let Opened::Site(h) = opened else {
-        return Tallied::Refused(refusals::refusal_of(opened));
+    let Ok(h) = opened else {
+        return Err(refusals::refusal_of(opened));
     };
     let bad = first_bad_entry(h.n as usize, list);
     if bad < list.len() {
-        return Tallied::Refused(Refusal {
+        return Err(Refusal {
             number: 13,
             place: bad,
         });
@@ -146,7 +132,7 @@ pub fn tally_list(image: &[u8], list: &[u16]) -> Tallied
     let m = h.m as usize;
     let first = h.edges as usize;
     let past = first + fields::EDGE_BYTES * m;
-    Tallied::Of(tally_listed(&image[first..past], m, list))
+    Ok(tally_listed(&image[first..past], m, list))
 }
 
 // A quotient, or no score where the divisor is 0.
@@ -181,12 +167,12 @@ pub fn scores_of(t: Tally) -> Scores
 }
 
 // The scores of a list of handsets of an image: the image's refusal, 13 with the first bad entry's index, or density and conductance.
-pub fn score_list(image: &[u8], list: &[u16]) -> Scored
+pub fn score_list(image: &[u8], list: &[u16]) -> Result<Scores, Refusal>
     ensures { score_answer result ≡ score_answer (scored_of image.now list.now) }
 {
     let tallied = tally_list(image, list);
     match tallied {
-        Tallied::Of(t) => Scored::Of(scores_of(t)),
-        Tallied::Refused(r) => Scored::Refused(r),
+        Ok(t) => Ok(scores_of(t)),
+        Err(r) => Err(r),
     }
 }

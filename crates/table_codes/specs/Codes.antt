@@ -6,24 +6,21 @@
 --     encoded_code e     an image that was written: its length
 --
 -- Where a number might be larger than its share of the code, it is cut off at the end of that share. No call's answer is that large: divanegret/specs/Lossless.
-use Rattle.std.specs.Prelude.{◌+◌, ◌*◌, min, ℤ, pos}
+use Rattle.std.specs.Prelude.{◌+◌, ◌*◌, min, ℤ, pos, Err, Ok, Result}
 use Rattle.refusals.specs.Refusals.{refusal_code}
-use Rattle.lookup.specs.declared.Looked.{Looked}
-use Rattle.lookup.specs.declared.Looked.TheVariants as L
 use Rattle.schedule.specs.declared.Scheduled.{Scheduled}
+use Rattle.image.specs.declared.Refusal.{Refusal}
 use Rattle.schedule.specs.declared.Scheduled.TheVariants as S
-use Rattle.writer.specs.declared.Encoded.{Encoded}
-use Rattle.writer.specs.declared.Encoded.TheVariants as E
 
-abbrev pub looked_code : Looked → ℤ
-looked_code (L.Found n) = pos (min n 9223372036854775807)
-looked_code (L.Refused r) = refusal_code r
+abbrev pub looked_code : Result ℕ Refusal → ℤ
+looked_code (Ok n) = pos (min n 9223372036854775807)
+looked_code (Err r) = refusal_code r
 
 abbrev pub scheduled_code : Scheduled → ℤ
 scheduled_code (S.Workday n) = pos (2 * min n 4611686018427387903)
 scheduled_code (S.Restday n) = pos (1 + 2 * min n 4611686018427387903)
 scheduled_code (S.Refused r) = refusal_code r
 
-abbrev pub encoded_code : Encoded → ℤ
-encoded_code (E.Length n) = pos (min n 9223372036854775807)
-encoded_code (E.Refused r) = refusal_code r
+abbrev pub encoded_code : Result ℕ Refusal → ℤ
+encoded_code (Ok n) = pos (min n 9223372036854775807)
+encoded_code (Err r) = refusal_code r

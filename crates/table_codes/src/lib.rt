@@ -6,17 +6,16 @@
 ghost use Rattle.std.specs.Prelude.{◌≡◌};
 ghost use Rattle.table_codes.specs.Codes.{looked_code, scheduled_code, encoded_code};
 
-use lookup::Looked;
+use image::Refusal;
 use schedule::Scheduled;
-use writer::Encoded;
 
 // The count of a group's members, or the refusal.
-pub fn looked_code(looked: Looked) -> i64
+pub fn looked_code(looked: Result<usize, Refusal>) -> i64
     ensures { result ≡ looked_code looked }
 {
     match looked {
-        Looked::Found(count) => refusals::at_most(count as u64, 9223372036854775807) as i64,
-        Looked::Refused(r) => refusals::refusal_code(r),
+        Ok(count) => refusals::at_most(count as u64, 9223372036854775807) as i64,
+        Err(r) => refusals::refusal_code(r),
     }
 }
 
@@ -34,11 +33,11 @@ pub fn scheduled_code(scheduled: Scheduled) -> i64
 }
 
 // The image's length, or the refusal.
-pub fn encoded_code(encoded: Encoded) -> i64
+pub fn encoded_code(encoded: Result<usize, Refusal>) -> i64
     ensures { result ≡ encoded_code encoded }
 {
     match encoded {
-        Encoded::Length(len) => refusals::at_most(len as u64, 9223372036854775807) as i64,
-        Encoded::Refused(r) => refusals::refusal_code(r),
+        Ok(len) => refusals::at_most(len as u64, 9223372036854775807) as i64,
+        Err(r) => refusals::refusal_code(r),
     }
 }

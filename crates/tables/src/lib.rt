@@ -17,13 +17,6 @@ use community::Role;
 use image::Refusal;
 use rows::Counts;
 
-// What a call for a plan answers: its counts, or the refusal.
-#[derive(Clone, Copy)]
-pub enum Planned {
-    Made(Counts),
-    Refused(Refusal),
-}
-
 // Writes base + k for each set bit k of the word, ascending, from the place `at` on, and gives the place after them. A zero word writes nothing.
 fn write_word(word: u64, base: usize, members: &mut [u16], at: usize) -> usize
     requires { (base ≤ 448) × (at + length (word_members base word) ≤ length members.old) }
@@ -73,22 +66,27 @@ fn write_tables(rows: &[u64], count: usize, starts: &mut [u32], members: &mut [u
 }
 
 // Questions 11 and 12, of a plan's two counts and the two tables' lengths: the refusal, or the counts.
-fn ask_room(groups: usize, memberships: usize, starts: usize, members: usize) -> Planned
+fn ask_room(
+    groups: usize,
+    memberships: usize,
+    starts: usize,
+    members: usize,
+) -> Result<Counts, Refusal>
     ensures { result ≡ ask_room groups memberships starts members }
 {
     if starts <= groups {
-        return Planned::Refused(Refusal {
+        return Err(Refusal {
             number: 11,
             place: 0,
         });
     }
     if members < memberships {
-        return Planned::Refused(Refusal {
+        return Err(Refusal {
             number: 12,
             place: 0,
         });
     }
-    Planned::Made(Counts {
+    Ok(Counts {
         groups,
         memberships,
     })
@@ -119,7 +117,7 @@ pub fn write_plan(
     count: usize,
     starts: &mut [u32],
     members: &mut [u16],
-) -> Planned
+) -> Result<Counts, Refusal>
     ensures { PlanWritten (rows_of rows.now (min count 512)) starts.old members.old result starts.new members.new }
 {
     let counts = rows::counts_of(rows, count);

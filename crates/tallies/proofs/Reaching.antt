@@ -9,6 +9,7 @@
 --     inside_fits                        when all groups are counted, the ends among a group's members are at least twice the edges inside it
 --     groups_counted, groups_reach       of all
 --     member_listed                      the members of a group, by the list of the rows: what a caller that knows the rows to be communities cites
+use Rattle.std.specs.Prelude.{None, Option, Some}
 use Prim.Native.Nat.{ℕ, zero, suc, ◌+◌, ◌*◌, ◌-◌, ◌≤◌, ◌<◌, min, max}
 use native.Mathlib.Omega.{arith}
 use native.Mathlib.Decide.{ℕ_discrete, dec_lt}
@@ -28,8 +29,6 @@ use Rattle.sets.proofs.Counting.{count_cong, count_false, count_at, count_le}
 use Rattle.limits.specs.Limits.{limit_most}
 use Rattle.image.specs.Image.{end_a, end_b}
 use Rattle.near.specs.Near.{ends_proximity}
-use Rattle.near.specs.declared.Proximity.{Proximity}
-use Rattle.near.specs.declared.Proximity.TheVariants.{Near, NotNear}
 use Rattle.community.specs.Network.{contains}
 use Rattle.community.specs.Reach.{farther, farthest}
 use Rattle.community.specs.Scores.{just_one, every_edge}
@@ -64,13 +63,13 @@ raised_to_done y base x i = ap (λ (b : ℕ). max y (x * b)) (raised_done base i
 
 -- ---- what a table holds of a reach
 
-entry_farther : (a b : Proximity) → reach_entry (farther a b) ≡ max (reach_entry a) (reach_entry b)
+entry_farther : (a b : Option ℕ) → reach_entry (farther a b) ≡ max (reach_entry a) (reach_entry b)
 unfolding farther
-entry_farther (Near d) (Near e) = omega arith
-entry_farther (Near d) NotNear = omega arith
-entry_farther NotNear b = omega arith
+entry_farther (Some d) (Some e) = omega arith
+entry_farther (Some d) None = omega arith
+entry_farther None b = omega arith
 
-entry_share : (b : Bool) (p : Proximity) → reach_entry (cond b p NotNear) ≡ reach_entry p * bit b
+entry_share : (b : Bool) (p : Option ℕ) → reach_entry (cond b p None) ≡ reach_entry p * bit b
 entry_share true p = omega arith
 entry_share false p = omega arith
 
@@ -127,13 +126,13 @@ reaches_more ws handsets records e limit base rs₀ rs rs' c p q held = record {
 }
 
 -- ---- 64 groups more
-entry_highest : (m : ℕ) (b : ℕ → Bool) (p : ℕ → Proximity) → highest m (λ e. reach_entry (p e) * bit (b e)) ≡ reach_entry (farthest m (λ e. cond (b e) (p e) NotNear))
+entry_highest : (m : ℕ) (b : ℕ → Bool) (p : ℕ → Option ℕ) → highest m (λ e. reach_entry (p e) * bit (b e)) ≡ reach_entry (farthest m (λ e. cond (b e) (p e) None))
 unfolding highest farthest
 entry_highest zero b p = refl
 entry_highest (suc m) b p =
-    ap₂ max (entry_highest m b p) (sym (entry_share (b m) (p m))) ∙ sym (entry_farther (farthest m (λ e. cond (b e) (p e) NotNear)) (cond (b m) (p m) NotNear))
+    ap₂ max (entry_highest m b p) (sym (entry_share (b m) (p m))) ∙ sym (entry_farther (farthest m (λ e. cond (b e) (p e) None)) (cond (b m) (p m) None))
 
-reach_step : (first k x y m : ℕ) (w : ℕ → ℕ) (b : ℕ → Bool) (p : ℕ → Proximity) (r : ℕ) → r ≡ reach_entry (farthest m (λ e. cond (b e) (p e) NotNear)) → x ≡ cond (ltb k first) r 0
+reach_step : (first k x y m : ℕ) (w : ℕ → ℕ) (b : ℕ → Bool) (p : ℕ → Option ℕ) (r : ℕ) → r ≡ reach_entry (farthest m (λ e. cond (b e) (p e) None)) → x ≡ cond (ltb k first) r 0
     → y ≡ max x (highest m (λ e. reach_entry (p e) * bit_for first (w e) k)) → ((i : ℕ) → i < 64 → k ≡ first + i → (e : ℕ) → bit_of (w e) i ≡ bit (b e)) → y ≡ cond (ltb k (first + 64)) r 0
 reach_step first k x y m w b p r is held q bits =
     ⊎_elim
@@ -165,7 +164,7 @@ progress_none handsets records m limit rows all = record {
   rs_size = length-replicate {A = ℕ} 512 0;
   joined = λ k h. get_or-replicate 1024 k 0 0 (omega (arith, h)) ∙ sym (ap (λ (b : Bool). cond b (count m (is_inside records rows all k)) 0) (le-ltb k 0 (omega arith)));
   ends = λ k h. get_or-replicate 1024 (512 + k) 0 0 (omega (arith, h)) ∙ sym (ap (λ (b : Bool). cond b (ends_in records rows m all k) 0) (le-ltb k 0 (omega arith)));
-  reaches = λ k h. get_or-replicate 512 k 0 0 h ∙ sym (ap (λ (b : Bool). cond b (reach_entry (farthest m (λ e. cond (is_inside records rows all k e) (ends_proximity handsets (end_a records e) (end_b records e) limit) NotNear))) 0) (le-ltb k 0 (omega arith)));
+  reaches = λ k h. get_or-replicate 512 k 0 0 h ∙ sym (ap (λ (b : Bool). cond b (reach_entry (farthest m (λ e. cond (is_inside records rows all k e) (ends_proximity handsets (end_a records e) (end_b records e) limit) None))) 0) (le-ltb k 0 (omega arith)));
 }
 
 -- nothing is counted yet for the groups from first on
@@ -257,18 +256,18 @@ module _ (handsets records : List ℕ) (m most limit : ℕ) (rows : List ℕ) (g
         ∙ count_cong m (is_leaving records rows all k) (is_leaving records rows groups k) (λ e q. leaving_is k e h) ∙ count_at m (edges_in records) _ edges;
   }
 
-  abbrev share : ℕ → ℕ → Proximity
-  share k e = cond (is_inside records rows all k e) (ends_proximity handsets (end_a records e) (end_b records e) most) NotNear
+  abbrev share : ℕ → ℕ → Option ℕ
+  share k e = cond (is_inside records rows all k e) (ends_proximity handsets (end_a records e) (end_b records e) most) None
 
-  no_reach : (n : ℕ) → farthest n (λ e. NotNear) ≡ NotNear
+  no_reach : (n : ℕ) → farthest n (λ e. None) ≡ None
   unfolding farthest farther
   no_reach zero = refl
-  no_reach (suc n) = ap (λ (x : Proximity). farther x NotNear) (no_reach n)
+  no_reach (suc n) = ap (λ (x : Option ℕ). farther x None) (no_reach n)
 
   reach_none : (k : ℕ) → first ≤ k → reach_entry (farthest m (share k)) ≡ 0
   reach_none k h =
-      ap reach_entry (farthest_cong m (share k) (λ e. NotNear)
-      (λ e q. ap (λ (b : Bool). cond (b && is_member rows all k (end_b records e)) (ends_proximity handsets (end_a records e) (end_b records e) most) NotNear) (none k h (end_a records e))) ∙ no_reach m)
+      ap reach_entry (farthest_cong m (share k) (λ e. None)
+      (λ e q. ap (λ (b : Bool). cond (b && is_member rows all k (end_b records e)) (ends_proximity handsets (end_a records e) (end_b records e) most) None) (none k h (end_a records e))) ∙ no_reach m)
 
   pub groups_reach : GroupsReach handsets records limit rows groups rs
   groups_reach = record {
@@ -276,8 +275,8 @@ module _ (handsets records : List ℕ) (m most limit : ℕ) (rows : List ℕ) (g
     reaches = λ k h.
         p.reaches k h ∙ due k (reach_entry (farthest m (share k))) (reach_none k)
         ∙ ap reach_entry (farthest_cong m (share k) _
-        (λ e q. ap₂ (λ (b : Bool) (x : ℕ). cond b (ends_proximity handsets (end_a records e) (end_b records e) x) NotNear) (inside_is k e h) bounded)
-        ∙ ap (λ (n : ℕ). farthest n (λ e. cond (is_inside records rows groups k e) (ends_proximity handsets (end_a records e) (end_b records e) (min limit limit_most)) NotNear)) edges);
+        (λ e q. ap₂ (λ (b : Bool) (x : ℕ). cond b (ends_proximity handsets (end_a records e) (end_b records e) x) None) (inside_is k e h) bounded)
+        ∙ ap (λ (n : ℕ). farthest n (λ e. cond (is_inside records rows groups k e) (ends_proximity handsets (end_a records e) (end_b records e) (min limit limit_most)) None)) edges);
   }
 
 pub member_listed : (rows : List ℕ) (g : ℕ) (gs : List (List ℕ)) (k v : ℕ) → rows_of rows g ≡ gs → k < g → is_member rows g k v ≡ contains v (get_or gs k [])

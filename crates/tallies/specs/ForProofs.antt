@@ -19,14 +19,13 @@
 --     ends_in ..                      how many ends the first m edges have among the members of group k: two for an edge inside it, one for one that leaves it
 --     Progress ..                    the counts and reaches of the groups below a bound, and 0 for the others; ends_in in the place of the edges that leave
 --     InsideFits, InsideTaken        such a table, with room to take twice the edges inside out of the ends; and what is left
-use Rattle.std.specs.Prelude.{ℕ, zero, suc, ◌+◌, ◌*◌, ◌-◌, ◌≤◌, ◌<◌, max, ◌≡◌, Bool, ◌&&◌, cond, List, eqb, leb, ltb, length, get_or}
+use Rattle.std.specs.Prelude.{ℕ, zero, suc, ◌+◌, ◌*◌, ◌-◌, ◌≤◌, ◌<◌, max, ◌≡◌, Bool, ◌&&◌, cond, List, eqb, leb, ltb, length, get_or, None}
 use Rattle.std.specs.Int.Bits.{bit_and}
 use Rattle.sets.specs.Below.{bit, count, sum}
 use Rattle.sets.specs.Bits.{bit_of, bit_at}
 use Rattle.limits.specs.Limits.{edges_most}
 use Rattle.image.specs.Image.{end_a, end_b}
 use Rattle.near.specs.Near.{ends_proximity}
-use Rattle.near.specs.declared.Proximity.TheVariants.{NotNear}
 use Rattle.community.specs.Network.{contains}
 use Rattle.community.specs.Reach.{farthest}
 use Rattle.rows.specs.Rows.{row_members}
@@ -108,7 +107,7 @@ pub record Progress (handsets records : List ℕ) (m limit : ℕ) (rows : List �
   pub ends : (k : ℕ) → k < 512 → get_or ts (512 + k) 0 ≡ cond (ltb k first) (ends_in records rows m all k) 0
   pub reaches : (k : ℕ) → k < 512
       → get_or rs k 0
-      ≡ cond (ltb k first) (reach_entry (farthest m (λ e. cond (is_inside records rows all k e) (ends_proximity handsets (end_a records e) (end_b records e) limit) NotNear))) 0
+      ≡ cond (ltb k first) (reach_entry (farthest m (λ e. cond (is_inside records rows all k e) (ends_proximity handsets (end_a records e) (end_b records e) limit) None))) 0
 
 pub record InsideFits (groups : ℕ) (ts : List ℕ) : Type 0 where
   pub size : length ts ≡ 1024

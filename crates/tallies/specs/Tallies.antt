@@ -7,14 +7,12 @@
 --     GroupsCounted ..                 a table of both counts of each group k below 512: at k the edges with both ends in it, at 512 + k those with just one
 --     reach_entry r                     what a table holds of a reach: one more than its squared distance, and 0 for none
 --     GroupsReach ..                   a table of the reach of each group k below 512; a limit above the most that G may be counts as that
-use Rattle.std.specs.Prelude.{ℕ, suc, ◌+◌, ◌/◌, ◌<◌, min, ◌≡◌, Bool, ◌&&◌, cond, List, ltb, length, get_or}
+use Rattle.std.specs.Prelude.{ℕ, suc, ◌+◌, ◌/◌, ◌<◌, min, ◌≡◌, Bool, ◌&&◌, cond, List, ltb, length, get_or, None, Option, Some}
 use Rattle.sets.specs.Below.{count}
 use Rattle.fields.specs.Fields.{edge_bytes}
 use Rattle.limits.specs.Limits.{edges_most, limit_most}
 use Rattle.image.specs.Image.{end_a, end_b}
 use Rattle.near.specs.Near.{ends_proximity}
-use Rattle.near.specs.declared.Proximity.{Proximity}
-use Rattle.near.specs.declared.Proximity.TheVariants.{Near, NotNear}
 use Rattle.community.specs.Network.{contains}
 use Rattle.community.specs.Scores.{just_one}
 use Rattle.community.specs.Reach.{farthest}
@@ -40,13 +38,13 @@ pub record GroupsCounted (records rows : List ℕ) (groups : ℕ) (ts : List ℕ
   pub leaving : (k : ℕ) → k < 512
       → get_or ts (512 + k) 0 ≡ count (edges_in records) (is_leaving records rows groups k)
 
-abbrev pub reach_entry : Proximity → ℕ
-reach_entry (Near d) = suc d
-reach_entry NotNear = 0
+abbrev pub reach_entry : Option ℕ → ℕ
+reach_entry (Some d) = suc d
+reach_entry None = 0
 
 -- of the handset records and the edge records, the square of the near distance, a table of rows, how many of them are groups, and the table rs
 pub record GroupsReach (handsets records : List ℕ) (limit : ℕ) (rows : List ℕ) (groups : ℕ) (rs : List ℕ) : Type 0 where
   pub size : length rs ≡ 512
   pub reaches : (k : ℕ) → k < 512
       → get_or rs k 0
-      ≡ reach_entry (farthest (edges_in records) (λ e. cond (is_inside records rows groups k e) (ends_proximity handsets (end_a records e) (end_b records e) (min limit limit_most)) NotNear))
+      ≡ reach_entry (farthest (edges_in records) (λ e. cond (is_inside records rows groups k e) (ends_proximity handsets (end_a records e) (end_b records e) (min limit limit_most)) None))

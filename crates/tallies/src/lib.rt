@@ -16,8 +16,6 @@ ghost use Rattle.rows.specs.Rows.{row_members};
 ghost use Rattle.tallies.specs.Tallies.{reach_entry, GroupsCounted, GroupsReach};
 ghost use Rattle.tallies.specs.ForProofs.{EndAdded, DegreesHold, DegreesFit, degree_sum, bit_for, WordMarked, RowMarked, WordsHold, RowsSummed, Raised, RaisedTo, EdgesCounted, EdgesRaised, Progress, InsideFits, InsideTaken};
 
-use near::Proximity;
-
 // Adds an end to the degree of handset v; a handset that has no place gets none.
 fn add_end(degrees: &mut [u32], v: usize)
     requires { get_or degrees.old v 0 < 4294967295 }
@@ -116,8 +114,8 @@ fn reach_inside(inside: u64, handsets: &[u8], u: usize, v: usize, limit: u64) ->
     }
     let tested = near::test_ends(handsets, u, v, limit);
     match tested {
-        Proximity::Near(d) => d + 1,
-        Proximity::NotNear => 0,
+        Some(d) => d + 1,
+        None => 0,
     }
 }
 

@@ -7,6 +7,7 @@
 --     tables_site          a header as answer: the three questions got a yes, and it is that of the image
 --     encoded_by           the call's answer, by the answer to the tables; encoded_either: what holds of both answers to the tables holds of it
 --     call_no, _short, _yes    so the call's outcome is as the definition has it
+use Rattle.std.specs.Prelude.{Err, Ok, Result}
 use Prim.Native.Nat.{ℕ, ◌-◌, ◌≤◌, ◌<◌}
 use native.Mathlib.Omega.{arith}
 use native.Mathlib.Nat.{sub-zero}
@@ -26,16 +27,12 @@ use Rattle.image.specs.Questions.{open_of, by_answer}
 use Rattle.image.specs.Rows.{zeros}
 use Rattle.image.specs.declared.Header.{Header}
 use Rattle.image.specs.declared.Refusal.{Refusal}
-use Rattle.image.specs.declared.Opened.{Opened}
-use Rattle.image.specs.declared.Opened.TheVariants as O
 use Rattle.image.proofs.Acceptance.{pass, go_on, refuse, records_header, fits}
 use Rattle.layout.specs.Layout.{header_for, handset_table, edge_table, image_of, lengths_fit, writes, Put}
 use Rattle.layout.specs.ForProofs.{image_most}
 use Rattle.layout.specs.declared.Parameters.{Parameters}
 use Rattle.layout.proofs.Reading.{Asked, tables_fit_lem, asked_length, open_image}
 use Rattle.writer.specs.Writer.{tables_answer, ask_buffer, encoded_of, buffer_for, buffer_after, encoded_answer, WriteCall}
-use Rattle.writer.specs.declared.Encoded.{Encoded}
-use Rattle.writer.specs.declared.Encoded.TheVariants as E
 
 module _ (x : Parameters) (coords : List ℤ) (ends : List ℕ) where
   abbrev q3 : Bool
@@ -49,15 +46,15 @@ module _ (x : Parameters) (coords : List ℤ) (ends : List ℕ) where
 
   -- ---- the questions
 
-  pub no_3 : q3 ≡ false → tables_answer x coords ends ≡ O.Refused (refusal 3)
+  pub no_3 : q3 ≡ false → tables_answer x coords ends ≡ Err (refusal 3)
   unfolding tables_answer
   no_3 e = refuse q3 3 0 _ e
 
-  pub no_5 : T q3 → q5 ≡ false → tables_answer x coords ends ≡ O.Refused (refusal 5)
+  pub no_5 : T q3 → q5 ≡ false → tables_answer x coords ends ≡ Err (refusal 5)
   unfolding tables_answer
   no_5 a e = go_on q3 3 0 _ a ∙ refuse q5 5 0 _ e
 
-  pub no_6 : T q3 → T q5 → q6 ≡ false → tables_answer x coords ends ≡ O.Refused (refusal 6)
+  pub no_6 : T q3 → T q5 → q6 ≡ false → tables_answer x coords ends ≡ Err (refusal 6)
   unfolding tables_answer
   no_6 a b e = go_on q3 3 0 _ a ∙ go_on q5 5 0 _ b ∙ refuse q6 6 0 _ e
 
@@ -65,7 +62,7 @@ module _ (x : Parameters) (coords : List ℤ) (ends : List ℕ) where
   unfolding tables_answer
   by_reader ok = go_on q3 3 0 _ ok.q3 ∙ go_on q5 5 0 _ ok.q5 ∙ go_on q6 6 0 _ ok.q6 ∙ sym (open_image x coords ends ok)
 
-  pub tables_site : (h : Header) → tables_answer x coords ends ≡ O.Site h → Asked x coords ends × (h ≡ header_for x)
+  pub tables_site : (h : Header) → tables_answer x coords ends ≡ Ok h → Asked x coords ends × (h ≡ header_for x)
   unfolding tables_answer
   tables_site h e =
       let a3 = pass q3 _ _ _ e in
@@ -112,40 +109,40 @@ module _ (x : Parameters) (coords : List ℤ) (ends : List ℕ) where
 
   -- ---- the call's outcome, by the answer to the tables
 
-  outcome : (l : List ℕ) (a : Encoded) (l' : List ℕ) → encoded_of x coords ends (length l) ≡ a → l' ≡ buffer_for a (image_of x coords ends) l → WriteCall x coords ends l a l'
+  outcome : (l : List ℕ) (a : Result ℕ Refusal) (l' : List ℕ) → encoded_of x coords ends (length l) ≡ a → l' ≡ buffer_for a (image_of x coords ends) l → WriteCall x coords ends l a l'
   unfolding buffer_after
-  outcome l a l' e d = record { answer = ap encoded_answer (sym e); buffer = d ∙ sym (ap (λ (b : Encoded). buffer_for b (image_of x coords ends) l) e) }
+  outcome l a l' e d = record { answer = ap encoded_answer (sym e); buffer = d ∙ sym (ap (λ (b : Result ℕ Refusal). buffer_for b (image_of x coords ends) l) e) }
 
-  pub encoded_by : (room : ℕ) (o : Opened) → tables_answer x coords ends ≡ o → encoded_of x coords ends room ≡ by_answer o (ask_buffer room) E.Refused
+  pub encoded_by : (room : ℕ) (o : Result Header Refusal) → tables_answer x coords ends ≡ o → encoded_of x coords ends room ≡ by_answer o (ask_buffer room) Err
   unfolding encoded_of
-  encoded_by room o e = ap (λ (a : Opened). by_answer a (ask_buffer room) E.Refused) e
+  encoded_by room o e = ap (λ (a : Result Header Refusal). by_answer a (ask_buffer room) Err) e
 
-  pub encoded_either : (room : ℕ) (P : Encoded → Type 0) → (Asked x coords ends → tables_answer x coords ends ≡ O.Site (header_for x) → P (ask_buffer room (header_for x)))
-      → ((q : Refusal) → tables_answer x coords ends ≡ O.Refused q → P (E.Refused q)) → P (encoded_of x coords ends room)
+  pub encoded_either : (room : ℕ) (P : Result ℕ Refusal → Type 0) → (Asked x coords ends → tables_answer x coords ends ≡ Ok (header_for x) → P (ask_buffer room (header_for x)))
+      → ((q : Refusal) → tables_answer x coords ends ≡ Err q → P (Err q)) → P (encoded_of x coords ends room)
   encoded_either room P f g = go (tables_answer x coords ends) refl
     where
-      go : (o : Opened) → tables_answer x coords ends ≡ o → P (encoded_of x coords ends room)
-      go (O.Site h) e =
+      go : (o : Result Header Refusal) → tables_answer x coords ends ≡ o → P (encoded_of x coords ends room)
+      go (Ok h) e =
           let a = tables_site h e in
-          let s : tables_answer x coords ends ≡ O.Site (header_for x) = e ∙ ap O.Site a.1 in
-          subst P (sym (encoded_by room (O.Site (header_for x)) s)) (f a.0 s)
-      go (O.Refused q) e = subst P (sym (encoded_by room (O.Refused q) e)) (g q e)
+          let s : tables_answer x coords ends ≡ Ok (header_for x) = e ∙ ap Ok a.1 in
+          subst P (sym (encoded_by room (Ok (header_for x)) s)) (f a.0 s)
+      go (Err q) e = subst P (sym (encoded_by room (Err q) e)) (g q e)
 
-  pub call_no : (l : List ℕ) (q : Refusal) → tables_answer x coords ends ≡ O.Refused q → WriteCall x coords ends l (E.Refused q) l
-  call_no l q e = outcome l (E.Refused q) l (encoded_by (length l) (O.Refused q) e) refl
+  pub call_no : (l : List ℕ) (q : Refusal) → tables_answer x coords ends ≡ Err q → WriteCall x coords ends l (Err q) l
+  call_no l q e = outcome l (Err q) l (encoded_by (length l) (Err q) e) refl
 
   -- of a header, question 20
-  asked_room : (h : Header) (room : ℕ) (b : Bool) → tables_answer x coords ends ≡ O.Site h → leb h.len room ≡ b
-      → encoded_of x coords ends room ≡ cond b (E.Length h.len) (E.Refused (refusal 20))
-  asked_room h room b e d = encoded_by room (O.Site h) e ∙ ap (λ (c : Bool). cond c (E.Length h.len) (E.Refused (refusal 20))) d
+  asked_room : (h : Header) (room : ℕ) (b : Bool) → tables_answer x coords ends ≡ Ok h → leb h.len room ≡ b
+      → encoded_of x coords ends room ≡ cond b (Ok h.len) (Err (refusal 20))
+  asked_room h room b e d = encoded_by room (Ok h) e ∙ ap (λ (c : Bool). cond c (Ok h.len) (Err (refusal 20))) d
 
-  pub call_short : (l : List ℕ) (h : Header) → tables_answer x coords ends ≡ O.Site h → length l < h.len → WriteCall x coords ends l (E.Refused (refusal 20)) l
-  call_short l h e s = outcome l (E.Refused (refusal 20)) l (asked_room h (length l) false e (lt-leb h.len (length l) s)) refl
+  pub call_short : (l : List ℕ) (h : Header) → tables_answer x coords ends ≡ Ok h → length l < h.len → WriteCall x coords ends l (Err (refusal 20)) l
+  call_short l h e s = outcome l (Err (refusal 20)) l (asked_room h (length l) false e (lt-leb h.len (length l) s)) refl
 
-  pub call_yes : (l : List ℕ) (h : Header) (r : ℕ) (l' : List ℕ) → tables_answer x coords ends ≡ O.Site h → h.len ≤ length l → Put x coords ends l r l'
-      → WriteCall x coords ends l (E.Length h.len) l'
+  pub call_yes : (l : List ℕ) (h : Header) (r : ℕ) (l' : List ℕ) → tables_answer x coords ends ≡ Ok h → h.len ≤ length l → Put x coords ends l r l'
+      → WriteCall x coords ends l (Ok h.len) l'
   call_yes l h r l' e s p =
       let a = tables_site h e in
       let len : h.len ≡ (header_for x).len = ap (λ (g : Header). g.len) a.1 in
-      outcome l (E.Length h.len) l' (asked_room h (length l) true e (le-leb h.len (length l) s))
+      outcome l (Ok h.len) l' (asked_room h (length l) true e (le-leb h.len (length l) s))
       ((put_there a.0 l r l' (omega arith) p).0 ∙ ap (λ (k : ℕ). image_of x coords ends ++ drop k l) (sym len))

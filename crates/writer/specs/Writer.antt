@@ -10,18 +10,16 @@
 --     encoded_answer e               the answer's number, place and values: the length of the image
 --     WriteCall x ..                the outcome of a call: its answer and the buffer
 --     OneAnswer                     the theorem: the number, place and values leave nothing of the answer free (proved in proofs/Answers)
-use Rattle.std.specs.Prelude.{ℕ, ◌≡◌, cond, List, [], ◌∷◌, ◌++◌, leb, ℤ, length, drop}
+use Rattle.std.specs.Prelude.{ℕ, ◌≡◌, cond, List, [], ◌∷◌, ◌++◌, leb, ℤ, length, drop, Err, Ok, Result}
 use Rattle.limits.specs.Limits.{counts_fit, thresholds_fit}
 use Rattle.image.specs.Answers.{Answer, refused, refusal, given, Injective}
 use Rattle.image.specs.Questions.{ask, ask_records, by_answer}
 use Rattle.image.specs.declared.Header.{Header}
-use Rattle.image.specs.declared.Opened.{Opened}
 use Rattle.layout.specs.Layout.{header_for, handset_table, edge_table, image_of, lengths_fit}
+use Rattle.image.specs.declared.Refusal.{Refusal}
 use Rattle.layout.specs.declared.Parameters.{Parameters}
-use Rattle.writer.specs.declared.Encoded.{Encoded}
-use Rattle.writer.specs.declared.Encoded.TheVariants as E
 
-unfoldable pub tables_answer : Parameters → List ℤ → List ℕ → Opened
+unfoldable pub tables_answer : Parameters → List ℤ → List ℕ → Result Header Refusal
 unfolding ask ask_records
 tables_answer x coords ends =
     ask (counts_fit x.n x.m) 3 0
@@ -29,27 +27,27 @@ tables_answer x coords ends =
     (ask (lengths_fit x (length coords) (length ends)) 6 0
     (ask_records (handset_table coords) (edge_table ends) (header_for x))))
 
-abbrev pub ask_buffer : ℕ → Header → Encoded
-ask_buffer room h = cond (leb h.len room) (E.Length h.len) (E.Refused (refusal 20))
+abbrev pub ask_buffer : ℕ → Header → Result ℕ Refusal
+ask_buffer room h = cond (leb h.len room) (Ok h.len) (Err (refusal 20))
 
-unfoldable pub encoded_of : Parameters → List ℤ → List ℕ → ℕ → Encoded
+unfoldable pub encoded_of : Parameters → List ℤ → List ℕ → ℕ → Result ℕ Refusal
 unfolding tables_answer
-encoded_of x coords ends room = by_answer (tables_answer x coords ends) (ask_buffer room) E.Refused
+encoded_of x coords ends room = by_answer (tables_answer x coords ends) (ask_buffer room) Err
 
-abbrev pub buffer_for : Encoded → List ℕ → List ℕ → List ℕ
-buffer_for (E.Length k) image l = image ++ drop k l
-buffer_for (E.Refused r) image l = l
+abbrev pub buffer_for : Result ℕ Refusal → List ℕ → List ℕ → List ℕ
+buffer_for (Ok k) image l = image ++ drop k l
+buffer_for (Err r) image l = l
 
 unfoldable pub buffer_after : Parameters → List ℤ → List ℕ → List ℕ → List ℕ
 unfolding encoded_of image_of
 buffer_after x coords ends l = buffer_for (encoded_of x coords ends (length l)) (image_of x coords ends) l
 
-abbrev pub encoded_answer : Encoded → Answer
-encoded_answer (E.Length k) = given (k ∷ [])
-encoded_answer (E.Refused r) = refused r
+abbrev pub encoded_answer : Result ℕ Refusal → Answer
+encoded_answer (Ok k) = given (k ∷ [])
+encoded_answer (Err r) = refused r
 
 -- of the parameters x, the two tables and the buffer l as lent, the answer r, and the buffer l' after the call
-pub record WriteCall (x : Parameters) (coords : List ℤ) (ends l : List ℕ) (r : Encoded) (l' : List ℕ) : Type 0 where
+pub record WriteCall (x : Parameters) (coords : List ℤ) (ends l : List ℕ) (r : Result ℕ Refusal) (l' : List ℕ) : Type 0 where
   pub answer : encoded_answer r ≡ encoded_answer (encoded_of x coords ends (length l))
   pub buffer : l' ≡ buffer_after x coords ends l
 

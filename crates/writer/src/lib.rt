@@ -7,34 +7,27 @@
 ghost use Rattle.std.specs.Prelude.{◌≡◌};
 ghost use Rattle.writer.specs.Writer.{tables_answer, WriteCall};
 
-use image::{Opened, Refusal};
+use image::{Header, Refusal};
 use layout::Parameters;
 
-// The length of the image written, or the refusal.
-#[derive(Clone, Copy)]
-pub enum Encoded {
-    Length(usize),
-    Refused(Refusal),
-}
-
 // Questions 3, 5 and 6, then 7 to 10 by the reader, each to the whole tables before the next: the header of the image that they make, or the first no.
-fn ask_tables(x: Parameters, coordinates: &[i32], ends: &[u16]) -> Opened
+fn ask_tables(x: Parameters, coordinates: &[i32], ends: &[u16]) -> Result<Header, Refusal>
     ensures { result ≡ tables_answer x coordinates.now ends.now }
 {
     if !limits::counts_fit(x.n, x.m) {
-        return Opened::Refused(Refusal {
+        return Err(Refusal {
             number: 3,
             place: 0,
         });
     }
     if !limits::thresholds_fit(x.limit, x.p, x.q, x.mu) {
-        return Opened::Refused(Refusal {
+        return Err(Refusal {
             number: 5,
             place: 0,
         });
     }
     if !layout::lengths_fit(x, coordinates.len(), ends.len()) {
-        return Opened::Refused(Refusal {
+        return Err(Refusal {
             number: 6,
             place: 0,
         });
@@ -45,20 +38,25 @@ fn ask_tables(x: Parameters, coordinates: &[i32], ends: &[u16]) -> Opened
 }
 
 // Writes the image of a site at the front of the buffer, from the coordinates of each handset in turn and the two ends of each edge in turn.
-pub fn write(x: Parameters, coordinates: &[i32], ends: &[u16], buffer: &mut [u8]) -> Encoded
+pub fn write(
+    x: Parameters,
+    coordinates: &[i32],
+    ends: &[u16],
+    buffer: &mut [u8],
+) -> Result<usize, Refusal>
     ensures { WriteCall x coordinates.now ends.now buffer.old result buffer.new }
 {
     let asked = ask_tables(x, coordinates, ends);
-    let Opened::Site(h) = asked else {
-        return Encoded::Refused(refusals::refusal_of(asked));
+    let Ok(h) = asked else {
+        return Err(refusals::refusal_of(asked));
     };
     let len = h.len as usize;
     if buffer.len() < len {
-        return Encoded::Refused(Refusal {
+        return Err(Refusal {
             number: 20,
             place: 0,
         });
     }
     layout::put_image(buffer, x, coordinates, ends);
-    Encoded::Length(len)
+    Ok(len)
 }

@@ -9,11 +9,11 @@ use Rattle.graph.proofs.GraphLaws.{edges_most_lem, neighbours_drawn, neighbours_
 use Rattle.graph.proofs.find_site.Goals as goal
 
 pub find_groups-found-requires : goal.find_groups-found-requires
-find_groups-found-requires c = (neighbours_drawn c.args.image.now c.in-Site.h (let it : Accepted c.args.image.now × (c.in-Site.h ≡ header_of c.args.image.now) = accepted c.args.image.now c.in-Site.h (sym c.open_neighbours-opened.ensures.answered ∙ c.in-Site.is) in it).0 (let it : Accepted c.args.image.now × (c.in-Site.h ≡ header_of c.args.image.now) = accepted c.args.image.now c.in-Site.h (sym c.open_neighbours-opened.ensures.answered ∙ c.in-Site.is) in it).1 (c.open_neighbours-opened.ensures.neighbours c.in-Site.h c.in-Site.is), c.open_neighbours-opened.ensures.room, refl)
+find_groups-found-requires c = (neighbours_drawn c.args.image.now c.in-Ok.h (let it : Accepted c.args.image.now × (c.in-Ok.h ≡ header_of c.args.image.now) = accepted c.args.image.now c.in-Ok.h (sym c.open_neighbours-opened.ensures.answered ∙ c.in-Ok.is) in it).0 (let it : Accepted c.args.image.now × (c.in-Ok.h ≡ header_of c.args.image.now) = accepted c.args.image.now c.in-Ok.h (sym c.open_neighbours-opened.ensures.answered ∙ c.in-Ok.is) in it).1 (c.open_neighbours-opened.ensures.neighbours c.in-Ok.h c.in-Ok.is), c.open_neighbours-opened.ensures.room, refl)
 
 pub returns : goal.returns
 returns c =
-    let n = c.open_neighbours-opened.ensures.neighbours c.in-Site.h c.in-Site.is in
-    site_yes c.in-Site.h (sym c.in-Site.is ∙ c.open_neighbours-opened.ensures.answered) (c.find_groups-found.auto.table ∙ c.open_neighbours-opened.ensures.room.0, c.open_neighbours-opened.ensures.room.1)
-    (groups_are (let it : Accepted c.args.image.now × (c.in-Site.h ≡ header_of c.args.image.now) = accepted c.args.image.now c.in-Site.h (sym c.open_neighbours-opened.ensures.answered ∙ c.in-Site.is) in it).0 c.open_neighbours-opened.ensures.room.1 n (c.find_groups-found.ensures.found.each (network c.args.image.now) (neighbours_hold c.args.image.now c.in-Site.h (let it : Accepted c.args.image.now × (c.in-Site.h ≡ header_of c.args.image.now) = accepted c.args.image.now c.in-Site.h (sym c.open_neighbours-opened.ensures.answered ∙ c.in-Site.is) in it).0 (let it : Accepted c.args.image.now × (c.in-Site.h ≡ header_of c.args.image.now) = accepted c.args.image.now c.in-Site.h (sym c.open_neighbours-opened.ensures.answered ∙ c.in-Site.is) in it).1 n))
-    (c.find_groups-found.ensures.counted ∙ near_count c.args.image.now (network c.args.image.now) (edges_most_lem c.args.image.now c.in-Site.h (let it : Accepted c.args.image.now × (c.in-Site.h ≡ header_of c.args.image.now) = accepted c.args.image.now c.in-Site.h (sym c.open_neighbours-opened.ensures.answered ∙ c.in-Site.is) in it).0 (let it : Accepted c.args.image.now × (c.in-Site.h ≡ header_of c.args.image.now) = accepted c.args.image.now c.in-Site.h (sym c.open_neighbours-opened.ensures.answered ∙ c.in-Site.is) in it).1) n.near_set))
+    let n = c.open_neighbours-opened.ensures.neighbours c.in-Ok.h c.in-Ok.is in
+    site_yes c.in-Ok.h (sym c.in-Ok.is ∙ c.open_neighbours-opened.ensures.answered) (c.find_groups-found.auto.table ∙ c.open_neighbours-opened.ensures.room.0, c.open_neighbours-opened.ensures.room.1)
+    (groups_are (let it : Accepted c.args.image.now × (c.in-Ok.h ≡ header_of c.args.image.now) = accepted c.args.image.now c.in-Ok.h (sym c.open_neighbours-opened.ensures.answered ∙ c.in-Ok.is) in it).0 c.open_neighbours-opened.ensures.room.1 n (c.find_groups-found.ensures.found.each (network c.args.image.now) (neighbours_hold c.args.image.now c.in-Ok.h (let it : Accepted c.args.image.now × (c.in-Ok.h ≡ header_of c.args.image.now) = accepted c.args.image.now c.in-Ok.h (sym c.open_neighbours-opened.ensures.answered ∙ c.in-Ok.is) in it).0 (let it : Accepted c.args.image.now × (c.in-Ok.h ≡ header_of c.args.image.now) = accepted c.args.image.now c.in-Ok.h (sym c.open_neighbours-opened.ensures.answered ∙ c.in-Ok.is) in it).1 n))
+    (c.find_groups-found.ensures.counted ∙ near_count c.args.image.now (network c.args.image.now) (edges_most_lem c.args.image.now c.in-Ok.h (let it : Accepted c.args.image.now × (c.in-Ok.h ≡ header_of c.args.image.now) = accepted c.args.image.now c.in-Ok.h (sym c.open_neighbours-opened.ensures.answered ∙ c.in-Ok.is) in it).0 (let it : Accepted c.args.image.now × (c.in-Ok.h ≡ header_of c.args.image.now) = accepted c.args.image.now c.in-Ok.h (sym c.open_neighbours-opened.ensures.answered ∙ c.in-Ok.is) in it).1) n.near_set))

@@ -1,3 +1,4 @@
+use Rattle.std.specs.Prelude.{Option}
 use Prim.Native.Nat.{ℕ, zero, suc, ◌+◌, ◌*◌, ◌-◌, ◌%◌, ◌^◌, ◌<◌}
 use native.Mathlib.Omega.{arith}
 use mathlib.Core.Path.{◌≡◌, sym, ap, ◌∙◌, subst}
@@ -10,7 +11,6 @@ use Rattle.sets.specs.Below.{bit}
 use Rattle.sets.specs.Bits.{bit_of}
 use Rattle.sets.proofs.Bits.{bit_of_none}
 use Rattle.near.specs.Near.{is_near}
-use Rattle.near.specs.declared.Proximity.{Proximity}
 use Rattle.graph.specs.ForProofs.{passes_near}
 use Rattle.graph.proofs.Words.{below_lt, below_first, below_rest}
 use Rattle.graph.proofs.near_word.Goals.{in-Near, in-NotNear}
@@ -43,17 +43,17 @@ loop-k-preserved c =
     let held : ℕ → ℕ = λ i. bit (ltb i n && (passes_near c.args.handsets.now c.args.edges.now c.args.limit (c.args.base + i))) in
     let step : n - (c.loop-k.k - 1) ≡ suc (n - c.loop-k.k) = omega (arith, c.loop-k-test.true, c.loop-k.invariant.0) in
     let room : n - c.loop-k.k < 64 = omega (arith, c.loop-k-test.true, c.loop-k.invariant.0, c.requires.0) in
-    let small : one < 2 = subst (λ (x : ℕ). x < 2) (sym (let it : (c.match-tested.one ≡ bit (passes_near c.args.handsets.now c.args.edges.now c.args.limit (c.args.base + (c.loop-k.k - 1)))) = let near : Proximity → ℕ = λ p. bit (is_near p) in
+    let small : one < 2 = subst (λ (x : ℕ). x < 2) (sym (let it : (c.match-tested.one ≡ bit (passes_near c.args.handsets.now c.args.edges.now c.args.limit (c.args.base + (c.loop-k.k - 1)))) = let near : Option ℕ → ℕ = λ p. bit (is_near p) in
     elim c.match-tested.branch [
-      | in-Near w ↦ w.one-is ∙ ap near (sym w.in-Near.is ∙ c.test_edge-tested.ensures)
-      | in-NotNear w ↦ w.one-is ∙ ap near (sym w.in-NotNear.is ∙ c.test_edge-tested.ensures)
+      | in-Some w ↦ w.one-is ∙ ap near (sym w.in-Some.is ∙ c.test_edge-tested.ensures)
+      | in-None w ↦ w.one-is ∙ ap near (sym w.in-None.is ∙ c.test_edge-tested.ensures)
     ] in it)) (bit-small (passes_near c.args.handsets.now c.args.edges.now c.args.limit (c.args.base + (c.loop-k.k - 1)))) in (
       omega (arith, c.loop-k.invariant.0),
       subst (λ (x : ℕ). bit_or (c.loop-k.word * 2 ^ 1 % 2 ^ 64) one < 2 ^ x) (sym step) (below_lt (n - c.loop-k.k) c.loop-k.word one c.loop-k.invariant.1 room small),
       bits c.loop-k.word one c.loop-k.k (n - c.loop-k.k) held c.loop-k-test.true c.loop-k.invariant.1 room small
-          ((let it : (c.match-tested.one ≡ bit (passes_near c.args.handsets.now c.args.edges.now c.args.limit (c.args.base + (c.loop-k.k - 1)))) = let near : Proximity → ℕ = λ p. bit (is_near p) in
+          ((let it : (c.match-tested.one ≡ bit (passes_near c.args.handsets.now c.args.edges.now c.args.limit (c.args.base + (c.loop-k.k - 1)))) = let near : Option ℕ → ℕ = λ p. bit (is_near p) in
           elim c.match-tested.branch [
-            | in-Near w ↦ w.one-is ∙ ap near (sym w.in-Near.is ∙ c.test_edge-tested.ensures)
-            | in-NotNear w ↦ w.one-is ∙ ap near (sym w.in-NotNear.is ∙ c.test_edge-tested.ensures)
+            | in-Some w ↦ w.one-is ∙ ap near (sym w.in-Some.is ∙ c.test_edge-tested.ensures)
+            | in-None w ↦ w.one-is ∙ ap near (sym w.in-None.is ∙ c.test_edge-tested.ensures)
           ] in it) ∙ sym (ap (λ (b : Bool). bit (b && (passes_near c.args.handsets.now c.args.edges.now c.args.limit (c.args.base + (c.loop-k.k - 1))))) (lt-ltb (c.loop-k.k - 1) n (omega (arith, c.loop-k-test.true, c.loop-k.invariant.0))))) c.loop-k.invariant.2,
     )

@@ -15,14 +15,14 @@ returns-in_default c =
 
 pub ask_tables-requires : goal.ask_tables-requires
 ask_tables-requires c =
-    let f = header_passed _ _ (sym c.open_header-checked.ensures ∙ c.in-Site.is) in
+    let f = header_passed _ _ (sym c.open_header-checked.ensures ∙ c.in-Ok.is) in
     (f.0.n_limit, omega (arith, f.0.handsets_to, f.1), omega (arith, f.0.edges_to, f.1), c.requires)
 
 pub returns : goal.returns
 returns c =
     record {
-      answer = let told = sym c.open_header-checked.ensures ∙ c.in-Site.is in
+      answer = let told = sym c.open_header-checked.ensures ∙ c.in-Ok.is in
           c.ask_tables.ensures.answer ∙ sym (header_passed _ _ told).2;
-      held = let told = sym c.open_header-checked.ensures ∙ c.in-Site.is in
+      held = let told = sym c.open_header-checked.ensures ∙ c.in-Ok.is in
           held_related _ _ (header_yes _ _ told).1 c.ask_tables.ensures.held;
     }

@@ -2,10 +2,10 @@
 use Rattle.lines.specs.Lines.{reach_text}
 use Rattle.lines.proofs.put_reach.Goals as goal
 
-pub returns-in-Near : goal.returns-in-Near
+pub returns-in-Some : goal.returns-in-Some
 unfolding reach_text
-returns-in-Near c = rw c.in-Near.is c.put_decimal.ensures
+returns-in-Some c = rw c.in-Some.is c.put_decimal.ensures
 
-pub returns-in-NotNear : goal.returns-in-NotNear
+pub returns-in-None : goal.returns-in-None
 unfolding reach_text
-returns-in-NotNear c = rw c.in-NotNear.is c.put.ensures
+returns-in-None c = rw c.in-None.is c.put.ensures

@@ -1,10 +1,10 @@
+use Rattle.std.specs.Prelude.{None, Some}
 use Rattle.std.proofs.Common.{◌≡◌, ℕ, ◌+◌, ◌-◌, ◌%◌, ◌^◌, ◌<◌, Bool, true, false, cond, ◌&&◌, T, leb, List, sym, ap, ◌∙◌, subst, add-one, arith, le→leb, leb→le}
 use Rattle.sets.specs.Below.{sum}
 use Rattle.sets.proofs.Tests.{T_true, T-ext, and_make, and_left, and_right}
 use Rattle.fields.specs.Fields.{coordinate_count, coordinate_of}
 use Rattle.image.specs.Image.{gap_squared, distance_between}
 use Rattle.near.specs.Near.{proximity_of, proximity_answer}
-use Rattle.near.specs.declared.Proximity.TheVariants.{Near, NotNear}
 use Rattle.near.proofs.proximity_of.Invariants.{Left}
 use Rattle.near.proofs.proximity_of.Goals as goal
 
@@ -22,15 +22,15 @@ left-more total limit room d x next fits l h hd hn e = record {
   rest = λ t. omega (arith, l.rest (and_left fits (leb d room) t), leb→le d room (and_right fits (leb d room) t), e);
 }
 
-left_near : (a b : List ℕ) (limit room : ℕ) (fits : Bool) → Left (distance_between a b) limit fits room → fits ≡ true → Near (limit - room) ≡ proximity_of a b limit
+left_near : (a b : List ℕ) (limit room : ℕ) (fits : Bool) → Left (distance_between a b) limit fits room → fits ≡ true → Some (limit - room) ≡ proximity_of a b limit
 unfolding proximity_of
 left_near a b limit room fits l e =
     let all : room + distance_between a b ≡ limit = l.rest (subst T (sym e) tt) in
-    ap Near (let q : limit - room ≡ distance_between a b = omega arith in q) ∙ ap (λ (t : Bool). cond t (Near (distance_between a b)) NotNear) (sym e ∙ l.answer)
+    ap Some (let q : limit - room ≡ distance_between a b = omega arith in q) ∙ ap (λ (t : Bool). cond t (Some (distance_between a b)) None) (sym e ∙ l.answer)
 
-left_far : (a b : List ℕ) (limit room : ℕ) (fits : Bool) → Left (distance_between a b) limit fits room → fits ≡ false → NotNear ≡ proximity_of a b limit
+left_far : (a b : List ℕ) (limit room : ℕ) (fits : Bool) → Left (distance_between a b) limit fits room → fits ≡ false → None ≡ proximity_of a b limit
 unfolding proximity_of
-left_far a b limit room fits l e = ap (λ (t : Bool). cond t (Near (distance_between a b)) NotNear) (sym e ∙ l.answer)
+left_far a b limit room fits l e = ap (λ (t : Bool). cond t (Some (distance_between a b)) None) (sym e ∙ l.answer)
 
 pub loop-i-init : goal.loop-i-init
 unfolding sum

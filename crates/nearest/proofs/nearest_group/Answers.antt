@@ -1,11 +1,11 @@
 -- `nearest::nearest_group` meets its contract: an image that the reader refuses ends the call with its refusal, a point out of the limits with 17, and the
 -- rest is `nearest_site`'s, over the rows that the crate graph finds.
+use Rattle.std.specs.Prelude.{Err}
 use mathlib.Core.Path.{◌≡◌, sym, ap, ◌∙◌, subst}
 use mathlib.Core.List.{[], ◌∷◌}
 use lib.Dec.{T}
 use Rattle.image.specs.Image.{header_of}
 use Rattle.image.specs.Questions.{Accepted, open_of, refusal_of}
-use Rattle.image.specs.declared.Opened.TheVariants as O
 use Rattle.image.proofs.Acceptance.{accepted}
 use Rattle.points.specs.Points.{point_in_limits}
 use Rattle.points.proofs.Handed.{handed}
@@ -16,16 +16,16 @@ use Rattle.nearest.proofs.nearest_group.Goals as goal
 
 pub returns-in_default : goal.returns-in_default
 returns-in_default c =
-    let e : open_of c.args.image.now ≡ O.Refused c.refusal_of.result =
-    sym c.find_rows-found.ensures.site.answered ∙ c.in_default.is ∙ ap O.Refused (sym (c.refusal_of.ensures ∙ ap refusal_of c.in_default.is)) in
+    let e : open_of c.args.image.now ≡ Err c.refusal_of.result =
+    sym c.find_rows-found.ensures.site.answered ∙ c.in_default.is ∙ ap Err (sym (c.refusal_of.ensures ∙ ap refusal_of c.in_default.is)) in
     ap nearest_answer (refused_answer c.args.image.now (c.args.x ∷ c.args.y ∷ c.args.z ∷ []) c.refusal_of.result e)
 
 pub nearest_site-requires : goal.nearest_site-requires
 nearest_site-requires c =
-    let ok = (let it : Accepted c.args.image.now × (c.in-Site.h ≡ header_of c.args.image.now) = accepted c.args.image.now c.in-Site.h (sym c.find_rows-found.ensures.site.answered ∙ c.in-Site.is) in it) in
-    (record { accepted = ok.0; header = ok.1; inside = subst T c.in_limits.ensures (subst T (sym c.if-in_limits.true) tt) }, rows_found _ ok.0 (c.find_rows-found.ensures.site.found c.in-Site.h c.in-Site.is))
+    let ok = (let it : Accepted c.args.image.now × (c.in-Ok.h ≡ header_of c.args.image.now) = accepted c.args.image.now c.in-Ok.h (sym c.find_rows-found.ensures.site.answered ∙ c.in-Ok.is) in it) in
+    (record { accepted = ok.0; header = ok.1; inside = subst T c.in_limits.ensures (subst T (sym c.if-in_limits.true) tt) }, rows_found _ ok.0 (c.find_rows-found.ensures.site.found c.in-Ok.h c.in-Ok.is))
 
 pub returns : goal.returns
 returns c =
     ap nearest_answer
-    (past_answer c.args.image.now (c.args.x ∷ c.args.y ∷ c.args.z ∷ []) (let it : Accepted c.args.image.now × (c.in-Site.h ≡ header_of c.args.image.now) = accepted c.args.image.now c.in-Site.h (sym c.find_rows-found.ensures.site.answered ∙ c.in-Site.is) in it).0 (sym (ap point_in_limits (handed c.ranges.x c.ranges.y c.ranges.z)) ∙ sym c.in_limits.ensures ∙ c.if-in_limits.false))
+    (past_answer c.args.image.now (c.args.x ∷ c.args.y ∷ c.args.z ∷ []) (let it : Accepted c.args.image.now × (c.in-Ok.h ≡ header_of c.args.image.now) = accepted c.args.image.now c.in-Ok.h (sym c.find_rows-found.ensures.site.answered ∙ c.in-Ok.is) in it).0 (sym (ap point_in_limits (handed c.ranges.x c.ranges.y c.ranges.z)) ∙ sym c.in_limits.ensures ∙ c.if-in_limits.false))

@@ -9,4 +9,4 @@ returns-in_default c =
     plan_refused c.args.image.now c.refusal_of.result e c.args.starts.now c.args.members.now
 
 pub returns : goal.returns
-returns c = plan_found c.args.image.now (told_yes c.find_rows-found.ensures.site c.in-Site.field-0 c.in-Site.is).0 c.find_rows-found.ensures.site c.args.starts.now c.args.members.now _ _ _ c.write_plan.ensures
+returns c = plan_found c.args.image.now (told_yes c.find_rows-found.ensures.site c.in-Ok.field-0 c.in-Ok.is).0 c.find_rows-found.ensures.site c.args.starts.now c.args.members.now _ _ _ c.write_plan.ensures

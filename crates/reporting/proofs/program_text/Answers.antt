@@ -8,10 +8,10 @@ use Rattle.reporting.proofs.program_text.Goals as goal
 pub returns-then-input-gt65536 : goal.returns-then-input-gt65536
 returns-then-input-gt65536 c = rw (program_long c.args.input.now (length c.args.out.now) c.if-input-gt65536.true) c.put_refusal.ensures
 
-pub returns-in-Written : goal.returns-in-Written
-returns-in-Written c =
+pub returns-in-Ok : goal.returns-in-Ok
+returns-in-Ok c =
     let small : length c.args.out.now < 9223372036854775808 = omega (arith, c.well_formed.1.0.1) in
-    program_written c.args.input.now c.args.out.now c.if-input-gt65536.false _ _ _ small c.in-Written.is c.report-reported.ensures
+    program_written c.args.input.now c.args.out.now c.if-input-gt65536.false _ _ _ small c.in-Ok.is c.report-reported.ensures
 
-pub returns-in-Refused : goal.returns-in-Refused
-returns-in-Refused c = program_refused c.args.input.now c.args.out.now c.if-input-gt65536.false _ _ _ _ _ c.in-Refused.is c.report-reported.ensures c.put_refusal-in-Refused.ensures
+pub returns-in-Err : goal.returns-in-Err
+returns-in-Err c = program_refused c.args.input.now c.args.out.now c.if-input-gt65536.false _ _ _ _ _ c.in-Err.is c.report-reported.ensures c.put_refusal-in-Err.ensures

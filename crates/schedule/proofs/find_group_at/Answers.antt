@@ -6,25 +6,25 @@ use Rattle.schedule.specs.Answers.{scheduled_answer}
 use Rattle.schedule.proofs.Agreement.{in_workday, in_restday}
 use Rattle.schedule.proofs.find_group_at.Goals as goal
 
-pub returns-in-Found : goal.returns-in-Found
-returns-in-Found c =
+pub returns-in-Ok : goal.returns-in-Ok
+returns-in-Ok c =
     (ap scheduled_answer
-    (in_workday _ (sym c.choose-c.ensures ∙ c.in-Workday.is) (sym c.in-Found.is ∙ looked_same _ _ c.find_group-looked.ensures)))
+    (in_workday _ (sym c.choose-c.ensures ∙ c.in-Workday.is) (sym c.in-Ok.is ∙ looked_same _ _ c.find_group-looked.ensures)))
 
-pub returns-in-Refused : goal.returns-in-Refused
-returns-in-Refused c =
+pub returns-in-Err : goal.returns-in-Err
+returns-in-Err c =
     (ap scheduled_answer
-    (in_workday _ (sym c.choose-c.ensures ∙ c.in-Workday.is) (sym c.in-Refused.is ∙ looked_same _ _ c.find_group-looked.ensures)))
+    (in_workday _ (sym c.choose-c.ensures ∙ c.in-Workday.is) (sym c.in-Err.is ∙ looked_same _ _ c.find_group-looked.ensures)))
 
-pub returns-in-Found-looked : goal.returns-in-Found-looked
-returns-in-Found-looked c =
+pub returns-in-Ok-looked : goal.returns-in-Ok-looked
+returns-in-Ok-looked c =
     (ap scheduled_answer
-    (in_restday _ (sym c.choose-c.ensures ∙ c.in-Restday.is) (sym c.in-Found-looked.is ∙ looked_same _ _ c.find_group-looked-in-Restday.ensures)))
+    (in_restday _ (sym c.choose-c.ensures ∙ c.in-Restday.is) (sym c.in-Ok-looked.is ∙ looked_same _ _ c.find_group-looked-in-Restday.ensures)))
 
-pub returns-in-Refused-looked : goal.returns-in-Refused-looked
-returns-in-Refused-looked c =
+pub returns-in-Err-looked : goal.returns-in-Err-looked
+returns-in-Err-looked c =
     (ap scheduled_answer
-    (in_restday _ (sym c.choose-c.ensures ∙ c.in-Restday.is) (sym c.in-Refused-looked.is ∙ looked_same _ _ c.find_group-looked-in-Restday.ensures)))
+    (in_restday _ (sym c.choose-c.ensures ∙ c.in-Restday.is) (sym c.in-Err-looked.is ∙ looked_same _ _ c.find_group-looked-in-Restday.ensures)))
 
 pub returns-in-Neither : goal.returns-in-Neither
 unfolding scheduled_of
