@@ -36,7 +36,7 @@ use Rattle.layout.specs.ForProofs.{image_most}
 use Rattle.writer.specs.Writer.{encoded_of, encoded_answer}
 use Rattle.codes.specs.Codes.{open_code, plan_code, kind_code, role_code, tally_code, nearest_code, report_code}
 use Rattle.refusals.specs.Refusals.{refusal_code}
-use Rattle.table_codes.specs.Codes.{looked_code, scheduled_code, encoded_code}
+use Rattle.table_codes.specs.Codes.{count_code, scheduled_code}
 use Rattle.divanegret.specs.Lossless.{int32, open_macros, plan_macros, role_macros, scores_macros, scheduled_macros, nearest_macros, itself, Taken, taken_by, site_answer, number_only, whole, Lossless}
 use Rattle.rows.specs.declared.Counts.{Counts}
 use Rattle.image.specs.declared.Header.{Header}
@@ -138,7 +138,7 @@ count_taken k room h l =
     let e : min k 9223372036854775807 ≡ k = omega arith in
     success (ap (λ (x : ℕ). pos x ∷ []) e)
 
-looked_taken : (x : Result ℕ Refusal) (room : ℕ) → room < 9223372036854775808 → LookedSmall room x → taken_by itself (looked_code x) ≡ whole (look_answer x)
+looked_taken : (x : Result ℕ Refusal) (room : ℕ) → room < 9223372036854775808 → LookedSmall room x → taken_by itself (count_code x) ≡ whole (look_answer x)
 looked_taken (Ok k) room h small = count_taken k room h small
 looked_taken (Err r) room h small = refusal_taken itself r small
 
@@ -175,7 +175,7 @@ report_taken (Err r) room h small =
     let p : int32 (r.number / 256) ≡ pos 0 = low32 (r.number / 256) 0 (omega (arith, small.number)) (omega arith) in
     negative_taken itself r.number small.some ∙ (λ i. record { number = n i; place = p i; values = [] })
 
-encoded_taken : (x : Result ℕ Refusal) → EncodedSmall x → taken_by itself (encoded_code x) ≡ whole (encoded_answer x)
+encoded_taken : (x : Result ℕ Refusal) → EncodedSmall x → taken_by itself (count_code x) ≡ whole (encoded_answer x)
 encoded_taken (Ok k) small = count_taken k image_most (omega arith) small
 encoded_taken (Err r) small = refusal_taken itself r small
 

@@ -43,7 +43,7 @@ use Rattle.writer.specs.Writer.{encoded_of, encoded_answer}
 use Rattle.codes.specs.Codes.{open_code, plan_code, role_code, tally_code, nearest_code, report_code}
 use Rattle.image.specs.declared.Header.{Header}
 use Rattle.image.specs.declared.Refusal.{Refusal}
-use Rattle.table_codes.specs.Codes.{looked_code, scheduled_code, encoded_code}
+use Rattle.table_codes.specs.Codes.{count_code, scheduled_code}
 
 -- ---- the macros of a success r
 
@@ -112,7 +112,7 @@ pub record Lossless : Type 0 where
   pub role : (s : List ℕ) (v : ℕ) → taken_by role_macros (role_code (known_of s v)) ≡ whole (known_answer (known_of s v))
   pub scores : (s l : List ℕ) → taken_by scores_macros (tally_code (tallied_of s l)) ≡ whole (tally_answer (tallied_of s l))
   pub members : (starts table : List ℕ) (k : ℕ) → length table < 9223372036854775808
-      → taken_by itself (looked_code (looked_of starts table k)) ≡ whole (look_answer (looked_of starts table k))
+      → taken_by itself (count_code (looked_of starts table k)) ≡ whole (look_answer (looked_of starts table k))
   pub scheduled : (t : Time) (w : Window) (k : ℕ) (starts table starts' table' : List ℕ) → length table < entry_limit → length table' < entry_limit
       → (let answer = scheduled_of (choice_of t w) (looked_of starts table k) (looked_of starts' table' k) in
       taken_by scheduled_macros (scheduled_code answer) ≡ whole (scheduled_answer answer))
@@ -121,4 +121,4 @@ pub record Lossless : Type 0 where
   pub report : (s : List ℕ) (room : ℕ) → room < 9223372036854775808
       → taken_by itself (report_code (report_of s room)) ≡ whole (number_only (report_answer (report_of s room)))
   pub written : (x : Parameters) (coords : List ℤ) (ends : List ℕ) (room : ℕ)
-      → taken_by itself (encoded_code (encoded_of x coords ends room)) ≡ whole (encoded_answer (encoded_of x coords ends room))
+      → taken_by itself (count_code (encoded_of x coords ends room)) ≡ whole (encoded_answer (encoded_of x coords ends room))

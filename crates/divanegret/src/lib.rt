@@ -13,7 +13,7 @@ ghost use Rattle.schedule.specs.Schedule.{choice_of, scheduled_of};
 ghost use Rattle.nearest.specs.Nearest.{nearest_of};
 ghost use Rattle.writer.specs.Writer.{encoded_of, buffer_after};
 ghost use Rattle.codes.specs.Codes.{open_code, plan_code, role_code, tally_code, nearest_code, report_code};
-ghost use Rattle.table_codes.specs.Codes.{looked_code, scheduled_code, encoded_code};
+ghost use Rattle.table_codes.specs.Codes.{count_code, scheduled_code};
 
 use layout::Parameters;
 use schedule::{Time, Window};
@@ -61,9 +61,9 @@ pub extern "C" fn dvg_scores(image: &[u8], list: &[u16]) -> i64
 // The count of members of group k.
 #[unsafe(no_mangle)]
 pub extern "C" fn dvg_members(starts: &[u32], members: &[u16], k: usize) -> i64
-    ensures { result ≡ looked_code (looked_of starts.now members.now k) }
+    ensures { result ≡ count_code (looked_of starts.now members.now k) }
 {
-    table_codes::looked_code(lookup::find_group(starts, members, k))
+    table_codes::count_code(lookup::find_group(starts, members, k))
 }
 
 // The count of members of group k in the plan for a time.
@@ -125,7 +125,7 @@ pub extern "C" fn dvg_write(
     ends: &[u16],
     buffer: &mut [u8],
 ) -> i64
-    ensures { (result ≡ encoded_code (encoded_of (record { n = n; m = m; limit = limit; p = p; q = q; mu = mu }) coordinates.now ends.now (length buffer.old))) × (buffer.new ≡ buffer_after (record { n = n; m = m; limit = limit; p = p; q = q; mu = mu }) coordinates.now ends.now buffer.old) }
+    ensures { (result ≡ count_code (encoded_of (record { n = n; m = m; limit = limit; p = p; q = q; mu = mu }) coordinates.now ends.now (length buffer.old))) × (buffer.new ≡ buffer_after (record { n = n; m = m; limit = limit; p = p; q = q; mu = mu }) coordinates.now ends.now buffer.old) }
 {
     let x = Parameters {
         n: n,
@@ -135,5 +135,5 @@ pub extern "C" fn dvg_write(
         q: q,
         mu: mu,
     };
-    table_codes::encoded_code(writer::write(x, coordinates, ends, buffer))
+    table_codes::count_code(writer::write(x, coordinates, ends, buffer))
 }

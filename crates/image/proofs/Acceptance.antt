@@ -53,7 +53,7 @@ module _ (n : ℕ) (bad : ℕ → Bool) (k : ℕ) (next : Result Header Refusal)
   unfolding ask_each
   go_on_each f = go_on (not (any n bad)) k _ next (none_any n bad f)
 
-same : {h g : Header} → Ok g ≡ Ok h → g ≡ h
+same : {h g : Header} → ◌≡◌ {A = Result Header Refusal} (Ok g) (Ok h) → g ≡ h
 same e = cc
 
 -- questions 7 to 10 answer no other header than that of which they were asked

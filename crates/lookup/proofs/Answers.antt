@@ -1,5 +1,5 @@
 -- Two answers of the companion with the same number, place and values are the same answer: a refusal has no values, and a count is its value.
-use Rattle.std.specs.Prelude.{Err, Ok, Result}
+use Rattle.std.specs.Prelude.{ℕ, Err, Ok, Result}
 use mathlib.Core.Path.{◌≡◌, sym, ap}
 use lib.ListN.{get_or}
 use Rattle.image.specs.Answers.{Answer}

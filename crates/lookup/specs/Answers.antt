@@ -3,7 +3,7 @@
 --
 --     look_answer a     the count of the group's members, or the refusal
 --     OneAnswer        the theorem: the number, place and values leave nothing of the answer free (proved in proofs/Answers)
-use Rattle.std.specs.Prelude.{[], ◌∷◌, Err, Ok, Result}
+use Rattle.std.specs.Prelude.{ℕ, [], ◌∷◌, Err, Ok, Result}
 use Rattle.image.specs.declared.Refusal.{Refusal}
 use Rattle.image.specs.Answers.{Answer, refused, given, Injective}
 

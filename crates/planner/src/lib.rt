@@ -18,9 +18,8 @@ pub fn plan(image: &[u8], starts: &mut [u32], members: &mut [u16]) -> Result<Cou
     let mut table = [0u64; sets::TABLE_WORDS];
     let mut cores = [0u64; 8];
     let found = graph::find_rows(image, &mut table, &mut cores);
-    let opened = found.opened;
-    let Ok(_) = opened else {
-        return Err(refusals::refusal_of(opened));
+    let Ok(_) = found.opened else {
+        return Err(refusals::refusal_of(found.opened));
     };
     tables::write_plan(&table, found.groups, starts, members)
 }

@@ -41,18 +41,15 @@ use Rattle.roundtrips.proofs.Same.{same_outcome}
 
 -- ---- the cases of an answer
 
-no_site : {A : Type 0} {h : Header} {q : Refusal} → Ok h ≡ Err q → A
+no_site : {A : Type 0} {h : Header} {q : Refusal} → ◌≡◌ {A = Result Header Refusal} (Ok h) (Err q) → A
 no_site e = let z : ◌≡◌ {A = ℕ} 0 1 = cc in absurd (omega arith)
 
-same_refusal : {q p : Refusal} → Err q ≡ Err p → q ≡ p
+same_refusal : {A : Type 0} {q p : Refusal} → ◌≡◌ {A = Result A Refusal} (Err q) (Err p) → q ≡ p
 same_refusal e = cc
-
-same_no : {q p : Refusal} → Err q ≡ Err p → q ≡ p
-same_no e = cc
 
 only_20 : (q : Refusal) (b : Bool) (k : ℕ) → Err q ≡ cond b (Ok k) (Err (refusal 20)) → q.number ≡ 20
 only_20 q true k e = no_length (sym e)
-only_20 q false k e = ap (λ (p : Refusal). p.number) (same_no e)
+only_20 q false k e = ap (λ (p : Refusal). p.number) (same_refusal e)
 
 -- ---- what is written is read back
 
@@ -117,7 +114,7 @@ module _ (s : List ℕ) (x : Parameters) (coords : List ℤ) (ends : List ℕ) (
 
     image_too : (q : Refusal) → SameOpening s (image_of x coords ends) → r ≡ Err q → (open_of s ≡ Err q) ⊎ (q.number ≡ 20)
     image_too q (inl (_, again)) e = inr (only_20 q (leb _ (length l)) _ (sym e ∙ answered _ again))
-    image_too q (inr (p, _, _, here, again)) e = inl (here ∙ ap Err (same_no (sym (answered _ again) ∙ e)))
+    image_too q (inr (p, _, _, here, again)) e = inl (here ∙ ap Err (same_refusal (sym (answered _ again) ∙ e)))
 
     written_again : Accepted s → (header_for x).len ≤ length l → (r ≡ Ok (header_for x).len) × SameOutcome s (take (header_for x).len l')
     written_again good room =

@@ -4,16 +4,16 @@
 #![tactic(auto)]
 
 ghost use Rattle.std.specs.Prelude.{◌≡◌};
-ghost use Rattle.table_codes.specs.Codes.{looked_code, scheduled_code, encoded_code};
+ghost use Rattle.table_codes.specs.Codes.{count_code, scheduled_code};
 
 use image::Refusal;
 use schedule::Scheduled;
 
-// The count of a group's members, or the refusal.
-pub fn looked_code(looked: Result<usize, Refusal>) -> i64
-    ensures { result ≡ looked_code looked }
+// A count or a length, or the refusal: of the members of a group, and of an image that was written.
+pub fn count_code(counted: Result<usize, Refusal>) -> i64
+    ensures { result ≡ count_code counted }
 {
-    match looked {
+    match counted {
         Ok(count) => refusals::at_most(count as u64, 9223372036854775807) as i64,
         Err(r) => refusals::refusal_code(r),
     }
@@ -29,15 +29,5 @@ pub fn scheduled_code(scheduled: Scheduled) -> i64
         Scheduled::Restday(count) => (1
             + 2 * refusals::at_most(count as u64, 4611686018427387903)) as i64,
         Scheduled::Refused(r) => refusals::refusal_code(r),
-    }
-}
-
-// The image's length, or the refusal.
-pub fn encoded_code(encoded: Result<usize, Refusal>) -> i64
-    ensures { result ≡ encoded_code encoded }
-{
-    match encoded {
-        Ok(len) => refusals::at_most(len as u64, 9223372036854775807) as i64,
-        Err(r) => refusals::refusal_code(r),
     }
 }

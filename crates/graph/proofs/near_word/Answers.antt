@@ -13,7 +13,7 @@ use Rattle.sets.proofs.Bits.{bit_of_none}
 use Rattle.near.specs.Near.{is_near}
 use Rattle.graph.specs.ForProofs.{passes_near}
 use Rattle.graph.proofs.Words.{below_lt, below_first, below_rest}
-use Rattle.graph.proofs.near_word.Goals.{in-Near, in-NotNear}
+use Rattle.graph.proofs.near_word.Goals.{in-Some, in-None}
 use Rattle.graph.proofs.near_word.Goals as goal
 
 bit-small : (b : Bool) → bit b < 2
