@@ -5,7 +5,7 @@
 --     bit_of_first, bit_of_half             bit 0 is the lowest digit; the other bits are those of the half
 --     bit_at_set_same, bit_at_set_other     the words with bit i set
 --     bit_at_clear_same, bit_at_clear_other the words with bit i cleared
---     shl_one                             how the code makes 2 ^ k; stored_with, stored_without: how it sets and clears bit i
+--     shl_one                             how the code makes 2 ^ k; stored_with, stored_without, stored_masked: how it sets and clears bit i
 --     ones_sum, ones_and                  the ones of a word, and of the `and` of two
 --     word_bit, cell_word                 a bit by its word
 use mathlib.Core.Path.{◌≡◌, refl, sym, ap, ap₂, ◌∙◌, subst}
@@ -21,6 +21,9 @@ use lib.Bits.{bit_and, bit_or, bit_xor, differ, and_step, or_step, xor_step, and
 use lib.Count.{ones, ones_step}
 use lib.Arith.{digits_mod, lt-one}
 use lib.Pow.{pow_pos, pow-add, pow-lt, shr_lt, shl-shr, shl_exact}
+use Rattle.std.proofs.lemmas.Nat.{xor_lt}
+use Rattle.std.proofs.lemmas.Nat.Bits.{same_from_bits_below, bit_at_clear_same as masked_same, bit_at_clear_other as masked_other}
+use Rattle.std.specs.Int.{w64}
 use Rattle.sets.specs.Below.{sum}
 use Rattle.sets.specs.Bits.{bit_of, bit_at, cell, with_bit, without_bit}
 use Rattle.sets.proofs.Counting.{sum_cong}
@@ -176,6 +179,21 @@ pub stored_without : (m : List ℕ) (i : ℕ)
     → set m (i / 64) (bit_xor (get_or m (i / 64) 0) (bit_and (get_or m (i / 64) 0) (1 * 2 ^ (i % 64) % 2 ^ 64))) ≡ without_bit m i
 unfolding without_bit
 stored_without m i = rw (shl_one (i % 64) (omega arith))
+
+-- a bit cleared by a mask of all the others
+cleared : (w k : ℕ) → w < 2 ^ 64 → k < 64 → bit_and w (2 ^ 64 - 1 - 1 * 2 ^ k % 2 ^ 64) ≡ bit_xor w (bit_and w (2 ^ k))
+unfolding bit_of
+cleared w k h l =
+    same_from_bits_below 64 _ _ (and_lt 64 _ _ h (omega arith)) (xor_lt 64 _ _ h (and_lt 64 _ _ h (pow-lt l))) (λ j q. pick j q (ℕ_discrete j k))
+  where
+    pick : (j : ℕ) → j < 64 → Dec (j ≡ k) → bit_of (bit_and w (2 ^ 64 - 1 - 1 * 2 ^ k % 2 ^ 64)) j ≡ bit_of (bit_xor w (bit_and w (2 ^ k))) j
+    pick j q (yes e) = rw e (masked_same w64 w k l ∙ sym (bit_of_clear_same w k))
+    pick j q (no n) = masked_other w64 w k l j q n ∙ sym (bit_of_clear_other w k j n)
+
+pub stored_masked : (m : List ℕ) (i : ℕ) → get_or m (i / 64) 0 < 2 ^ 64
+    → set m (i / 64) (bit_and (get_or m (i / 64) 0) (2 ^ 64 - 1 - 1 * 2 ^ (i % 64) % 2 ^ 64)) ≡ without_bit m i
+unfolding without_bit
+stored_masked m i fit = ap (set m (i / 64)) (cleared _ (i % 64) fit (omega arith))
 
 pub sum_first : (n : ℕ) (f : ℕ → ℕ) → sum (suc n) f ≡ f 0 + sum n (λ (k : ℕ). f (suc k))
 unfolding sum

@@ -23,8 +23,9 @@ pub type Table = [u64; TABLE_WORDS];
 pub fn mark(words: &mut [u64], i: usize)
     ensures { words.new ≡ with_bit words.old i }
 {
+    // Not by `get_mut`: no clause says what a write through it leaves in a slice, so no proof closes. The same in `unmark`.
     if i / 64 < words.len() {
-        words[i / 64] = words[i / 64] | (1u64 << (i % 64));
+        words[i / 64] |= 1 << (i % 64);
     }
 }
 
@@ -33,8 +34,7 @@ pub fn unmark(words: &mut [u64], i: usize)
     ensures { words.new ≡ without_bit words.old i }
 {
     if i / 64 < words.len() {
-        let w = words[i / 64];
-        words[i / 64] = w ^ (w & (1u64 << (i % 64)));
+        words[i / 64] &= !(1 << (i % 64));
     }
 }
 
@@ -42,11 +42,9 @@ pub fn unmark(words: &mut [u64], i: usize)
 pub fn has(words: &[u64], i: usize) -> bool
     ensures { result ≡ eqb (bit_at words.now i) 1 }
 {
-    if i / 64 < words.len() {
-        (words[i / 64] >> (i % 64)) % 2 == 1
-    } else {
-        false
-    }
+    words
+        .get(i / 64)
+        .is_some_and(|word| *word >> (i % 64) & 1 == 1)
 }
 
 // The numbers of a word's set bits, ascending. The word is what is left of it: each step takes its lowest set bit.
@@ -73,8 +71,8 @@ impl Iterator for SetBits {
         if self.word == 0 {
             return None;
         }
-        let lowest = u64::trailing_zeros(self.word) as usize;
-        self.word = self.word & (self.word - 1);
+        let lowest = self.word.trailing_zeros() as usize;
+        self.word &= self.word - 1;
         Some(lowest)
     }
 }
@@ -91,14 +89,10 @@ pub fn smaller(a: usize, b: usize) -> usize
 pub fn count_entries(list: &[u16], table: &mut [u16; 512])
     ensures { EntriesCounted list.now table.new }
 {
-    let bound = smaller(list.len(), 65535);
-    *table = [0u16; 512];
-    let mut i: usize = 0;
-    while i < bound {
-        let v = list[i] as usize;
-        if v < 512 {
-            table[v] = table[v] + 1;
+    *table = [0; 512];
+    for v in list.iter().take(65535) {
+        if *v < 512 {
+            table[*v as usize] += 1;
         }
-        i += 1;
     }
 }

@@ -1,23 +1,21 @@
-use Prim.Native.Nat.{ℕ}
-use native.Mathlib.Omega.{arith}
-use mathlib.Core.Path.{ap, ◌∙◌}
-use lib.ListN.{length, get_or, length-set, length-replicate}
-use Rattle.sets.proofs.Entries.{counted_none, counted_more, counted_past, counted_room, counted_all}
-use Rattle.sets.proofs.count_entries.Goals.{then-v-lt512, else-v-lt512}
+use Rattle.std.proofs.Common.{arith, rules}
+use Rattle.sets.proofs.Entries.{counts_none, counts_more, counts_past, counts_room, counts_all, multiplicity_few}
 use Rattle.sets.proofs.count_entries.Goals as goal
 
-pub loop-i-init : goal.loop-i-init
-loop-i-init c = (omega arith, length-replicate {A = ℕ} 512 0, counted_none c.args.list.now)
+pub loop-v-init : goal.loop-v-init
+loop-v-init c = ((tt, tt), search rules, counts_none _ _ _ (cc) (cc))
 
 pub overflow_add-table : goal.overflow_add-table
-overflow_add-table c = omega (arith, counted_room c.args.list.now c.loop-i.table c.loop-i.i c.loop-i.invariant.2 (omega (arith, c.smaller-bound.ensures)) (get_or c.args.list.now c.loop-i.i 0) (omega (arith, c.if-v-lt512.true)))
+overflow_add-table c =
+    omega (arith, multiplicity_few 65535 c.args.list.now c.in-Some.v.now, counts_room _ _ _ _ _ _ _ c.loop-v.invariant.2 c.in-Some.ensures.steps.0 c.in-Some.ensures.steps.1 c.if-v-lt512.true)
 
-pub loop-i-preserved : goal.loop-i-preserved
-loop-i-preserved c =
-    elim c.if-v-lt512.branch [
-      | then-v-lt512 w ↦ (omega arith, ap length w.table-is ∙ length-set c.loop-i.table _ _ ∙ c.loop-i.invariant.1, rw w.table-is (counted_more c.args.list.now c.loop-i.table c.loop-i.i c.loop-i.invariant.2 c.loop-i.invariant.1 (omega (arith, w.if-v-lt512.true))))
-      | else-v-lt512 w ↦ (omega arith, ap length w.table-is ∙ c.loop-i.invariant.1, rw w.table-is (counted_past c.args.list.now c.loop-i.table c.loop-i.i c.loop-i.invariant.2 (omega (arith, w.if-v-lt512.false))))
-    ]
+pub loop-v-preserved-then-v-lt512 : goal.loop-v-preserved-then-v-lt512
+loop-v-preserved-then-v-lt512 c =
+    ((tt, tt), search rules, counts_more _ _ _ _ _ _ _ c.loop-v.invariant.2 c.in-Some.ensures.steps.0 c.in-Some.ensures.steps.1 c.loop-v.invariant.1 c.if-v-lt512.true)
+
+pub loop-v-preserved : goal.loop-v-preserved
+loop-v-preserved c =
+    ((tt, tt), c.loop-v.invariant.1, counts_past _ _ _ _ _ _ _ c.loop-v.invariant.2 c.in-Some.ensures.steps.0 c.in-Some.ensures.steps.1 c.if-v-lt512.false)
 
 pub returns : goal.returns
-returns c = counted_all c.args.list.now c.loop-i.table c.loop-i.i c.loop-i.invariant.2 c.loop-i.invariant.1 (omega (arith, c.smaller-bound.ensures))
+returns c = counts_all _ _ _ _ c.loop-v.invariant.2 c.loop-v.invariant.1 (λ h. (c.in-None.ensures.steps h).0)

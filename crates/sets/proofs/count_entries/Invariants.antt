@@ -1,13 +1,11 @@
--- `sets::count_entries` meets its contract. After i entries place v holds how often v stands among them, which is at most i. The measure is the count of
--- entries left.
-use Prim.Native.Nat.{ℕ, ◌≤◌, ◌<◌, ◌-◌}
-use mathlib.Core.Path.{◌≡◌}
-use lib.ListN.{length, get_or}
-use Rattle.sets.proofs.Entries.{counted_to}
+-- `sets::count_entries` meets its contract: what place v holds, and how often v stands in what is left of the list, make how often it stands in the whole.
+use Rattle.std.proofs.Common.{◌≡◌, length, take}
+use Rattle.sets.specs.Entries.{multiplicity}
+use Rattle.sets.proofs.Entries.{CountsBy}
 use Rattle.sets.proofs.count_entries.Given as goal
 
-abbrev pub invariant-loop-i : goal.invariant-loop-i
-invariant-loop-i l = (l.i ≤ l.bound) × (length l.table ≡ 512) × ((v : ℕ) → v < 512 → get_or l.table v 0 ≡ counted_to l.list l.i v)
-
-abbrev pub decreases-loop-i : goal.decreases-loop-i
-decreases-loop-i l = l.bound - l.i
+abbrev pub invariant-loop-v : goal.invariant-loop-v
+invariant-loop-v l =
+    ((goal.iterator-loop-v).can_next l.v-iterator × (goal.iterator-loop-v).is_finite l.v-iterator)
+    × (length l.table ≡ 512)
+    × CountsBy l.table (multiplicity (take 65535 l.list)) (take l.v-iterator.n l.v-iterator.iter.rest.now)
