@@ -1,18 +1,17 @@
 -- Laws of numbers in bytes.
 --
 --     le_cong, number_cong       equal bytes make equal numbers
---     le_split                   a number of a + b bytes is made of two: how `four` makes four bytes of two, and `read8` eight of four
 --     number_le                  a number whose bytes are all there
---     number_there, number_none  the number, by a test of whether its bytes are there
+--     number_none                a number whose bytes are not all there, by a test that says so
 --     number_slice               a number in a slice of a list
-use Prim.Native.Nat.{ℕ, zero, suc, ◌+◌, ◌*◌, ◌^◌, ◌≤◌, ◌<◌}
+--     number_drop                a number at a place, by what stands from there on
+use Prim.Native.Nat.{ℕ, zero, suc, ◌+◌, ◌*◌, ◌≤◌, ◌<◌}
 use native.Mathlib.Omega.{arith}
-use native.Mathlib.Nat.{add-zero, zero-add, suc-add, mul_assoc, pow-succ'}
+use native.Mathlib.Nat.{add-zero}
 use mathlib.Core.Path.{◌≡◌, refl, sym, ap, ap₂, ◌∙◌}
 use mathlib.Core.Bool.{Bool, true, false, cond}
 use mathlib.Core.List.{List}
 use lib.Dec.{leb, leb→le, le→leb}
-use borrow.Author.Tests.{leb-true}
 use lib.ListN.{length, get_or, take, drop, length-take, length-drop}
 use lib.Seq.{get_or-take, get_or-drop}
 use Rattle.sets.proofs.Tests.{T_true, T-ext}
@@ -29,26 +28,15 @@ le_cong (suc w) s t a b e =
     (le_cong w s t (a + 1) (b + 1)
     (λ i h. ap (λ (x : ℕ). get_or t x 0) (shift b i) ∙ e (suc i) (omega arith) ∙ ap (λ (x : ℕ). get_or s x 0) (sym (shift a i))))
 
-pub le_split : (a b : ℕ) (s : List ℕ) (at : ℕ) → le (a + b) s at ≡ le a s at + 256 ^ a * le b s (at + a)
-le_split zero b s at = ap (λ (w : ℕ). le w s at) (zero-add b) ∙ omega (arith, ap (le b s) (add-zero at))
-le_split (suc a) b s at =
-    let high : 256 ^ suc a * le b s (at + suc a) ≡ 256 * (256 ^ a * le b s (at + 1 + a)) =
-    ap₂ (λ (x y : ℕ). x * le b s y) (pow-succ' 256 a) (sym (shift at a)) ∙ mul_assoc 256 (256 ^ a) (le b s (at + 1 + a)) in
-    ap (λ (w : ℕ). le w s at) (suc-add a b) ∙ omega (arith, le_split a b s (at + 1))
-
 -- where all of its bytes are there
 pub number_le : (w : ℕ) (s : List ℕ) (at : ℕ) → at + w ≤ length s → number w s at ≡ le w s at
 unfolding number
 number_le w s at h = ap (λ (b : Bool). cond b (le w s at) 0) (T_true (leb (at + w) (length s)) (le→leb (at + w) (length s) h))
 
--- by a test of whether they are
-module _ (w : ℕ) (s : List ℕ) (at : ℕ) {b : Bool} (e : b ≡ leb (at + w) (length s)) where
-  pub number_there : b ≡ true → number w s at ≡ le w s at
-  number_there t = number_le w s at (leb-true _ _ (sym e ∙ t))
-
-  pub number_none : b ≡ false → number w s at ≡ 0
-  unfolding number
-  number_none f = ap (λ (x : Bool). cond x (le w s at) 0) (sym e ∙ f)
+-- by a test that says that they are not
+pub number_none : (w : ℕ) (s : List ℕ) (at : ℕ) {b : Bool} (e : b ≡ leb (at + w) (length s)) → b ≡ false → number w s at ≡ 0
+unfolding number
+number_none w s at e f = ap (λ (x : Bool). cond x (le w s at) 0) (sym e ∙ f)
 
 -- the same bytes at two places of two lists that both have them
 pub number_cong : (w : ℕ) (s t : List ℕ) (a b : ℕ) → a + w ≤ length s → b + w ≤ length t
@@ -66,3 +54,18 @@ number_slice w s from n at some h =
     (λ q. le→leb (at + w) (length t) (omega (arith, leb→le (from + at + w) (length s) q, length-take n (drop from s), length-drop from s))))
     (le_cong w s t (from + at) at
     (λ i l. get_or-take n (drop from s) (at + i) 0 (omega arith) ∙ get_or-drop from s (at + i) 0 ∙ ap (λ (x : ℕ). get_or s x 0) (omega arith)))
+
+-- a number at a place is the one at the front of what stands from there on
+nothing : (b : Bool) → cond {A = ℕ} b 0 0 ≡ 0
+nothing true = refl
+nothing false = refl
+
+pub number_drop : (w : ℕ) (s : List ℕ) (at : ℕ) → number w (drop at s) 0 ≡ number w s at
+unfolding number
+number_drop zero s at = nothing (leb (0 + 0) (length (drop at s))) ∙ sym (nothing (leb (at + 0) (length s)))
+number_drop (suc w) s at =
+    ap₂ (λ (b : Bool) (x : ℕ). cond b x 0)
+    (T-ext (leb (0 + suc w) (length (drop at s))) (leb (at + suc w) (length s))
+    (λ q. le→leb (at + suc w) (length s) (omega (arith, leb→le (0 + suc w) (length (drop at s)) q, length-drop at s)))
+    (λ q. le→leb (0 + suc w) (length (drop at s)) (omega (arith, leb→le (at + suc w) (length s) q, length-drop at s))))
+    (le_cong (suc w) s (drop at s) at 0 (λ i l. get_or-drop at s (0 + i) 0 ∙ ap (λ (x : ℕ). get_or s x 0) (omega arith)))

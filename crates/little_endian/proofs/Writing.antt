@@ -21,8 +21,9 @@ use mathlib.Core.Path.{◌≡◌, refl, sym, ap, ap₂, ◌∙◌}
 use mathlib.Core.Bool.{Bool, true, false, cond}
 use mathlib.Core.List.{List, [], ◌∷◌, ◌++◌, append_assoc, append-nil}
 use lib.Dec.{leb}
-use borrow.Author.Tests.{le-leb, leb-true}
-use lib.ListN.{length, get_or, set, take, drop, length-append, take-append-drop, length-drop}
+use borrow.Author.Tests.{le-leb, lt-leb, leb-true}
+use borrow.Rule.Slice.PartMut.{put_mid}
+use lib.ListN.{length, get_or, set, take, drop, drop_of_length-le, length-append, take-append-drop, length-drop}
 use lib.Seq.{sets, sets-eq, length-sets, take-suc, take_all, drop_at, drop-cons, drop-drop, get_or-drop, length-take-le}
 use Rattle.sets.proofs.Writing.{sets_append, sets_one}
 use Rattle.little_endian.specs.Bytes.{le, number, le_bytes, stored, table_bytes, Below, ReadBack}
@@ -73,20 +74,21 @@ le_bytes_more (suc w) v =
     ∙ ap (λ (x : ℕ). le_bytes w (v / 256) ++ (x % 256 ∷ [])) (div-div-eq-div-mul v 256 (256 ^ w) ∙ ap (λ (x : ℕ). v / x) (sym (pow-succ' 256 w))))
 
 -- the loop that writes a number, after i bytes: what it has written, and what is left of the number
-module _ (s : List ℕ) (at v : ℕ) where
-  pub write_none : (v ≡ v / 256 ^ 0) × (s ≡ sets s at (le_bytes 0 v))
+module _ (l : List ℕ) (v : ℕ) where
+  pub write_none : (v ≡ v / 256 ^ 0) × (l ≡ sets l 0 (le_bytes 0 v))
   unfolding le_bytes
   write_none = (omega arith, refl)
 
-  pub write_more : (i rest : ℕ) (s' : List ℕ) → rest ≡ v / 256 ^ i → s' ≡ sets s at (le_bytes i v)
-      → (rest / 256 ≡ v / 256 ^ suc i) × (set s' (at + i) (rest % 256) ≡ sets s at (le_bytes (suc i) v))
-  write_more i rest s' e d = (
-    ap (λ (x : ℕ). x / 256) e ∙ rest_more v i,
-    ap₂ (λ (l : List ℕ) (x : ℕ). set l (at + i) (x % 256)) d e
-        ∙ ap (λ (k : ℕ). set (sets s at (le_bytes i v)) (at + k) (v / 256 ^ i % 256)) (sym (length_le_bytes i v))
-        ∙ sym (sets_one s at (le_bytes i v) (v / 256 ^ i % 256))
-        ∙ ap (sets s at) (sym (le_bytes_more i v)),
-  )
+  pub write_more : (i rest : ℕ) (l' : List ℕ) → rest ≡ v / 256 ^ i → l' ≡ sets l 0 (le_bytes i v)
+      → (rest / 256 ≡ v / 256 ^ (i + 1)) × (set l' i (rest % 256) ≡ sets l 0 (le_bytes (i + 1) v))
+  write_more i rest l' e d =
+      rw (add-one i) (
+        ap (λ (x : ℕ). x / 256) e ∙ rest_more v i,
+        ap₂ (λ (l : List ℕ) (x : ℕ). set l i (x % 256)) d e
+            ∙ ap (λ (k : ℕ). set (sets l 0 (le_bytes i v)) k (v / 256 ^ i % 256)) (sym (zero-add i) ∙ ap (λ (k : ℕ). 0 + k) (sym (length_le_bytes i v)))
+            ∙ sym (sets_one l 0 (le_bytes i v) (v / 256 ^ i % 256))
+            ∙ ap (sets l 0) (sym (le_bytes_more i v)),
+      )
 
 -- ---- a number that was written
 
@@ -140,6 +142,9 @@ pub stored_none : (w : ℕ) (s : List ℕ) (at v : ℕ) → leb (at + w) (length
 unfolding stored
 stored_none w s at v e = ap (λ (b : Bool). cond b (sets s at (le_bytes w v)) s) e
 
+pub stored_past : (w : ℕ) (s : List ℕ) (at v : ℕ) → length s < at + w → stored w s at v ≡ s
+stored_past w s at v h = stored_none w s at v (lt-leb (at + w) (length s) h)
+
 length_stored : (w : ℕ) (s : List ℕ) (at v : ℕ) → length (stored w s at v) ≡ length s
 unfolding stored
 length_stored w s at v = go (leb (at + w) (length s))
@@ -154,6 +159,20 @@ stored_parts w s at v h =
     stored_there w s at v h ∙ sets-eq (le_bytes w v) s at (omega (arith, length_le_bytes w v))
     ∙ ap (λ (k : ℕ). (take at s ++ le_bytes w v) ++ drop (at + k) s) (length_le_bytes w v)
     ∙ append_assoc (take at s) (le_bytes w v) (drop (at + w) s)
+
+-- all bytes written, in the part of the list that begins at the place
+pub stored_part : (w : ℕ) (s : List ℕ) (at v : ℕ) (part : List ℕ) → at + w ≤ length s → part ≡ sets (take w (drop at s)) 0 (le_bytes w v)
+    → put_mid at w s part ≡ stored w s at v
+stored_part w s at v part h e =
+    let long : length (take w (drop at s)) ≡ w = length-take-le w (drop at s) (omega (arith, length-drop at s)) in
+    let none : drop (0 + length (le_bytes w v)) (take w (drop at s)) ≡ [] = drop_of_length-le (take w (drop at s)) (omega (arith, length_le_bytes w v, long)) in
+    let bytes : part ≡ le_bytes w v =
+    e ∙ sets-eq (le_bytes w v) (take w (drop at s)) 0 (omega (arith, length_le_bytes w v, long))
+    ∙ ap (λ (l : List ℕ). le_bytes w v ++ l) none
+    ∙ append-nil (le_bytes w v) in
+    ap (λ (l : List ℕ). take at s ++ (l ++ drop w (drop at s))) bytes
+    ∙ ap (λ (l : List ℕ). take at s ++ (le_bytes w v ++ l)) (drop-drop w at s)
+    ∙ sym (stored_parts w s at v h)
 
 written_read : (w v : ℕ) (s : List ℕ) (at : ℕ) → v < 256 ^ w → at + w ≤ length s → number w (stored w s at v) at ≡ v
 written_read w v s at h l =

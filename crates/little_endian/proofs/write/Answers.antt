@@ -1,25 +1,22 @@
-use Prim.Native.Nat.{ℕ}
-use native.Mathlib.Omega.{arith}
-use native.Mathlib.Numerals.{add-one}
-use mathlib.Core.Path.{sym, ap, ◌∙◌}
-use borrow.Author.Tests.{leb-true}
-use lib.Seq.{sets}
-use Rattle.little_endian.specs.Bytes.{le_bytes}
-use Rattle.little_endian.proofs.Writing.{write_none, write_more, stored_there, stored_none}
+use Rattle.std.proofs.Common.{arith, sym, ℕ, ◌+◌, ◌-◌, ◌≡◌, length-take, length-drop}
+use Rattle.little_endian.proofs.Writing.{write_none, write_more, stored_past, stored_part}
 use Rattle.little_endian.proofs.write.Goals as goal
+use Rattle.little_endian.proofs.write.Goals.{then-s-at-via-then-s-at, then-s-at-via-else-s-at+then-s-at-2}
 
-pub returns-then-not-stands : goal.returns-then-not-stands
-returns-then-not-stands c = sym (stored_none _ _ _ _ (sym c.stands.ensures ∙ c.if-not-stands.true))
+pub loop-byte-init : goal.loop-byte-init
+loop-byte-init c = write_none _ c.args.v
 
-pub loop-i-init : goal.loop-i-init
-loop-i-init c =
-    let n = write_none c.args.s.now c.args.at c.args.v in
-    (omega arith, leb-true _ _ (sym c.stands.ensures ∙ c.if-not-stands.false), n.0, n.1)
+pub loop-byte-preserved : goal.loop-byte-preserved
+loop-byte-preserved c = write_more _ c.args.v c.loop-byte.byte-index c.loop-byte.rest c.loop-byte.byte-items c.loop-byte.invariant.0 c.loop-byte.invariant.1
 
-pub loop-i-preserved : goal.loop-i-preserved
-loop-i-preserved c =
-    let m = write_more c.args.s.now c.args.at c.args.v c.loop-i.i c.loop-i.rest c.loop-i.s c.loop-i.invariant.2 c.loop-i.invariant.3 in
-    rw (add-one c.loop-i.i) (omega arith, c.loop-i.invariant.1, m.0, m.1)
+pub returns-then-s-at : goal.returns-then-s-at
+returns-then-s-at c =
+    sym (stored_past c.args.w c.args.s.now c.args.at c.args.v
+    (elim c.then-s-at.branch [ then-s-at-via-then-s-at w ↦ omega arith | then-s-at-via-else-s-at+then-s-at-2 w ↦ omega arith ]))
 
 pub returns : goal.returns
-returns c = c.loop-i.invariant.3 ∙ ap (λ (k : ℕ). sets c.args.s.now c.args.at (le_bytes k c.args.v)) (omega arith) ∙ sym (stored_there c.args.w c.args.s.now c.args.at c.args.v c.loop-i.invariant.1)
+returns c =
+    let all : c.loop-byte.byte-index ≡ c.args.w = omega (arith, length-take {A = ℕ}, length-drop {A = ℕ}) in
+    let width : c.args.at + c.args.w - c.args.at ≡ c.args.w = omega arith in
+    rw width (stored_part c.args.w c.args.s.now c.args.at c.args.v c.loop-byte.byte-items (omega arith)
+    (rw (all, width) at c.loop-byte.invariant.1))

@@ -1,0 +1,9 @@
+-- A u16 is the number in two bytes, or 0 where fewer stand.
+use Rattle.std.proofs.Common.{arith}
+use Rattle.std.proofs.lemmas.Grind.{common_steps}
+use Rattle.little_endian.specs.Bytes.{number}
+use Rattle.little_endian.proofs.U16LittleEndian.read_first.Goals as goal
+
+pub returns : goal.returns
+unfolding number
+returns c = grind (arith, common_steps)
