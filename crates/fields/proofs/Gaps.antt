@@ -1,18 +1,14 @@
 -- How far apart two numbers are, by their signed difference.
 --
---     abs_sub, abs_gap   the size of the difference of two numbers is their gap
+--     abs_sub            the size of the difference of two numbers is their gap
 --     moved              a difference stays where both numbers are moved by the same
---     small_fits         a difference of two numbers of 32 bits fits 64
-use Prim.Native.Nat.{ℕ, zero, suc, ◌-◌, ◌≤◌, ◌<◌}
+use Prim.Native.Nat.{ℕ, suc, ◌-◌}
 use native.Mathlib.Omega.{arith}
 use mathlib.Core.Path.{◌≡◌, sym, ap, ◌∙◌}
 use mathlib.Core.Logic.{⊎_elim}
 use mathlib.Core.Bool.{Bool, cond}
 use lib.Dec.{ltb, ltb→lt, nltb→le}
 use lib.IntN.{ℤ, pos, negsuc, nat_abs, neg_ℤ, sub_ℕ, ◌+ℤ◌, ◌-ℤ◌, neg_ℤ-neg_ℤ, neg_ℤ-+ℤ, +ℤ_assoc, +ℤ_comm, +ℤ_idl, +ℤ_invl}
-use lib.Signed.{mag}
-use mir.Syntax.{w64}
-use mir.Val.{SFits}
 use Rattle.sets.proofs.Tests.{decide, T_true, T_false}
 use Rattle.fields.specs.Fields.{gap}
 
@@ -23,19 +19,8 @@ abs_sub a b =
     (λ t. ap (λ (c : Bool). nat_abs (cond c (negsuc (b - suc a)) (pos (a - b)))) (T_false (ltb a b) t) ∙ omega (arith, nltb→le a b t))
     (decide (ltb a b))
 
-pub abs_gap : (a b : ℕ) → nat_abs (pos a -ℤ pos b) ≡ gap a b
-abs_gap a zero = omega arith
-abs_gap a (suc b) = abs_sub a (suc b)
-
 pub moved : (x y c : ℤ) → (x -ℤ c) -ℤ (y -ℤ c) ≡ x -ℤ y
 moved x y c =
     let back : neg_ℤ (y -ℤ c) ≡ c +ℤ neg_ℤ y = neg_ℤ-+ℤ y (neg_ℤ c) ∙ ap (λ (w : ℤ). neg_ℤ y +ℤ w) (neg_ℤ-neg_ℤ c) ∙ +ℤ_comm (neg_ℤ y) c in
     +ℤ_assoc x (neg_ℤ c) (neg_ℤ (y -ℤ c))
     ∙ ap (λ (w : ℤ). x +ℤ w) (ap (λ (w : ℤ). neg_ℤ c +ℤ w) back ∙ sym (+ℤ_assoc (neg_ℤ c) c (neg_ℤ y)) ∙ ap (λ (w : ℤ). w +ℤ neg_ℤ y) (+ℤ_invl c) ∙ +ℤ_idl (neg_ℤ y))
-
-mag_le : (d : ℤ) → mag d ≤ nat_abs d
-mag_le (pos n) = omega arith
-mag_le (negsuc n) = omega arith
-
-pub small_fits : (d : ℤ) → nat_abs d < 4294967296 → SFits w64 d
-small_fits d h = record { sfits = omega (arith, mag_le d) }

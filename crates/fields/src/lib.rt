@@ -1,6 +1,6 @@
 // The fields of a site image: a coordinate with its limits and gaps, the ends of an edge, the core size.
 //
-// Every read is of a place that may not be there, and then gives 0, as those of the crate `bytes` do.
+// Every read is of a place that may not be there, and then gives 0, as those of `little_endian` do.
 #![tactic(auto)]
 
 ghost use Rattle.std.specs.Prelude.{◌≡◌, ◌*◌, ◌<◌, pos, nat_abs, ◌-ℤ◌};
@@ -17,6 +17,9 @@ pub const COORDINATE_BYTES: usize = 4;
 pub const COORDINATES: usize = 3;
 
 pub const HANDSET_BYTES: usize = COORDINATE_BYTES * COORDINATES;
+
+// What is added to a coordinate so that it is never negative.
+pub const RAISE: u32 = 1 << 31;
 
 // How far from 0 a coordinate may be.
 const COORDINATE_LIMIT: u32 = 1000000;
@@ -35,14 +38,14 @@ const BLANK_MU: u16 = 4;
 pub fn coordinate(records: &[u8], at: usize) -> u32
     ensures { result ≡ shifted (number coordinate_bytes records.now at) }
 {
-    ((little_endian::read4(records, at) as u64 + 2147483648) % 4294967296) as u32
+    little_endian::read::<u32>(records, at).wrapping_add(RAISE)
 }
 
 // Whether a coordinate, plus 2 ^ 31, is no farther from 2 ^ 31 than the limit.
 pub fn in_limits(x: u32) -> bool
     ensures { result ≡ in_limits x }
 {
-    (2147483648 - COORDINATE_LIMIT <= x) & (x <= 2147483648 + COORDINATE_LIMIT)
+    (RAISE - COORDINATE_LIMIT..=RAISE + COORDINATE_LIMIT).contains(&x)
 }
 
 // The square of a difference of two coordinates.
@@ -50,8 +53,8 @@ fn square(d: i64) -> u64
     requires { nat_abs d < 4294967296 }
     ensures { result ≡ nat_abs d * nat_abs d }
 {
-    let e = if d < 0 { -d } else { d };
-    (e as u64) * (e as u64)
+    let size = d.unsigned_abs();
+    size * size
 }
 
 // The square of how far apart two coordinates, each plus 2 ^ 31, are.
@@ -65,7 +68,7 @@ pub fn squared_gap(a: u32, b: u32) -> u64
 fn signed(records: &[u8], at: usize) -> i64
     ensures { result ≡ pos (shifted (number coordinate_bytes records.now at)) -ℤ pos 2147483648 }
 {
-    coordinate(records, at) as i64 - 2147483648
+    coordinate(records, at) as i64 - RAISE as i64
 }
 
 // The square of how far apart the coordinates at one place of two records are.
@@ -87,8 +90,8 @@ pub fn read_ends(edge: &[u8]) -> Ends
     ensures { result ≡ ends_of edge.now }
 {
     Ends {
-        a: little_endian::read2(edge, 0) as usize,
-        b: little_endian::read2(edge, END_BYTES) as usize,
+        a: little_endian::read::<u16>(edge, 0) as usize,
+        b: little_endian::read::<u16>(edge, END_BYTES) as usize,
     }
 }
 

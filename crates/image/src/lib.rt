@@ -44,16 +44,16 @@ fn read_header(s: &[u8]) -> Header
     ensures { result ≡ header_of s.now }
 {
     Header {
-        n: little_endian::read2(s, 0),
-        m: little_endian::read2(s, 2),
-        handsets: little_endian::read4(s, 4),
-        edges: little_endian::read4(s, 8),
-        len: little_endian::read4(s, 12),
-        limit: little_endian::read8(s, 16),
-        p: little_endian::read2(s, 24),
-        q: little_endian::read2(s, 26),
-        mu: little_endian::read2(s, 28),
-        width: little_endian::read2(s, 30),
+        n: little_endian::read(s, 0),
+        m: little_endian::read(s, 2),
+        handsets: little_endian::read(s, 4),
+        edges: little_endian::read(s, 8),
+        len: little_endian::read(s, 12),
+        limit: little_endian::read(s, 16),
+        p: little_endian::read(s, 24),
+        q: little_endian::read(s, 26),
+        mu: little_endian::read(s, 28),
+        width: little_endian::read(s, 30),
     }
 }
 

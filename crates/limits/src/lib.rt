@@ -39,11 +39,7 @@ pub fn thresholds_fit(limit: u64, p: u64, q: u64, mu: u64) -> bool
 pub fn out_of_limits(handset: &[u8]) -> bool
     ensures { result ≡ out_of_limits handset.now }
 {
-    let mut bad = false;
-    let mut i: usize = 0;
-    while i < fields::COORDINATES {
-        bad = bad | !fields::in_limits(fields::coordinate(handset, fields::COORDINATE_BYTES * i));
-        i += 1;
-    }
-    bad
+    (0..fields::COORDINATES).any(|i| {
+        !fields::in_limits(fields::coordinate(handset, fields::COORDINATE_BYTES * i))
+    })
 }

@@ -6,14 +6,14 @@ pub returns : goal.returns
 unfolding header_of
 returns c =
     λ i. record {
-      n = c.read2.ensures i;
-      m = c.read2-2.ensures i;
-      handsets = c.read4.ensures i;
-      edges = c.read4-2.ensures i;
-      len = c.read4-3.ensures i;
-      limit = c.read8.ensures i;
-      p = c.read2-3.ensures i;
-      q = c.read2-4.ensures i;
-      mu = c.read2-5.ensures i;
-      width = c.read2-6.ensures i;
+      n = c.read.ensures i;
+      m = c.read-2.ensures i;
+      handsets = c.read-3.ensures i;
+      edges = c.read-4.ensures i;
+      len = c.read-5.ensures i;
+      limit = c.read-6.ensures i;
+      p = c.read-7.ensures i;
+      q = c.read-8.ensures i;
+      mu = c.read-9.ensures i;
+      width = c.read-10.ensures i;
     }
