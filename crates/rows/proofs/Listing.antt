@@ -1,6 +1,5 @@
 -- The rows of a table, listed: the members of a row, and of the first rows. Each list grows at its end, a row at a time, as the code goes.
 --
---     select_none                                 nothing passes
 --     in_row rows k v                              row k has v
 --     row_room, row_length, row_small             how many members a row has, and those below a bound
 --     rows_next, rows_length, rows_at             the rows, one more at a time
@@ -12,9 +11,9 @@ use native.Mathlib.Numerals.{add-one}
 use native.Mathlib.Decide.{le_ind}
 use mathlib.Core.Path.{◌≡◌, refl, sym, ap, ◌∙◌}
 use mathlib.Core.Logic.{⊎_elim}
-use mathlib.Core.Bool.{Bool, not}
+use mathlib.Core.Bool.{Bool}
 use mathlib.Core.List.{List, [], ◌∷◌, ◌++◌, append-nil, append_assoc}
-use lib.Dec.{T, eqb}
+use lib.Dec.{eqb}
 use lib.ListN.{length, get_or, length-append, get_or-append}
 use lib.Seq.{get_or_at}
 use Rattle.sets.specs.Below.{bit, select, sum}
@@ -25,11 +24,6 @@ use Rattle.sets.proofs.Selecting.{select_yes, select_no, length_select}
 use Rattle.sets.proofs.Bits.{bit_at_lt}
 use Rattle.community.specs.Tables.{member_table}
 use Rattle.rows.specs.Rows.{row_members, rows_of}
-
-pub select_none : (n : ℕ) (f : ℕ → Bool) → ((v : ℕ) → v < n → T (not (f v))) → select n f ≡ []
-unfolding select
-select_none zero f h = refl
-select_none (suc n) f h = select_no n f (h n (omega arith)) ∙ select_none n f (λ v l. h v (omega arith))
 
 -- ---- the members of a row
 abbrev pub in_row : List ℕ → ℕ → ℕ → Bool

@@ -2,14 +2,15 @@
 -- meets a set. Each goes by a word or by a row at a time, as the code does.
 --
 --     row_in_lem, row_in_past            row k of the 512; none from 512 on; row_listed: of rows that are listed
+--     row_words_most, row_ones           a row has at most eight words; their bits are its members
 --     row_words_in                   the words of row k of the 512 have its members
 --     row_words_lem, row_slice           the words of row k have its members; the slice that the code cuts has them
 --     contains_row, contains_past    a row contains v where its bit is set; it contains nothing from 512 on
 --     times_none, times_more         counting the rows that contain v
 --     found_none, found_more         the handsets in one row or more and in two or more: of no rows, and of one row more
---     meets_none, meets_word         the members of a row in a set: of no words, and of one word more
---     meets_row                      of all eight words
---     first_found, first_none        the first row that meets a set; none does
+--     overlaps_row                   the words of a row overlap those of a set where the row meets it
+--     none_before, none_next         no row so far meets a set: at first, and of one row more
+--     first_found, first_unmet       the first row that meets a set; none does
 use Prim.Native.Nat.{ℕ, zero, suc, ◌+◌, ◌-◌, ◌*◌, ◌/◌, ◌%◌, ◌^◌, ◌≤◌, ◌<◌, min, max}
 use native.Mathlib.Omega.{arith}
 use native.Mathlib.Numerals.{add-one}
@@ -19,24 +20,27 @@ use mathlib.Core.Path.{◌≡◌, refl, sym, ap, ap₂, ◌∙◌, subst}
 use mathlib.Core.Logic.{⊎_elim}
 use mathlib.Core.Bool.{Bool, true, false, ◌&&◌, ◌||◌, not}
 use mathlib.Core.List.{List, [], ◌∷◌, ◌++◌}
-use lib.Bits.{bit_and, bit_or, or_add_and, and_le_l, and_le_r, and_lt}
+use lib.Bits.{bit_and, and_lt}
 use lib.Dec.{T, eqb, leb, eqb→eq, not_T}
-use lib.ListN.{length, get_or, take, drop, drop_of_length-le, get_or-eq_default}
+use lib.ListN.{length, get_or, take, drop, length-take, length-drop, drop_of_length-le, get_or-eq_default}
 use lib.Seq.{get_or-take, get_or-drop}
 use borrow.Author.Tests.{le-leb, ne_eqb}
-use Rattle.sets.specs.Below.{any, bit}
-use Rattle.sets.specs.Bits.{bit_of, bit_at, cell}
+use Rattle.sets.specs.Below.{any, bit, sum}
+use Rattle.sets.specs.Bits.{bit_of, bit_at, Words, cell}
 use Rattle.sets.specs.Rows.{table_words}
-use Rattle.sets.proofs.Tests.{T-ext, T_true, T_false, decide, any_take, any_none, any_cong, eqb_of, eqb_not, and_left, and_right, and_make, find_is, find_none}
-use Rattle.sets.proofs.Counting.{test_bit}
+use Rattle.sets.proofs.Tests.{T-ext, T_true, T_false, decide, any_take, any_none, any_cong, eqb_of, eqb_not, or_comm, first_is, first_none}
+use Rattle.sets.proofs.Counting.{test_bit, sum_cong}
 use Rattle.sets.proofs.Selecting.{select_cong, mem_select, select_mem}
-use Rattle.sets.proofs.Bits.{zeros, bit_at_zeros, bit_at_past, bit_at_lt, bit_of_lt, bit_of_none, bit_of_and, bit_of_or, word_bit, cell_word}
+use Rattle.sets.proofs.Bits.{zeros, bit_at_zeros, bit_at_past, bit_at_lt, bit_of_lt, bit_of_none, bit_of_and, bit_of_or, cell_word}
 use Rattle.sets.proofs.Words.{word_one}
 use Rattle.community.specs.Network.{contains, membership_count}
 use Rattle.community.proofs.Roles.{contains_mem, mem_contains}
-use Rattle.rows.specs.Rows.{row_members, rows_of, row_in, row_words, MembersFound, meets, first_meeting}
-use Rattle.rows.specs.ForProofs.{RowAdded}
-use Rattle.rows.proofs.Listing.{in_row, select_none, rows_next, rows_at, rows_length}
+use Rattle.rows.specs.Rows.{row_members, rows_of, row_in, row_words, MembersFound, meets, first_met}
+use Rattle.rows.specs.ForProofs.{RowAdded, overlaps}
+use Rattle.rows.proofs.Listing.{in_row, row_length, rows_next, rows_at, rows_length}
+use Rattle.std.specs.Prelude.{Some, None}
+use Rattle.sets.proofs.Ascending.{select_none}
+use Rattle.sets.proofs.Front.{bit_first, bit_later}
 
 -- ---- row k
 pub row_in_lem : (rows : List ℕ) (k : ℕ) → k < 512 → row_in rows k ≡ row_members rows k
@@ -57,24 +61,38 @@ cell_at rows k v =
     ap (cell rows k) e ∙ cell_word rows k (v / 64) (v % 64) (omega arith)
 
 -- the words of row k
-row_word_at : (rows : List ℕ) (k i : ℕ) → i < 8 → get_or (row_words rows k) (0 * 8 + i) 0 ≡ get_or rows (k * 8 + i) 0
+row_word : (rows : List ℕ) (k i : ℕ) → i < 8 → get_or (row_words rows k) i 0 ≡ get_or rows (k * 8 + i) 0
 unfolding row_words
-row_word_at rows k i h =
-    let e : 0 * 8 + i ≡ i = omega arith in
+row_word rows k i h =
     let d : 8 * k + i ≡ k * 8 + i = omega arith in
-    ap (λ (j : ℕ). get_or (row_words rows k) j 0) e ∙ get_or-take 8 (drop (8 * k) rows) i 0 h ∙ get_or-drop (8 * k) rows i 0 ∙ ap (λ (j : ℕ). get_or rows j 0) d
+    get_or-take 8 (drop (8 * k) rows) i 0 h ∙ get_or-drop (8 * k) rows i 0 ∙ ap (λ (j : ℕ). get_or rows j 0) d
+
+row_bit : (rows : List ℕ) (k v : ℕ) → v < 512 → bit_at (row_words rows k) v ≡ cell rows k v
+unfolding bit_at
+row_bit rows k v h = ap (λ (w : ℕ). bit_of w (v % 64)) (row_word rows k (v / 64) (omega arith)) ∙ sym (cell_at rows k v)
+
+pub row_words_most : (rows : List ℕ) (k : ℕ) → length (row_words rows k) ≤ 8
+unfolding row_words
+row_words_most rows k = omega (arith, length-take 8 (drop (8 * k) rows))
 
 -- from 512 on there are none
 row_words_past : (rows : List ℕ) (k : ℕ) → length rows ≡ table_words → 512 ≤ k → row_words rows k ≡ []
 unfolding row_words
 row_words_past rows k e h = ap (take 8) (drop_of_length-le rows {i = 8 * k} (omega arith))
 
+row_words_long : (rows : List ℕ) (k : ℕ) → length rows ≡ table_words → k < 512 → length (row_words rows k) ≡ 8
+unfolding row_words
+row_words_long rows k e h = omega (arith, length-take 8 (drop (8 * k) rows), length-drop (8 * k) rows)
+
+sum_empty : (f : ℕ → ℕ) → sum 0 f ≡ 0
+unfolding sum
+sum_empty f = refl
+
 pub row_words_in : (rows : List ℕ) (k : ℕ) → k < 512 → row_members (row_words rows k) 0 ≡ row_in rows k
 unfolding row_members
 row_words_in rows k h =
     select_cong 512 (in_row (row_words rows k) 0) (in_row rows k)
-    (λ v l. ap (λ (b : ℕ). eqb b 1)
-    (cell_at (row_words rows k) 0 v ∙ ap (λ (w : ℕ). bit_of w (v % 64)) (row_word_at rows k (v / 64) (omega arith)) ∙ sym (cell_at rows k v)))
+    (λ v l. ap (λ (b : ℕ). eqb b 1) (ap (bit_at (row_words rows k)) (let z : 0 * 512 + v ≡ v = omega arith in z) ∙ row_bit rows k v l))
     ∙ sym (row_in_lem rows k h)
 
 pub row_words_lem : (rows : List ℕ) (k : ℕ) → length rows ≡ table_words → row_members (row_words rows k) 0 ≡ row_in rows k
@@ -103,6 +121,18 @@ row_slice rows k f p e start past = pick (dec_lt k 512)
     pick (no h) =
         let none : p - f ≡ 0 = omega arith in
         ap (λ (i : ℕ). take i (drop f rows)) none ∙ sym (row_words_past rows k e (omega arith))
+
+-- the bits of the row's words are its members
+pub row_ones : (rows : List ℕ) (k : ℕ) → length rows ≡ table_words → sum (length (row_words rows k) * 64) (bit_at (row_words rows k)) ≡ length (row_in rows k)
+row_ones rows k e = pick (dec_lt k 512)
+  where
+    pick : Dec (k < 512) → sum (length (row_words rows k) * 64) (bit_at (row_words rows k)) ≡ length (row_in rows k)
+    pick (yes h) =
+        ap (λ (n : ℕ). sum (n * 64) (bit_at (row_words rows k))) (row_words_long rows k e h)
+        ∙ sum_cong 512 (bit_at (row_words rows k)) (cell (row_words rows k) 0) (λ v l. ap (bit_at (row_words rows k)) (let z : v ≡ 0 * 512 + v = omega arith in z))
+        ∙ sym (row_length (row_words rows k) 0) ∙ ap length (row_words_in rows k h)
+    pick (no h) =
+        rw (row_words_past rows k e (omega arith), row_in_past rows k (omega arith)) (sum_empty (bit_at []))
 
 -- ---- what a row contains
 pub contains_row : (rows : List ℕ) (k v : ℕ) → v < 512 → contains v (row_members rows k) ≡ in_row rows k v
@@ -193,17 +223,6 @@ module _ (rows : List ℕ) (k : ℕ) (once twice once' twice' : List ℕ) (found
   }
 
 -- ---- the members of a row in a set
-or_assoc : (a b c : Bool) → (a || (b || c)) ≡ ((a || b) || c)
-or_assoc true b c = refl
-or_assoc false b c = refl
-
-any_split : (a b : ℕ) (f : ℕ → Bool) → any (a + b) f ≡ (any b (λ (k : ℕ). f (a + k)) || any a f)
-unfolding any
-any_split a zero f = ap (λ (n : ℕ). any n f) (add-zero a)
-any_split a (suc b) f =
-    ap (λ (n : ℕ). any n f) (add-suc a b) ∙ ap (λ (x : Bool). f (a + b) || x) (any_split a b f)
-    ∙ or_assoc (f (a + b)) (any b (λ (k : ℕ). f (a + k))) (any a f)
-
 -- a word is 0 where it has no bit set
 word_none : (w : ℕ) → w < 2 ^ 64 → eqb w 0 ≡ not (any 64 (λ (k : ℕ). eqb (bit_of w k) 1))
 word_none w h =
@@ -235,84 +254,97 @@ min_both (suc (suc a)) b h l = absurd (omega arith)
 min_both zero (suc (suc b)) h l = absurd (omega arith)
 min_both (suc zero) (suc (suc b)) h l = absurd (omega arith)
 
-or_none : (a b : ℕ) → eqb (bit_or a b) 0 ≡ (eqb a 0 && eqb b 0)
-or_none a b =
-    T-ext (eqb (bit_or a b) 0) (eqb a 0 && eqb b 0)
-    (λ t.
-    let e = eqb→eq (bit_or a b) 0 t in
-    and_make (eqb a 0) (eqb b 0) (eqb_of a 0 (omega (arith, e, or_add_and a b, and_le_l a b, and_le_r a b))) (eqb_of b 0 (omega (arith, e, or_add_and a b, and_le_l a b, and_le_r a b))))
-    (λ t.
-    let x = eqb→eq a 0 (and_left (eqb a 0) (eqb b 0) t) in
-    let y = eqb→eq b 0 (and_right (eqb a 0) (eqb b 0) t) in
-    eqb_of (bit_or a b) 0 (omega (arith, x, y, or_add_and a b)))
+or_assoc : (a b c : Bool) → (a || (b || c)) ≡ ((a || b) || c)
+or_assoc true b c = refl
+or_assoc false b c = refl
 
-not_or : (a b : Bool) → (not a && not b) ≡ not (b || a)
-not_or true true = refl
-not_or true false = refl
-not_or false true = refl
-not_or false false = refl
+any_split : (a b : ℕ) (f : ℕ → Bool) → any (a + b) f ≡ (any b (λ (k : ℕ). f (a + k)) || any a f)
+unfolding any
+any_split a zero f = ap (λ (n : ℕ). any n f) (add-zero a)
+any_split a (suc b) f =
+    ap (λ (n : ℕ). any n f) (add-suc a b) ∙ ap (λ (x : Bool). f (a + b) || x) (any_split a b f)
+    ∙ or_assoc (f (a + b)) (any b (λ (k : ℕ). f (a + k))) (any a f)
+
+any_none_at : (f : ℕ → Bool) → false ≡ any 0 f
+unfolding any
+any_none_at f = refl
 
 not_not : (b : Bool) → not (not b) ≡ b
 not_not true = refl
 not_not false = refl
 
-module _ (set rows : List ℕ) (k : ℕ) where
-  abbrev pub common : ℕ → Bool
-  common v = eqb (bit_at set v) 1 && in_row rows k v
+in_both : List ℕ → List ℕ → ℕ → Bool
+in_both a b v = eqb (bit_at b v) 1 && eqb (bit_at a v) 1
 
-  pub meets_none : eqb 0 0 ≡ not (any 0 common)
-  unfolding any
-  meets_none = refl
+-- two words have a bit in common
+words_share : (x y : ℕ) (a b : List ℕ) → x < 2 ^ 64 → y < 2 ^ 64 → not (eqb (bit_and x y) 0) ≡ any 64 (in_both (x ∷ a) (y ∷ b))
+unfolding in_both
+words_share x y a b h l =
+    ap not (word_none (bit_and x y) (and_lt 64 x y h l)) ∙ not_not (any 64 (λ (k : ℕ). eqb (bit_of (bit_and x y) k) 1))
+    ∙ any_cong 64 _ (in_both (x ∷ a) (y ∷ b))
+    (λ k q.
+    ap (λ (n : ℕ). eqb n 1) (bit_of_and x y k) ∙ min_both (bit_of x k) (bit_of y k) (bit_of_lt x k) (bit_of_lt y k)
+    ∙ ap₂ (λ (m n : ℕ). eqb m 1 && eqb n 1) (sym (bit_first y b k q)) (sym (bit_first x a k q)))
 
-  pub meets_word : (both j : ℕ) → (let x = get_or rows (k * 8 + j) 0 in let y = get_or set j 0 in x < 2 ^ 64 → y < 2 ^ 64 → eqb both 0 ≡ not (any (j * 64) common)
-      → eqb (bit_or both (bit_and x y)) 0 ≡ not (any ((j + 1) * 64) common))
-  meets_word both j h l inv =
-      let x : ℕ = get_or rows (k * 8 + j) 0 in
-      let y : ℕ = get_or set j 0 in
-      let p : (j + 1) * 64 ≡ j * 64 + 64 = omega arith in
-      let same : (i : ℕ) → i < 64 → eqb (bit_of (bit_and x y) i) 1 ≡ common (j * 64 + i) =
-      λ i q.
-      ap (λ (b : ℕ). eqb b 1) (bit_of_and x y i) ∙ min_both (bit_of x i) (bit_of y i) (bit_of_lt x i) (bit_of_lt y i)
-      ∙ ap₂ (λ (a b : ℕ). eqb a 1 && eqb b 1) (sym (word_bit set j i q)) (sym (cell_word rows k j i q)) in
-      or_none both (bit_and x y)
-      ∙ ap₂ ◌&&◌ inv (word_none (bit_and x y) (and_lt 64 x y h l) ∙ ap not (any_cong 64 _ (λ (i : ℕ). common (j * 64 + i)) same))
-      ∙ not_or (any (j * 64) common) (any 64 (λ (i : ℕ). common (j * 64 + i)))
-      ∙ ap not (sym (any_split (j * 64) 64 common) ∙ ap (λ (n : ℕ). any n common) (sym p))
+overlaps_any : (n : ℕ) (a b : List ℕ) → length a ≡ n → length b ≡ n → Words a → Words b → overlaps a b ≡ any (n * 64) (in_both a b)
+unfolding in_both
+overlaps_any zero [] b h l s t = any_none_at (in_both [] b)
+overlaps_any zero (x ∷ a) b h l s t = absurd (omega arith)
+overlaps_any (suc n) [] b h l s t = absurd (omega arith)
+overlaps_any (suc n) (x ∷ a) [] h l s t = absurd (omega arith)
+overlaps_any (suc n) (x ∷ a) (y ∷ b) h l s t =
+    let f : ℕ → Bool = in_both (x ∷ a) (y ∷ b) in
+    let e : 64 + n * 64 ≡ suc n * 64 = omega arith in
+    ap₂ ◌||◌ (words_share x y a b (s 0) (t 0))
+    (overlaps_any n a b (omega arith) (omega arith) (λ i. s (suc i)) (λ i. t (suc i))
+    ∙ any_cong (n * 64) (in_both a b) (λ (k : ℕ). f (64 + k)) (λ k q. ap₂ (λ (m n : ℕ). eqb m 1 && eqb n 1) (sym (bit_later y b k)) (sym (bit_later x a k))))
+    ∙ or_comm (any 64 f) (any (n * 64) (λ (k : ℕ). f (64 + k)))
+    ∙ sym (any_split 64 (n * 64) f) ∙ ap (λ (m : ℕ). any m f) e
 
-  pub meets_row : (both : ℕ) → eqb both 0 ≡ not (any 512 common) → not (eqb both 0) ≡ meets set (row_members rows k)
-  unfolding meets
-  meets_row both e =
-      ap not e ∙ not_not (any 512 common)
-      ∙ any_cong 512 common (λ v. eqb (bit_at set v) 1 && contains v (row_members rows k)) (λ v h. ap (λ (b : Bool). eqb (bit_at set v) 1 && b) (sym (contains_row rows k v h)))
+-- so do a set and the words of a row
+abbrev pub meets_at : List ℕ → List ℕ → ℕ → Bool
+meets_at set rows k = meets set (row_members rows k)
+
+pub overlaps_row : (set rows row : List ℕ) (k : ℕ) → k < 512 → length set ≡ 8 → length rows ≡ table_words → Words set → Words rows → row ≡ row_words rows k
+    → overlaps row set ≡ meets_at set rows k
+unfolding meets in_both
+overlaps_row set rows row k h l e s t is =
+    ap (λ (ws : List ℕ). overlaps ws set) is
+    ∙ overlaps_any 8 (row_words rows k) set (row_words_long rows k e h) l fits s
+    ∙ any_cong 512 (in_both (row_words rows k) set) (λ v. eqb (bit_at set v) 1 && contains v (row_members rows k))
+    (λ v q. ap (λ (b : Bool). eqb (bit_at set v) 1 && b) (ap (λ (n : ℕ). eqb n 1) (row_bit rows k v q) ∙ sym (contains_row rows k v q)))
+  where
+    fits : Words (row_words rows k)
+    fits i = pick (dec_lt i 8)
+      where
+        pick : Dec (i < 8) → get_or (row_words rows k) i 0 < 2 ^ 64
+        pick (yes q) = rw (row_word rows k i q) (t (k * 8 + i))
+        pick (no q) = rw (get_or-eq_default (row_words rows k) 0 {n = i} (omega (arith, row_words_long rows k e h))) (omega arith)
 
 -- ---- the first row that meets a set
-module _ (set rows : List ℕ) (g : ℕ) where
-  abbrev pub meets_at : ℕ → Bool
-  meets_at k = meets set (row_members rows k)
+pub none_before : (f : ℕ → Bool) → T (not (any 0 f))
+unfolding any
+none_before f = tt
 
-  listed : (k : ℕ) → k < g → meets_at k ≡ meets set (get_or (rows_of rows g) k [])
+pub none_next : (f : ℕ → Bool) (k : ℕ) → T (not (any k f)) → f k ≡ false → T (not (any (k + 1) f))
+unfolding any
+none_next f k n e = subst T (sym (ap not (ap (λ (m : ℕ). any m f) (add-one k) ∙ ap (λ (b : Bool). b || any k f) e))) n
+
+module _ (set rows : List ℕ) (g : ℕ) where
+  listed : (k : ℕ) → k < g → meets_at set rows k ≡ meets set (get_or (rows_of rows g) k [])
   listed k h = ap (meets set) (sym (rows_at rows g k h))
 
-  pub first_found : (k : ℕ) → k < g → meets_at k ≡ true → T (not (any k meets_at)) → first_meeting set (rows_of rows g) ≡ k
-  unfolding first_meeting
+  pub first_found : (k : ℕ) → k < g → meets_at set rows k ≡ true → T (not (any k (meets_at set rows))) → first_met set (rows_of rows g) ≡ Some k
+  unfolding first_met
   first_found k h t n =
-      find_is (length (rows_of rows g)) (λ i. meets set (get_or (rows_of rows g) i [])) k (omega (arith, rows_length rows g))
+      first_is (length (rows_of rows g)) (λ i. meets set (get_or (rows_of rows g) i [])) k (omega (arith, rows_length rows g))
       (subst T (sym t ∙ listed k h) tt)
-      (subst T (ap not (any_cong k meets_at (λ i. meets set (get_or (rows_of rows g) i [])) (λ i l. listed i (omega arith)))) n)
+      (subst T (ap not (any_cong k (meets_at set rows) (λ i. meets set (get_or (rows_of rows g) i [])) (λ i l. listed i (omega arith)))) n)
 
-  pub first_none : T (not (any g meets_at)) → first_meeting set (rows_of rows g) ≡ g
-  unfolding first_meeting
-  first_none n =
-      find_none (length (rows_of rows g)) (λ i. meets set (get_or (rows_of rows g) i []))
+  pub first_unmet : T (not (any g (meets_at set rows))) → first_met set (rows_of rows g) ≡ None
+  unfolding first_met
+  first_unmet n =
+      first_none (length (rows_of rows g)) (λ i. meets set (get_or (rows_of rows g) i []))
       (subst T
-      (ap not (any_cong g meets_at (λ i. meets set (get_or (rows_of rows g) i [])) listed ∙ ap (λ (m : ℕ). any m (λ i. meets set (get_or (rows_of rows g) i []))) (sym (rows_length rows g))))
+      (ap not (any_cong g (meets_at set rows) (λ i. meets set (get_or (rows_of rows g) i [])) listed ∙ ap (λ (m : ℕ). any m (λ i. meets set (get_or (rows_of rows g) i []))) (sym (rows_length rows g))))
       n)
-      ∙ rows_length rows g
-
-  pub none_before : T (not (any 0 meets_at))
-  unfolding any
-  none_before = tt
-
-  pub none_next : (k : ℕ) → T (not (any k meets_at)) → meets_at k ≡ false → T (not (any (k + 1) meets_at))
-  unfolding any
-  none_next k n e = subst T (sym (ap not (ap (λ (m : ℕ). any m meets_at) (add-one k) ∙ ap (λ (b : Bool). b || any k meets_at) e))) n

@@ -8,8 +8,9 @@
 --     MembersFound gs a b        the set a has the handsets in at least one of the lists, b those in at least two
 --     meets set l                some number below 512 is in the set and in the list
 --     first_meeting set gs        the number of the first list that meets the set, or the count of lists where none does
-use Rattle.std.specs.Prelude.{ℕ, zero, suc, ◌*◌, Bool, ◌&&◌, List, [], ◌∷◌, ◌++◌, leb, eqb, length, get_or, take, drop}
-use Rattle.sets.specs.Below.{any, select, find}
+--     first_met set gs           the same as an option: None where none meets the set
+use Rattle.std.specs.Prelude.{ℕ, zero, suc, ◌*◌, Bool, ◌&&◌, List, [], ◌∷◌, ◌++◌, Option, leb, eqb, length, get_or, take, drop}
+use Rattle.sets.specs.Below.{any, select, find, first}
 use Rattle.sets.specs.Bits.{bit_at, cell}
 use Rattle.sets.specs.Rows.{SetOf}
 use Rattle.community.specs.Network.{contains, membership_count}
@@ -46,3 +47,7 @@ meets set l = any 512 (λ v. eqb (bit_at set v) 1 && contains v l)
 unfoldable pub first_meeting : List ℕ → List (List ℕ) → ℕ
 unfolding find meets
 first_meeting set gs = find (length gs) (λ k. meets set (get_or gs k []))
+
+unfoldable pub first_met : List ℕ → List (List ℕ) → Option ℕ
+unfolding first meets
+first_met set gs = first (length gs) (λ k. meets set (get_or gs k []))

@@ -4,10 +4,11 @@
 #![tactic(auto)]
 
 ghost use Rattle.std.specs.Prelude.{◌≡◌, ◌≤◌, ◌<◌, min, length};
-ghost use Rattle.sets.specs.Rows.{table_words};
 ghost use Rattle.community.specs.Tables.{member_table};
-ghost use Rattle.rows.specs.Rows.{row_members, rows_of, row_in, row_words, counts_of, meets, first_meeting, MembersFound};
-ghost use Rattle.rows.specs.ForProofs.{RowAdded};
+ghost use Rattle.rows.specs.Rows.{rows_of, row_in, row_words, counts_of, first_met, MembersFound};
+ghost use Rattle.rows.specs.ForProofs.{RowAdded, overlaps};
+
+use sets::{Row, Table};
 
 // The counts of a plan.
 #[derive(Clone, Copy)]
@@ -16,60 +17,44 @@ pub struct Counts {
     pub memberships: usize,
 }
 
-// How many members row k has: the ones of its eight words.
-fn count_ones_of(rows: &[u64], k: usize) -> u32
-    requires { (length rows.now ≡ table_words) × (k < 512) }
-    ensures { result ≡ length (row_members rows.now k) }
+// How many members row k has, the ones of its words; 0 from 512 on.
+pub fn row_size(rows: &Table, k: usize) -> u32
+    ensures { result ≡ length (row_in rows.now k) }
 {
-    let mut n: u32 = 0;
-    let mut j: usize = 0;
-    while j < 8 {
-        n += u64::count_ones(rows[k * 8 + j]);
-        j += 1;
+    let row = row_of(rows, k);
+    let mut n = 0;
+    for word in row {
+        n += word.count_ones();
     }
     n
 }
 
+// Row k: a slice of the table, not a copy. Empty from 512 on.
+pub fn row_of(rows: &Table, k: usize) -> &[u64]
+    ensures { result.now ≡ row_words rows.now k }
+{
+    let first = k.min(512) * 8;
+    let past = k.min(511) * 8 + 8;
+    &rows[first..past]
+}
+
 // How many memberships the first `count` rows have.
-fn count_members(rows: &[u64], count: usize) -> usize
-    requires { (length rows.now ≡ table_words) × (count ≤ 512) }
+fn count_members(rows: &Table, count: usize) -> usize
+    requires { count ≤ 512 }
     ensures { result ≡ length (member_table (rows_of rows.now count)) }
 {
-    let mut total: usize = 0;
-    let mut k: usize = 0;
-    while k < count {
-        let size = count_ones_of(rows, k);
-        total += size as usize;
-        k += 1;
+    let mut total = 0;
+    for k in 0..count {
+        total += row_size(rows, k) as usize;
     }
     total
 }
 
-// How many members row k has; 0 from 512 on.
-pub fn row_size(rows: &[u64; sets::TABLE_WORDS], k: usize) -> u32
-    ensures { result ≡ length (row_in rows.now k) }
-{
-    if k < 512 {
-        return count_ones_of(rows, k);
-    }
-    0
-}
-
-// Row k: a slice of the table, not a copy. Empty from 512 on.
-pub fn row_of(rows: &[u64; sets::TABLE_WORDS], k: usize) -> &[u64]
-    ensures { result.now ≡ row_words rows.now k }
-{
-    let first = sets::smaller(k, 512) * 8;
-    let past = sets::smaller(k, 511) * 8 + 8;
-    let words = &rows[..];
-    &words[first..past]
-}
-
 // The counts of a plan of the first `count` rows.
-pub fn counts_of(rows: &[u64; sets::TABLE_WORDS], count: usize) -> Counts
+pub fn counts_of(rows: &Table, count: usize) -> Counts
     ensures { result ≡ counts_of (rows_of rows.now (min count 512)) }
 {
-    let groups = sets::smaller(count, 512);
+    let groups = count.min(512);
     let memberships = count_members(rows, groups);
     Counts {
         groups,
@@ -78,67 +63,44 @@ pub fn counts_of(rows: &[u64; sets::TABLE_WORDS], count: usize) -> Counts
 }
 
 // Adds row k to the set `once`, and those of it that were in `once` already to the set `twice`.
-fn add_row(rows: &[u64], k: usize, once: &mut [u64], twice: &mut [u64])
-    requires { (length rows.now ≡ table_words) × (k < 512) × (length once.old ≡ 8) × (length twice.old ≡ 8) }
+fn add_row(rows: &Table, k: usize, once: &mut Row, twice: &mut Row)
+    requires { k < 512 }
     ensures { RowAdded rows.now k once.old twice.old once.new twice.new }
 {
-    let mut j: usize = 0;
-    while j < 8 {
+    for j in 0..8 {
         let word = rows[k * 8 + j];
-        twice[j] = twice[j] | (once[j] & word);
-        once[j] = once[j] | word;
-        j += 1;
+        twice[j] |= once[j] & word;
+        once[j] |= word;
     }
 }
 
 // Finds the handsets in at least one of the first `count` rows, and those in at least two; the sets that are lent get these.
-pub fn find_members(
-    rows: &[u64; sets::TABLE_WORDS],
-    count: usize,
-    once: &mut [u64; 8],
-    twice: &mut [u64; 8],
-)
+pub fn find_members(rows: &Table, count: usize, once: &mut Row, twice: &mut Row)
     ensures { MembersFound (rows_of rows.now (min count 512)) once.new twice.new }
 {
-    let groups = sets::smaller(count, 512);
-    *once = [0u64; 8];
-    *twice = [0u64; 8];
-    let mut k: usize = 0;
-    while k < groups {
+    let groups = count.min(512);
+    *once = [0; 8];
+    *twice = [0; 8];
+    for k in 0..groups {
         add_row(rows, k, once, twice);
-        k += 1;
     }
 }
 
-// Whether row k has a member in the set.
-fn row_meets<'a>(rows: &'a [u64], k: usize, set: &'a [u64]) -> bool
-    requires { (length rows.now ≡ table_words) × (k < 512) × (length set.now ≡ 8) }
-    ensures { result ≡ meets set.now (row_members rows.now k) }
+// Whether two sets have a handset in common.
+fn overlaps(a: &[u64], b: &[u64]) -> bool
+    ensures { result ≡ overlaps a.now b.now }
 {
-    let mut both: u64 = 0;
-    let mut j: usize = 0;
-    while j < 8 {
-        both = both | (rows[k * 8 + j] & set[j]);
-        j += 1;
-    }
-    both != 0
+    a.iter().zip(b).any(|(x, y)| x & y != 0)
 }
 
-// The number of the first of the first `count` rows that has a member in the set, or their count where none has.
-pub fn first_meeting<'a>(
-    rows: &'a [u64; sets::TABLE_WORDS],
-    count: usize,
-    set: &'a [u64; 8],
-) -> usize
-    ensures { result ≡ first_meeting set.now (rows_of rows.now (min count 512)) }
+// The number of the first of the first `count` rows that has a member in the set.
+pub fn first_meeting(rows: &Table, count: usize, set: &Row) -> Option<usize>
+    ensures { result ≡ first_met set.now (rows_of rows.now (min count 512)) }
 {
-    let groups = sets::smaller(count, 512);
-    let mut k: usize = 0;
-    while k < groups {
-        if row_meets(rows, k, set) {
-            return k;
+    for k in 0..count.min(512) {
+        if overlaps(row_of(rows, k), set) {
+            return Some(k);
         }
-        k += 1;
     }
-    k
+    None
 }

@@ -19,11 +19,11 @@ use lib.Dec.{T, eqb, eqb→eq, T_not}
 use lib.ListN.{length, get_or}
 use Rattle.sets.specs.Below.{any, find, bit, sum}
 use Rattle.sets.specs.Bits.{bit_of, bit_at, cell}
-use Rattle.sets.proofs.Bits.{bit_at_lt, zeros, bit_at_zeros}
+use Rattle.sets.proofs.Bits.{bit_at_lt}
 use Rattle.sets.proofs.Counting.{bit_true}
 use Rattle.sets.proofs.Tests.{and_make, and_left, and_right, or_left, decide, eqb_of, eqb_not, any_make, none_any, not_any, find_law, find_is, find_none}
 use Rattle.community.proofs.Reachability.{chain_step, chain_meet, chain_least}
-use Rattle.search.specs.ForProofs.{FirstCommon, Joined, Stored, Collected}
+use Rattle.search.specs.ForProofs.{FirstAt, Stored, Collected}
 use Rattle.search.specs.Search.{steps, closure, left_after, found_by, Searched, Sized, SearchCall}
 use Rattle.search.proofs.Growth.{cell_at, sum_less}
 
@@ -186,12 +186,10 @@ search_most {table} {cores} {after} {r} s = pick (ℕ_discrete (length table) 40
 
 -- ---- the loop that makes them
 
-pub record Finding (rows₀ cores rows left : List ℕ) (k u : ℕ) : Type 0 where
-  pub behind : k ≤ u
+pub record Finding (rows₀ cores rows left : List ℕ) (k : ℕ) : Type 0 where
+  pub behind : (v : ℕ) → v < 512 → bit_at left v ≡ 1 → k ≤ v
   pub some_left : (j : ℕ) → j < k → T (any 512 (left_after rows₀ cores j))
-  pub left_size : length left ≡ 8
   pub left_is : (v : ℕ) → v < 512 → bit_at left v ≡ bit (left_after rows₀ cores k v)
-  pub first : FirstCommon left left u
   pub size : length rows ≡ length rows₀
   pub row : (j v : ℕ) → j < k → v < 512 → cell rows j v ≡ bit (found_by rows₀ cores j v)
   pub kept : (i : ℕ) → 8 * k ≤ i → get_or rows i 0 ≡ get_or rows₀ i 0
@@ -201,97 +199,84 @@ cell_same : (ws rows : List ℕ) (x v : ℕ) → v < 512 → get_or ws (x * 8 + 
 cell_same ws rows x v l e = cell_at ws x v l ∙ ap (λ (w : ℕ). bit_of w (v % 64)) e ∙ sym (cell_at rows x v l)
 
 module _ (rows₀ cores : List ℕ) where
-  pub finding_start : (left : List ℕ) (u : ℕ) → Joined cores 0 (zeros 8) left → FirstCommon left left u → Finding rows₀ cores rows₀ left 0 u
-  finding_start left u copy first = record {
-    behind = omega arith;
+  pub finding_start : Finding rows₀ cores rows₀ cores 0
+  finding_start = record {
+    behind = λ v h e. omega arith;
     some_left = λ j h. absurd (omega arith);
-    left_size = copy.size;
-    left_is = λ v h. same v h ∙ left_first rows₀ cores v;
-    first = first;
+    left_is = λ v h. left_first rows₀ cores v;
     size = refl;
     row = λ j v h. absurd (omega arith);
     kept = λ i h. refl;
   }
-    where
-      same : (v : ℕ) → v < 512 → bit_at left v ≡ bit_at cores v
-      same v h =
-          let e : 0 * 512 + v ≡ v = omega arith in
-          omega (arith, copy.bits v h, bit_at_zeros 8 v, ap (bit_at cores) e)
 
-  module _ (rows left : List ℕ) (k u : ℕ) (now : Finding rows₀ cores rows left k u) where
-    finding_left : u < 512 → bit_at left u ≡ 1
-    finding_left h = omega (arith, now.first.found h)
+  module _ (rows left : List ℕ) (k : ℕ) (now : Finding rows₀ cores rows left k) where
+    -- a number that is not in the set is not left
+    gone : (v : ℕ) → v < 512 → min (bit_at left v) (bit_at left v) ≡ 0 → T (not (left_after rows₀ cores k v))
+    gone v l e = bit_none (left_after rows₀ cores k v) (bit_at left v) (now.left_is v l) (omega (arith, e))
 
-    -- no core before u is left
-    gone : (v : ℕ) → v < u → T (not (left_after rows₀ cores k v))
-    gone v l = bit_none (left_after rows₀ cores k v) (bit_at left v) (now.left_is v (omega (arith, now.first.within))) (omega (arith, now.first.before v l))
+    module _ (u : ℕ) (first : FirstAt left left u) (left' set : List ℕ) (col : Collected rows left u left' set) where
+      here : bit_at left u ≡ 1
+      here = omega (arith, first.found)
 
-    module _ (h : u < 512) (left' set : List ℕ) (col : Collected rows left u left' set) where
       is_left : T (left_after rows₀ cores k u)
-      is_left = bit_one (left_after rows₀ cores k u) (bit_at left u) (now.left_is u h) (finding_left h)
+      is_left = bit_one (left_after rows₀ cores k u) (bit_at left u) (now.left_is u first.within) here
 
       smallest : find 512 (left_after rows₀ cores k) ≡ u
-      smallest = find_is 512 (left_after rows₀ cores k) u h is_left (none_any u (left_after rows₀ cores k) gone)
+      smallest = find_is 512 (left_after rows₀ cores k) u first.within is_left (none_any u (left_after rows₀ cores k) (λ v l. gone v (omega (arith, first.within)) (first.before v l)))
 
       -- a core that is left has not been written over: it does not come before u
       same : (x v : ℕ) → x < 512 → v < 512 → bit_at left x ≡ 1 → cell rows x v ≡ cell rows₀ x v
       same x v a b t = go (dec_lt x u)
         where
           go : Dec (x < u) → cell rows x v ≡ cell rows₀ x v
-          go (yes l) = absurd (omega (arith, now.first.before x l, t))
-          go (no d) = cell_same rows rows₀ x v b (now.kept (x * 8 + v / 64) (omega (arith, d, now.behind)))
+          go (yes l) = absurd (omega (arith, first.before x l, t))
+          go (no d) = cell_same rows rows₀ x v b (now.kept (x * 8 + v / 64) (omega (arith, now.behind x a t)))
 
       -- a core that is left after the search comes after u
       later : (x : ℕ) → x < 512 → bit_at left' x ≡ 1 → u < x
       later x l t =
           let other : x ≡ u → ⊥ = λ e. omega (arith, t, col.gone, ap (bit_at left') e) in
           let was : bit_at left x ≡ 1 = omega (arith, col.rest x l other, t, bit_at_lt left x) in
-          let before : x < u → ⊥ = λ q. omega (arith, now.first.before x q, was) in
+          let before : x < u → ⊥ = λ q. omega (arith, first.before x q, was) in
           omega (arith, other, before)
 
       pub finding_falls : sum 512 (bit_at left') < sum 512 (bit_at left)
       finding_falls =
-          sum_less 512 (bit_at left) (bit_at left') u h (λ v l. fewer v l (ℕ_discrete v u)) (omega (arith, col.gone, finding_left h))
+          sum_less 512 (bit_at left) (bit_at left') u first.within (λ v l. fewer v l (ℕ_discrete v u)) (omega (arith, col.gone, here))
         where
           fewer : (v : ℕ) → v < 512 → Dec (v ≡ u) → bit_at left' v ≤ bit_at left v
           fewer v l (yes e) = omega (arith, col.gone, ap (bit_at left') e)
           fewer v l (no d) = omega (arith, col.rest v l d)
 
-      pub finding_on : (after : List ℕ) (u' : ℕ) → length left' ≡ 8 → Stored rows k set after → FirstCommon left' left' u' → Finding rows₀ cores after left' (k + 1) u'
-      finding_on after u' l st first = record {
-        behind = next (dec_lt u' 512);
+      pub finding_on : (after : List ℕ) → Stored rows k set after → Finding rows₀ cores after left' (k + 1)
+      finding_on after st = record {
+        behind = λ v q t. omega (arith, later v q t, now.behind u first.within here);
         some_left = λ j q. some j q (ℕ_discrete j k);
-        left_size = l;
         left_is = λ v q.
-            collected_left rows₀ rows left (left_after rows₀ cores k) now.left_is same u h is_left left' set col v q
+            collected_left rows₀ rows left (left_after rows₀ cores k) now.left_is same u first.within is_left left' set col v q
             ∙ ap bit (sym (left_next rows₀ cores k u v smallest) ∙ ap (λ (x : ℕ). left_after rows₀ cores x v) (sym (add-one k)));
-        first = first;
         size = st.size ∙ now.size;
         row = λ j v q m. row_next j v q m (ℕ_discrete j k);
         kept = λ i q. st.others i (λ e. omega (arith, q, e)) ∙ now.kept i (omega (arith, q));
       }
         where
-          next : Dec (u' < 512) → k + 1 ≤ u'
-          next (yes q) = omega (arith, later u' q (omega (arith, first.found q, bit_at_lt left' u')), now.behind)
-          next (no d) = omega (arith, d, h, now.behind)
-
           some : (j : ℕ) → j < k + 1 → Dec (j ≡ k) → T (any 512 (left_after rows₀ cores j))
-          some j q (yes e) = rw e (any_make 512 (left_after rows₀ cores k) u h is_left)
+          some j q (yes e) = rw e (any_make 512 (left_after rows₀ cores k) u first.within is_left)
           some j q (no d) = now.some_left j (omega (arith, q, d))
 
           row_next : (j v : ℕ) → j < k + 1 → v < 512 → Dec (j ≡ k) → cell after j v ≡ bit (found_by rows₀ cores j v)
           row_next j v q m (yes e) =
               ap (λ (x : ℕ). cell after x v) e ∙ st.row v m
-              ∙ collected_closure rows₀ rows left (left_after rows₀ cores k) now.left_is same u h is_left left' set col v m
+              ∙ collected_closure rows₀ rows left (left_after rows₀ cores k) now.left_is same u first.within is_left left' set col v m
               ∙ ap bit (sym (found_is rows₀ cores k u v smallest))
               ∙ ap (λ (x : ℕ). bit (found_by rows₀ cores x v)) (sym e)
           row_next j v q m (no d) =
               cell_same after rows j v m (st.others (j * 8 + v / 64) (λ e. d (omega (arith, e, m)))) ∙ now.row j v (omega (arith, q, d)) m
 
-    pub finding_end : 512 ≤ u → Searched rows₀ cores rows k
-    finding_end h = record {
+    pub finding_end : ((v : ℕ) → v < 512 → min (bit_at left v) (bit_at left v) ≡ 0) → Searched rows₀ cores rows k
+    finding_end none = record {
       some_left = now.some_left;
-      none_left = none_any 512 (left_after rows₀ cores k) (λ v l. gone v (omega arith));
+      none_left = none_any 512 (left_after rows₀ cores k) (λ v l. gone v l (none v l));
       size = now.size;
       row = now.row;
       kept = now.kept;

@@ -1,23 +1,28 @@
 -- These definitions only serve the proofs; a caller need not believe them.
 -- What the functions inside the crate ensure of sets of eight words and of tables of such rows.
 --
---     FirstCommon a b r              r is the first number in both sets, or 512 where there is none
+--     FirstAt a b i                  i is the first number in both sets
+--     FirstCommon a b r              r is the first number in both sets, or None where there is none
 --     Joined table u s t             t is the set s with row u added
 --     JoinedAll table w b s t        t is the set s with the rows b + k added, for each bit k of the word w
 --     Stored rows k s after          the table `after` has the set s as row k; the words of its other rows are those of rows
 --     Collected table left u ..      the closure of u over the numbers left, and what is left after it
 --     Surveyed g table cores         the two are the similarity relation and the set of cores of the network
-use Rattle.std.specs.Prelude.{ℕ, ◌+◌, ◌-◌, ◌/◌, ◌≤◌, ◌<◌, min, max, ◌≡◌, Bool, List, T, length, get_or}
+use Rattle.std.specs.Prelude.{ℕ, ◌+◌, ◌-◌, ◌/◌, ◌≤◌, ◌<◌, min, max, ◌≡◌, Bool, List, Option, Some, None, T, length, get_or}
 use Rattle.sets.specs.Bits.{bit_of, bit_at, cell}
 use Rattle.sets.specs.Rows.{SetOf, Table}
 use Rattle.community.specs.Network.{Network}
 use Rattle.community.specs.ForProofs.{Sound}
 use Rattle.search.specs.Communities.{similar_in, core_in}
 
-pub record FirstCommon (a b : List ℕ) (r : ℕ) : Type 0 where
-  pub within : r ≤ 512
-  pub before : (k : ℕ) → k < r → min (bit_at a k) (bit_at b k) ≡ 0
-  pub found : r < 512 → min (bit_at a r) (bit_at b r) ≡ 1
+pub record FirstAt (a b : List ℕ) (i : ℕ) : Type 0 where
+  pub within : i < 512
+  pub before : (k : ℕ) → k < i → min (bit_at a k) (bit_at b k) ≡ 0
+  pub found : min (bit_at a i) (bit_at b i) ≡ 1
+
+abbrev pub FirstCommon : List ℕ → List ℕ → Option ℕ → Type 0
+FirstCommon a b (Some i) = FirstAt a b i
+FirstCommon a b None = (k : ℕ) → k < 512 → min (bit_at a k) (bit_at b k) ≡ 0
 
 pub record Joined (table : List ℕ) (u : ℕ) (s t : List ℕ) : Type 0 where
   pub size : length t ≡ 8

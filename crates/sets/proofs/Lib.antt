@@ -7,3 +7,4 @@ pub mod Lowest
 pub mod Words
 pub mod Entries
 pub mod Ascending
+pub mod Front

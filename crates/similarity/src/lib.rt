@@ -11,12 +11,9 @@ ghost use Rattle.similarity.specs.Similarity.{in_both};
 pub fn common(a: &[u64], b: &[u64]) -> u32
     ensures { result ≡ in_both a.now b.now }
 {
-    let words = sets::smaller(sets::smaller(a.len(), b.len()), 8);
-    let mut n: u32 = 0;
-    let mut j: usize = 0;
-    while j < words {
-        n += u64::count_ones(a[j] & b[j]);
-        j += 1;
+    let mut n = 0;
+    for (x, y) in a.iter().zip(b).take(8) {
+        n += (x & y).count_ones();
     }
     n
 }

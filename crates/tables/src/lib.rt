@@ -4,11 +4,10 @@
 // definitions are in specs/Plan.
 #![tactic(auto)]
 
-ghost use Rattle.std.specs.Prelude.{◌≡◌, ◌+◌, ◌≤◌, ◌<◌, min, length};
+ghost use Rattle.std.specs.Prelude.{◌≡◌, ◌+◌, ◌≤◌, ◌<◌, min, length, MatchOption};
 ghost use Rattle.std.proofs.lemmas.List.Edits.{sets};
 ghost use Rattle.community.specs.Network.{contains, community_number, membership_count, role_values};
 ghost use Rattle.community.specs.Tables.{start_table, member_table};
-ghost use Rattle.sets.specs.Rows.{table_words};
 ghost use Rattle.rows.specs.Rows.{row_members, rows_of};
 ghost use Rattle.tables.specs.ForProofs.{word_members};
 ghost use Rattle.tables.specs.Plan.{ask_room, over, table_after, PlanWritten, role_for};
@@ -16,6 +15,7 @@ ghost use Rattle.tables.specs.Plan.{ask_room, over, table_after, PlanWritten, ro
 use community::Role;
 use image::Refusal;
 use rows::Counts;
+use sets::{Row, Table};
 
 // Writes base + k for each set bit k of the word, ascending, from the place `at` on, and gives the place after them. A zero word writes nothing.
 fn write_word(word: u64, base: usize, members: &mut [u16], at: usize) -> usize
@@ -23,44 +23,37 @@ fn write_word(word: u64, base: usize, members: &mut [u16], at: usize) -> usize
     ensures next { result ≡ at + length (word_members base word) }
     ensures written { members.new ≡ sets members.old at (word_members base word) }
 {
-    let mut w = word;
     let mut place = at;
-    while w != 0 {
-        let k = u64::trailing_zeros(w);
-        members[place] = (base + k as usize) as u16;
+    for k in sets::set_bits(word) {
+        members[place] = (base + k) as u16;
         place += 1;
-        w = w & (w - 1);
     }
     place
 }
 
 // Writes the members of row k, ascending, from the place `at` on, and gives the place after them. An empty row writes nothing.
-fn write_row(rows: &[u64], k: usize, members: &mut [u16], at: usize) -> usize
-    requires { (length rows.now ≡ table_words) × (k < 512) × (at + length (row_members rows.now k) ≤ length members.old) }
+fn write_row(rows: &Table, k: usize, members: &mut [u16], at: usize) -> usize
+    requires { (k < 512) × (at + length (row_members rows.now k) ≤ length members.old) }
     ensures next { result ≡ at + length (row_members rows.now k) }
     ensures written { members.new ≡ sets members.old at (row_members rows.now k) }
 {
     let mut place = at;
-    let mut j: usize = 0;
-    while j < 8 {
+    for j in 0..8 {
         place = write_word(rows[k * 8 + j], j * 64, members, place);
-        j += 1;
     }
     place
 }
 
 // Writes both tables of the first `count` rows, from their first places on, and leaves the places after them alone. With no rows the start table gets a 0.
-fn write_tables(rows: &[u64], count: usize, starts: &mut [u32], members: &mut [u16])
-    requires { (length rows.now ≡ table_words) × (count ≤ 512) × (count < length starts.old) × (length (member_table (rows_of rows.now count)) ≤ length members.old) }
+fn write_tables(rows: &Table, count: usize, starts: &mut [u32], members: &mut [u16])
+    requires { (count ≤ 512) × (count < length starts.old) × (length (member_table (rows_of rows.now count)) ≤ length members.old) }
     ensures started { starts.new ≡ over (start_table (rows_of rows.now count)) starts.old }
     ensures written { members.new ≡ over (member_table (rows_of rows.now count)) members.old }
 {
-    let mut place: usize = 0;
-    let mut k: usize = 0;
-    while k < count {
+    let mut place = 0;
+    for k in 0..count {
         starts[k] = place as u32;
         place = write_row(rows, k, members, place);
-        k += 1;
     }
     starts[count] = place as u32;
 }
@@ -94,13 +87,13 @@ fn ask_room(
 
 // Writes both tables of the first `groups` rows where these fit, and nothing where one of them does not.
 fn write_where_it_fits(
-    rows: &[u64],
+    rows: &Table,
     groups: usize,
     memberships: usize,
     starts: &mut [u32],
     members: &mut [u16],
 )
-    requires { (length rows.now ≡ table_words) × (groups ≤ 512) × (memberships ≡ length (member_table (rows_of rows.now groups))) }
+    requires { (groups ≤ 512) × (memberships ≡ length (member_table (rows_of rows.now groups))) }
     ensures started { starts.new ≡ table_after (rows_of rows.now groups) (length starts.old) (length members.old) (start_table (rows_of rows.now groups)) starts.old }
     ensures written { members.new ≡ table_after (rows_of rows.now groups) (length starts.old) (length members.old) (member_table (rows_of rows.now groups)) members.old }
 {
@@ -113,7 +106,7 @@ fn write_where_it_fits(
 
 // The plan of the first `count` rows in both tables, with its counts; or question 11 or 12, which writes nothing.
 pub fn write_plan(
-    rows: &[u64; sets::TABLE_WORDS],
+    rows: &Table,
     count: usize,
     starts: &mut [u32],
     members: &mut [u16],
@@ -128,64 +121,50 @@ pub fn write_plan(
 }
 
 // Whether row k contains v; no row contains 512 or more.
-fn in_row(rows: &[u64], k: usize, v: usize) -> bool
+fn in_row(rows: &Table, k: usize, v: usize) -> bool
     requires { k < 512 }
     ensures { result ≡ contains v (row_members rows.now k) }
 {
-    if v < 512 {
-        return sets::has(rows, k * 512 + v);
-    }
-    false
+    v < 512 && sets::has(rows, k * 512 + v)
 }
 
 // How many of the first `count` rows contain v.
-fn count_containing(rows: &[u64], count: usize, v: usize) -> usize
+fn count_containing(rows: &Table, count: usize, v: usize) -> usize
     requires { count ≤ 512 }
     ensures { result ≡ membership_count v (rows_of rows.now count) }
 {
-    let mut times: usize = 0;
-    let mut k: usize = 0;
-    while k < count {
+    let mut times = 0;
+    for k in 0..count {
         if in_row(rows, k, v) {
             times += 1;
         }
-        k += 1;
     }
     times
 }
 
-// The number of the first of the first `count` rows that contains v, or `count` where none does.
-fn first_containing(rows: &[u64], count: usize, v: usize) -> usize
+// The number of the first of the first `count` rows that contains v.
+fn first_containing(rows: &Table, count: usize, v: usize) -> Option<usize>
     requires { count ≤ 512 }
-    ensures { result ≡ community_number v (rows_of rows.now count) }
+    ensures { MatchOption result (community_number v (rows_of rows.now count) ≡ count) (λ k. community_number v (rows_of rows.now count) ≡ k) }
 {
-    let mut k: usize = 0;
-    while k < count {
+    for k in 0..count {
         if in_row(rows, k, v) {
-            return k;
+            return Some(k);
         }
-        k += 1;
     }
-    k
+    None
 }
 
-// The role of v, from the set of cores and the communities as the first `count` rows.
-pub fn role_in<'a>(
-    cores: &'a [u64; 8],
-    rows: &'a [u64; sets::TABLE_WORDS],
-    count: usize,
-    v: usize,
-) -> Role
+// The role of v, from the set of cores and the communities as the first `count` rows. A core that no row contains gets their count for its group.
+pub fn role_in(cores: &Row, rows: &Table, count: usize, v: usize) -> Role
     ensures { role_values result ≡ role_values (role_for cores.now rows.now (min count 512) v) }
 {
-    let groups = sets::smaller(count, 512);
+    let groups = count.min(512);
     if sets::has(cores, v) {
-        return Role::Core(first_containing(rows, groups, v));
+        return Role::Core(first_containing(rows, groups, v).unwrap_or(groups));
     }
-    let times = count_containing(rows, groups, v);
-    if times == 0 {
-        Role::Outlier
-    } else {
-        Role::Border(times)
+    match count_containing(rows, groups, v) {
+        0 => Role::Outlier,
+        times => Role::Border(times),
     }
 }

@@ -1,6 +1,6 @@
 -- The roles a word of handsets at a time: which bits the four words of a turn have, and what their ones sum up to.
 --
---     none_below, all_below, some_below    the word of the handsets below a bound
+--     all_below, some_below                the word of the handsets below a bound: all 64, or fewer
 --     test ..                              the test of a role, for the handsets below n
 --     WordOf ..                            a word has the handsets of 64 that pass a test
 --     word_core, word_border, word_outlier, word_multiple     the four words of a turn
@@ -50,9 +50,6 @@ mask_bit (suc s) (suc k) =
     same : Dec (k < s) → ltb k s ≡ ltb (suc k) (suc s)
     same (yes h) = lt-ltb k s h ∙ sym (lt-ltb (suc k) (suc s) (omega arith))
     same (no h) = le-ltb k s (omega arith) ∙ sym (le-ltb (suc k) (suc s) (omega arith))
-
-pub none_below : (n j : ℕ) → n ≤ j * 64 → BitsBelow n j 0
-none_below n j h = record { bits = λ k l. bit_of_none k ∙ sym (ap bit (le-ltb (j * 64 + k) n (omega arith))) }
 
 pub all_below : (n j : ℕ) → j * 64 + 64 ≤ n → BitsBelow n j 18446744073709551615
 all_below n j h = record { bits = λ k l. mask_bit 64 k ∙ ap bit (lt-ltb k 64 l) ∙ sym (ap bit (lt-ltb (j * 64 + k) n (omega arith))) }
@@ -204,9 +201,9 @@ SumsTo r n j = record {
   multiple = passed (test is_multiple r n) j;
 }
 
-pub sums_none : (r : ℕ → Role) (n : ℕ) → SumsTo r n 0 ≡ record { cores = 0; borders = 0; outliers = 0; multiple = 0 }
+pub sums_none : (r : ℕ → Role) (n : ℕ) (t : Totals) → (t.cores ≡ 0) × ((t.borders ≡ 0) × ((t.outliers ≡ 0) × (t.multiple ≡ 0))) → t ≡ SumsTo r n 0
 unfolding sum
-sums_none r n = refl
+sums_none r n t e = λ i. record { cores = e.0 i; borders = e.1.0 i; outliers = e.1.1.0 i; multiple = e.1.1.1 i }
 
 pub sums_small : (r : ℕ → Role) (n j : ℕ) → j ≤ 8 → TotalsAtMost (SumsTo r n j) 512
 sums_small r n j h = record {

@@ -9,6 +9,6 @@ use Rattle.rows.proofs.counts_of.Goals as goal
 
 pub returns : goal.returns
 returns c =
-    let g : c.smaller-groups.result ≡ _ = sym (rows_length c.args.rows.now c.smaller-groups.result) ∙ ap (λ (n : ℕ). length (rows_of c.args.rows.now n)) c.smaller-groups.ensures in
-    let m : c.count_members-memberships.result ≡ _ = c.count_members-memberships.ensures ∙ ap (λ (n : ℕ). length (member_table (rows_of c.args.rows.now n))) c.smaller-groups.ensures in
+    let g : c.min-groups.result ≡ _ = sym (rows_length c.args.rows.now c.min-groups.result) ∙ ap (λ (n : ℕ). length (rows_of c.args.rows.now n)) c.min-groups.ensures in
+    let m : c.count_members-memberships.result ≡ _ = c.count_members-memberships.ensures ∙ ap (λ (n : ℕ). length (member_table (rows_of c.args.rows.now n))) c.min-groups.ensures in
     λ i. record { groups = g i; memberships = m i }

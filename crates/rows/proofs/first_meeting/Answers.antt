@@ -1,29 +1,27 @@
-use Prim.Native.Nat.{ℕ}
 use native.Mathlib.Omega.{arith}
-use mathlib.Core.Path.{◌≡◌, sym, ap, ◌∙◌, subst}
+use mathlib.Core.Path.{◌≡◌, sym, ◌∙◌, subst}
 use mathlib.Core.Bool.{not}
+use Prim.Native.Nat.{ℕ, min}
 use lib.Dec.{T}
 use Rattle.sets.specs.Below.{any}
-use Rattle.rows.specs.Rows.{rows_of}
-use Rattle.rows.specs.Rows.{first_meeting}
-use Rattle.rows.proofs.Rows.{meets_at, first_found, first_none, none_before, none_next}
+use Rattle.rows.proofs.Rows.{meets_at, overlaps_row, none_before, none_next, first_found, first_unmet}
 use Rattle.rows.proofs.first_meeting.Goals as goal
 
 pub loop-k-init : goal.loop-k-init
-loop-k-init c = (omega arith, none_before c.args.set.now c.args.rows.now c.smaller-groups.result)
+loop-k-init c = none_before (meets_at c.args.set.now c.args.rows.now)
 
-pub returns-then-row_meets : goal.returns-then-row_meets
-returns-then-row_meets c =
-    sym (ap (λ (n : ℕ). first_meeting c.args.set.now (rows_of c.args.rows.now n)) (sym c.smaller-groups.ensures)
-    ∙ first_found c.args.set.now c.args.rows.now c.smaller-groups.result c.loop-k.k (omega arith) (sym c.row_meets.ensures ∙ c.if-row_meets.true) c.loop-k.invariant.1)
+pub returns-then-overlaps : goal.returns-then-overlaps
+returns-then-overlaps c =
+    let met = overlaps_row c.args.set.now c.args.rows.now _ c.loop-k.k (omega arith) (omega arith) (omega arith) c.fits-set c.fits-rows c.row_of.ensures in
+    sym (first_found c.args.set.now c.args.rows.now (min c.args.count 512) c.loop-k.k (omega arith) (sym met ∙ sym c.overlaps.ensures ∙ c.if-overlaps.true) c.loop-k.invariant)
 
 pub loop-k-preserved : goal.loop-k-preserved
-loop-k-preserved c = (omega arith, none_next c.args.set.now c.args.rows.now c.smaller-groups.result c.loop-k.k c.loop-k.invariant.1 (sym c.row_meets.ensures ∙ c.if-row_meets.false))
+loop-k-preserved c =
+    let met = overlaps_row c.args.set.now c.args.rows.now _ c.loop-k.k (omega arith) (omega arith) (omega arith) c.fits-set c.fits-rows c.row_of.ensures in
+    none_next (meets_at c.args.set.now c.args.rows.now) c.loop-k.k c.loop-k.invariant (sym met ∙ sym c.overlaps.ensures ∙ c.if-overlaps.false)
 
 pub returns : goal.returns
 returns c =
-    let e : c.loop-k.k ≡ c.smaller-groups.result = omega arith in
-    let none : T (not (any c.smaller-groups.result (meets_at c.args.set.now c.args.rows.now c.smaller-groups.result))) =
-    subst (λ (n : ℕ). T (not (any n (meets_at c.args.set.now c.args.rows.now c.smaller-groups.result)))) e c.loop-k.invariant.1 in
-    e ∙ sym (first_none c.args.set.now c.args.rows.now c.smaller-groups.result none)
-    ∙ ap (λ (n : ℕ). first_meeting c.args.set.now (rows_of c.args.rows.now n)) c.smaller-groups.ensures
+    let all : c.loop-k.k ≡ min c.args.count 512 = omega arith in
+    sym (first_unmet c.args.set.now c.args.rows.now (min c.args.count 512)
+    (subst (λ (n : ℕ). T (not (any n (meets_at c.args.set.now c.args.rows.now)))) all c.loop-k.invariant))

@@ -1,5 +1,4 @@
--- `rows::first_meeting` meets its contract. The invariant: none of the rows passed meets the set. The measure is the number of rows left.
-use Prim.Native.Nat.{◌-◌, ◌≤◌}
+-- `rows::first_meeting` meets its contract. The invariant: none of the rows passed meets the set.
 use mathlib.Core.Bool.{not}
 use lib.Dec.{T}
 use Rattle.sets.specs.Below.{any}
@@ -7,7 +6,4 @@ use Rattle.rows.proofs.Rows.{meets_at}
 use Rattle.rows.proofs.first_meeting.Given as goal
 
 abbrev pub invariant-loop-k : goal.invariant-loop-k
-invariant-loop-k l = (l.k ≤ l.groups) × T (not (any l.k (meets_at l.set l.rows l.groups)))
-
-abbrev pub decreases-loop-k : goal.decreases-loop-k
-decreases-loop-k l = l.groups - l.k
+invariant-loop-k l = T (not (any l.k (meets_at l.set l.rows)))

@@ -1,11 +1,37 @@
--- `rows::row_size` meets its contract: below 512 the row's bits are counted, and from 512 on there is none.
-use mathlib.Core.Path.{sym, ap, ◌∙◌}
+use mathlib.Core.Path.{◌≡◌, refl, ap, ◌∙◌}
+use mathlib.Core.List.{List}
+use Prim.Native.Nat.{ℕ, ◌*◌}
+use native.Mathlib.Omega.{arith}
+use lib.Count.{ones-le}
 use lib.ListN.{length}
-use Rattle.rows.proofs.Rows.{row_in_lem, row_in_past}
+use Rattle.sets.specs.Below.{sum}
+use Rattle.sets.specs.Bits.{bit_at}
+use Rattle.sets.proofs.Bits.{word_bit, sum_word}
+use Rattle.rows.proofs.Rows.{row_words_most, row_ones}
 use Rattle.rows.proofs.row_size.Goals as goal
 
-pub returns-then-k-lt512 : goal.returns-then-k-lt512
-returns-then-k-lt512 c = c.count_ones_of.ensures ∙ ap length (sym (row_in_lem c.args.rows.now c.args.k c.if-k-lt512.true))
+pub loop-word-init : goal.loop-word-init
+unfolding sum
+loop-word-init c = (omega arith, refl)
+
+pub overflow_add-n : goal.overflow_add-n
+overflow_add-n c =
+    omega (
+      arith,
+      ones-le 64 _ (c.type_inv.row c.loop-word.word-index).fits,
+      ap length c.row_of-row.ensures,
+      row_words_most c.args.rows.now c.args.k,
+    )
+
+pub loop-word-preserved : goal.loop-word-preserved
+loop-word-preserved c =
+    let row : List ℕ = c.row_of-row.result.now in
+    let i : ℕ = c.loop-word.word-index in
+    let h = (c.type_inv.row i).fits in
+    (omega (arith, ones-le 64 _ h), omega (arith, sum_word (bit_at row) i _ h (word_bit row i)))
 
 pub returns : goal.returns
-returns c = ap length (sym (row_in_past c.args.rows.now c.args.k c.if-k-lt512.false))
+returns c =
+    let e : c.loop-word.word-index ≡ length c.row_of-row.result.now = omega arith in
+    c.loop-word.invariant.1 ∙ ap (λ (i : ℕ). sum (i * 64) (bit_at c.row_of-row.result.now)) e
+    ∙ ap (λ (row : List ℕ). sum (length row * 64) (bit_at row)) c.row_of-row.ensures ∙ row_ones c.args.rows.now c.args.k (omega arith)

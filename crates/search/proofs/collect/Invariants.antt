@@ -6,7 +6,7 @@ use Rattle.search.proofs.Growth.{Growing}
 use Rattle.search.proofs.collect.Given as goal
 
 abbrev pub invariant-loop-w : goal.invariant-loop-w
-invariant-loop-w l = Growing l.table l.initial.left l.u l.set l.left l.w
+invariant-loop-w l = Growing l.table l.initial.left l.u l.set l.left
 
 abbrev pub decreases-loop-w : goal.decreases-loop-w
 decreases-loop-w l = sum 512 (bit_at l.left)

@@ -1,7 +1,6 @@
 -- `tables::write_tables` meets its contract. The invariant: with the present place stored at k, the start table is that of the rows passed, and
--- the member table is theirs. The measure is the number of rows left.
+-- the member table is theirs.
 use mathlib.Core.Path.{◌≡◌}
-use Prim.Native.Nat.{◌-◌, ◌≤◌}
 use lib.ListN.{length, set}
 use lib.Seq.{sets}
 use Rattle.community.specs.Tables.{start_table, member_table}
@@ -9,8 +8,5 @@ use Rattle.rows.specs.Rows.{rows_of}
 use Rattle.tables.proofs.write_tables.Given as goal
 
 abbrev pub invariant-loop-k : goal.invariant-loop-k
-invariant-loop-k l = (l.k ≤ l.count) × (l.place ≡ length (member_table (rows_of l.rows l.k)))
+invariant-loop-k l = (l.place ≡ length (member_table (rows_of l.rows l.k)))
     × (set l.starts l.k l.place ≡ sets l.initial.starts 0 (start_table (rows_of l.rows l.k))) × (l.members ≡ sets l.initial.members 0 (member_table (rows_of l.rows l.k)))
-
-abbrev pub decreases-loop-k : goal.decreases-loop-k
-decreases-loop-k l = l.count - l.k

@@ -1,4 +1,3 @@
--- `tables::write_where_it_fits` meets its contract: where one of the two tests fails the tables are kept, and else they are written.
 -- `tables::write_where_it_fits` meets its contract: its two tests are those of the questions, and where both pass the tables are written.
 use Prim.Native.Nat.{ℕ}
 use mathlib.Core.Path.{ap, ◌≡◌, sym, ap₂, ◌∙◌}
@@ -23,8 +22,8 @@ returns-then-not-fits c =
     let few : Bool = ltb c.args.groups (length c.args.starts.now) in
     let short : Bool = leb c.args.memberships (length c.args.members.now) in
     record {
-      started = sym (tests _ _ _ _ _ c.requires.2 _ _ ∙ room_no _ _ few short (ap not c.if-not-fits.true));
-      written = sym (tests _ _ _ _ _ c.requires.2 _ _ ∙ room_no _ _ few short (ap not c.if-not-fits.true));
+      started = sym (tests _ _ _ _ _ c.requires.1 _ _ ∙ room_no _ _ few short (ap not c.if-not-fits.true));
+      written = sym (tests _ _ _ _ _ c.requires.1 _ _ ∙ room_no _ _ few short (ap not c.if-not-fits.true));
     }
 
 pub returns : goal.returns
@@ -33,6 +32,6 @@ returns c =
     let short : Bool = leb c.args.memberships (length c.args.members.now) in
     let b : (few ≡ true) × (short ≡ true) = room_yes few short (ap not c.if-not-fits.false) in
     record {
-      started = c.write_tables.ensures.started ∙ sym (tests _ _ _ _ _ c.requires.2 _ _ ∙ rw (b.0, b.1));
-      written = c.write_tables.ensures.written ∙ sym (tests _ _ _ _ _ c.requires.2 _ _ ∙ rw (b.0, b.1));
+      started = c.write_tables.ensures.started ∙ sym (tests _ _ _ _ _ c.requires.1 _ _ ∙ rw (b.0, b.1));
+      written = c.write_tables.ensures.written ∙ sym (tests _ _ _ _ _ c.requires.1 _ _ ∙ rw (b.0, b.1));
     }

@@ -1,6 +1,5 @@
--- `totals::add_words` meets its contract. After j turns the totals are those of the first j words, and the set holds the outliers in them. The measure is the number
--- of words left.
-use Prim.Native.Nat.{ℕ, ◌*◌, ◌-◌, ◌≤◌, ◌<◌}
+-- `totals::add_words` meets its contract. After j turns the totals are those of the first j words, and the set holds the outliers in them.
+use Prim.Native.Nat.{ℕ, ◌*◌, ◌<◌}
 use mathlib.Core.Path.{◌≡◌}
 use lib.ListN.{length}
 use Rattle.sets.specs.Below.{bit}
@@ -11,8 +10,5 @@ use Rattle.totals.proofs.Words.{test, SumsTo}
 use Rattle.totals.proofs.add_words.Given as goal
 
 abbrev pub invariant-loop-j : goal.invariant-loop-j
-invariant-loop-j l = (l.j ≤ 8) × (l.totals ≡ SumsTo (set_role l.once l.twice l.cores) l.n l.j) × (length l.outliers ≡ 8)
+invariant-loop-j l = (l.totals ≡ SumsTo (set_role l.once l.twice l.cores) l.n l.j) × (length l.outliers ≡ 8)
     × ((v : ℕ) → v < l.j * 64 → bit_at l.outliers v ≡ bit (test is_outlier (set_role l.once l.twice l.cores) l.n v))
-
-abbrev pub decreases-loop-j : goal.decreases-loop-j
-decreases-loop-j l = 8 - l.j
