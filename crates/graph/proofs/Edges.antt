@@ -13,20 +13,20 @@ use native.Mathlib.Decide.{ℕ_discrete}
 use mathlib.Core.Path.{◌≡◌, refl, sym, ap, ap₂, ◌∙◌, subst}
 use mathlib.Core.Logic.{◌⊎◌, inl, inr, ⊎_elim}
 use mathlib.Core.Bool.{Bool, ◌&&◌, not}
-use mathlib.Core.List.{List}
+use mathlib.Core.List.{List, []}
 use lib.Dec.{T, leb, ltb, eqb, leb→le, le→leb, ltb→lt, lt→ltb, eqb→eq, T_not, not_T}
 use lib.ListN.{length}
 use Rattle.sets.specs.Below.{bit}
-use Rattle.sets.specs.Bits.{bit_of, bit_at, cell, without_bit}
+use Rattle.sets.specs.Bits.{bit_of, bit_at, cell, without_bit, ones_of}
 use Rattle.sets.specs.Rows.{table_words}
 use Rattle.sets.proofs.Tests.{and_make, and_left, and_right, decide, eqb_of}
-use Rattle.sets.proofs.Bits.{bit_of_lt, bit_of_none, bit_at_clear_same, bit_at_clear_other, length_without_bit}
+use Rattle.sets.proofs.Bits.{bit_of_lt, bit_at_clear_same, bit_at_clear_other, length_without_bit}
 use Rattle.sets.proofs.Counting.{bit_true}
-use Rattle.sets.proofs.Lowest.{Lowest, cleared, cleared_lt, cleared_same, cleared_other, cleared_le}
+use Rattle.sets.proofs.Ascending.{Step}
 use Rattle.image.specs.Image.{end_a, end_b, joins}
 use Rattle.image.proofs.Edges.{joins_cases, joins_one, joins_other}
 use Rattle.graph.specs.ForProofs.{WordOf, in_word, Dropped}
-use Rattle.graph.proofs.Words.{lt_or_le, one_true, bit_of_past}
+use Rattle.graph.proofs.Words.{lt_or_le, one_true, bit_of_past, step_sub, ones_end}
 
 -- ---- the edges of a word
 pub in_word_lem : (word base k : ℕ) → T (in_word word base k) → (base ≤ k) × (bit_of word (k - base) ≡ 1)
@@ -114,75 +114,70 @@ dropped_cong f g to from d = record {
 
 -- ---- the edges of a word, one after the other: w has those that are left
 pub record Dropping (edges : List ℕ) (word base : ℕ) (before : List ℕ) (w : ℕ) (after : List ℕ) : Type 0 where
-  pub fits : w < 2 ^ 64
-  pub sub : (i : ℕ) → bit_of w i ≤ bit_of word i
+  pub sub : (i : ℕ) → i < 64 → bit_of w i ≤ bit_of word i
   pub dropped : Dropped edges (λ k. in_word word base k && not (in_word w base k)) before after
 
 module _ (edges : List ℕ) (word base : ℕ) (before : List ℕ) where
-  pub dropping_start : word < 2 ^ 64 → Dropping edges word base before word before
-  dropping_start h = record {
-    fits = h;
-    sub = λ i. le_refl _;
+  pub dropping_start : Dropping edges word base before word before
+  dropping_start = record {
+    sub = λ i h. le_refl _;
     dropped =
         dropped_none edges before (λ k. in_word word base k && not (in_word word base k)) (λ k t.
         T_not (in_word word base k) (and_right (in_word word base k) (not (in_word word base k)) t) (and_left (in_word word base k) (not (in_word word base k)) t));
   }
 
-  pub dropping_bit : {w : ℕ} {after : List ℕ} → Dropping edges word base before w after → (t : ℕ) → bit_of w t ≡ 1 → T (in_word word base (base + t))
-  dropping_bit d t e = word_in_at word base t (omega (arith, d.sub t, e, bit_of_lt word t))
+  -- the edge of the bit taken is one of the word
+  pub dropping_bit : {w t v : ℕ} {after : List ℕ} → Step w t v → Dropping edges word base before w after → T (in_word word base (base + t))
+  dropping_bit {w} {t} s d = word_in_at word base t (omega (arith, d.sub t s.below, s.here, bit_of_lt word t))
 
-  pub dropping_on : {w : ℕ} {after : List ℕ} (t : ℕ) → Lowest w t → end_a edges (base + t) < 512 → end_b edges (base + t) < 512 → length after ≡ table_words
-      → Dropping edges word base before w after
-      → Dropping edges word base before (cleared w)
-      (without_bit (without_bit after (end_a edges (base + t) * 512 + end_b edges (base + t))) (end_b edges (base + t) * 512 + end_a edges (base + t)))
-  dropping_on {w} {after} t low ha hb long d = record {
-    fits = cleared_lt w d.fits;
-    sub = λ i. omega (arith, cleared_le w i, d.sub i);
-    dropped =
-        dropped_then (λ k. in_word word base k && not (in_word w base k)) (eqb (base + t)) (λ k. in_word word base k && not (in_word (cleared w) base k))
-        d.dropped (dropped_one edges after (base + t) ha hb long)
-        (λ k x.
-        let y = and_left (in_word word base k) (not (in_word (cleared w) base k)) x in
-        let n = and_right (in_word word base k) (not (in_word (cleared w) base k)) x in
-        split k y n (ℕ_discrete k (base + t)))
-        (λ k x.
-        let y = and_left (in_word word base k) (not (in_word w base k)) x in
-        let n = and_right (in_word word base k) (not (in_word w base k)) x in
-        and_make (in_word word base k) (not (in_word (cleared w) base k)) y
-        (not_T (in_word (cleared w) base k) (λ z. T_not (in_word w base k) n (less k z))))
-        (λ k x.
-        let p : base + t ≡ k = eqb→eq (base + t) k x in
-        subst (λ (i : ℕ). T (in_word word base i && not (in_word (cleared w) base i))) p
-        (and_make (in_word word base (base + t)) (not (in_word (cleared w) base (base + t))) (dropping_bit d t low.here)
-        (not_T (in_word (cleared w) base (base + t)) (λ z. none (in_word_lem (cleared w) base (base + t) z).1))));
-  }
-    where
-      less : (k : ℕ) → T (in_word (cleared w) base k) → T (in_word w base k)
-      less k z =
-          let p = in_word_lem (cleared w) base k z in
-          word_in w base k p.0 (omega (arith, p.1, cleared_le w (k - base), bit_of_lt w (k - base)))
+  module _ (fits : word < 2 ^ 64) where
+    low_in : (k : ℕ) → T (in_word word base k) → k - base < 64
+    low_in k t = ⊎_elim (λ y. y) (λ y. absurd (omega (arith, (in_word_lem word base k t).1, bit_of_past word (k - base) fits y))) (lt_or_le (k - base) 64)
 
-      none : bit_of (cleared w) (base + t - base) ≡ 1 → ⊥
-      none z =
-          let p : base + t - base ≡ t = omega arith in
-          omega (arith, z, ap (bit_of (cleared w)) p, cleared_same w t low)
+    pub dropping_on : {w t v : ℕ} {after : List ℕ} → Step w t v → end_a edges (base + t) < 512 → end_b edges (base + t) < 512 → length after ≡ table_words
+        → Dropping edges word base before w after
+        → Dropping edges word base before v
+        (without_bit (without_bit after (end_a edges (base + t) * 512 + end_b edges (base + t))) (end_b edges (base + t) * 512 + end_a edges (base + t)))
+    dropping_on {w} {t} {v} {after} s ha hb long d = record {
+      sub = step_sub word s d.sub;
+      dropped =
+          dropped_then (λ k. in_word word base k && not (in_word w base k)) (eqb (base + t)) (λ k. in_word word base k && not (in_word v base k))
+          d.dropped (dropped_one edges after (base + t) ha hb long)
+          (λ k x.
+          split k (and_left (in_word word base k) (not (in_word v base k)) x) (and_right (in_word word base k) (not (in_word v base k)) x) (ℕ_discrete (k - base) t))
+          (λ k x.
+          let y = and_left (in_word word base k) (not (in_word w base k)) x in
+          let n = and_right (in_word word base k) (not (in_word w base k)) x in
+          and_make (in_word word base k) (not (in_word v base k)) y
+          (not_T (in_word v base k) (λ z. T_not (in_word w base k) n (less k y z (ℕ_discrete (k - base) t)))))
+          (λ k x.
+          let p : base + t ≡ k = eqb→eq (base + t) k x in
+          subst (λ (i : ℕ). T (in_word word base i && not (in_word v base i))) p
+          (and_make (in_word word base (base + t)) (not (in_word v base (base + t))) (dropping_bit s d)
+          (not_T (in_word v base (base + t)) (λ z. none (in_word_lem v base (base + t) z).1))));
+    }
+      where
+        less : (k : ℕ) → T (in_word word base k) → T (in_word v base k) → Dec (k - base ≡ t) → T (in_word w base k)
+        less k y z (yes e) = absurd (omega (arith, (in_word_lem v base k z).1, ap (bit_of v) e, s.gone))
+        less k y z (no n) = let p = in_word_lem v base k z in word_in w base k p.0 (sym (s.same (k - base) (low_in k y) n) ∙ p.1)
 
-      split : (k : ℕ) → T (in_word word base k) → T (not (in_word (cleared w) base k)) → Dec (k ≡ base + t)
-          → T (in_word word base k && not (in_word w base k)) ⊎ T (eqb (base + t) k)
-      split k y n (yes p) = inr (eqb_of (base + t) k (sym p))
-      split k y n (no d) =
-          inl (and_make (in_word word base k) (not (in_word w base k)) y (not_T (in_word w base k) (λ z.
-          let p = in_word_lem w base k z in
-          T_not (in_word (cleared w) base k) n
-          (word_in (cleared w) base k p.0 (cleared_other w t low (k - base) (λ q. d (omega (arith, q, p.0))) ∙ p.1)))))
+        none : bit_of v (base + t - base) ≡ 1 → ⊥
+        none z = let p : base + t - base ≡ t = omega arith in omega (arith, z, ap (bit_of v) p, s.gone)
 
-  pub dropping_end : {w : ℕ} {after : List ℕ} → w ≡ 0 → Dropping edges word base before w after → Dropped edges (in_word word base) before after
-  dropping_end {w} z d =
-      dropped_cong (λ k. in_word word base k && not (in_word w base k)) (in_word word base)
-      (λ k t. and_left (in_word word base k) (not (in_word w base k)) t)
-      (λ k t. and_make (in_word word base k) (not (in_word w base k)) t (not_T (in_word w base k) (λ y.
-      absurd (omega (arith, (in_word_lem w base k y).1, ap (λ (x : ℕ). bit_of x (k - base)) z, bit_of_none (k - base))))))
-      d.dropped
+        split : (k : ℕ) → T (in_word word base k) → T (not (in_word v base k)) → Dec (k - base ≡ t)
+            → T (in_word word base k && not (in_word w base k)) ⊎ T (eqb (base + t) k)
+        split k y n (yes e) = inr (eqb_of (base + t) k (omega (arith, e, (in_word_lem word base k y).0)))
+        split k y n (no e) =
+            inl (and_make (in_word word base k) (not (in_word w base k)) y (not_T (in_word w base k) (λ z.
+            let p = in_word_lem w base k z in T_not (in_word v base k) n (word_in v base k p.0 (s.same (k - base) (low_in k y) e ∙ p.1)))))
+
+    pub dropping_end : {w : ℕ} {after : List ℕ} → ones_of w ≡ [] → Dropping edges word base before w after → Dropped edges (in_word word base) before after
+    dropping_end {w} none d =
+        dropped_cong (λ k. in_word word base k && not (in_word w base k)) (in_word word base)
+        (λ k t. and_left (in_word word base k) (not (in_word w base k)) t)
+        (λ k t. and_make (in_word word base k) (not (in_word w base k)) t (not_T (in_word w base k) (λ y.
+        absurd (omega (arith, (in_word_lem w base k y).1, ones_end w none (k - base) (low_in k t))))))
+        d.dropped
 
 -- ---- the edges of the words of a set
 module _ (w j : ℕ) (f : ℕ → Bool) (h : w < 2 ^ 64) (t : WordOf w (λ i. f (64 * j + i))) where

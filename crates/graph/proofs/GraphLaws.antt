@@ -12,7 +12,7 @@
 --     edges_ready, near_ready, dissimilar_ready     its edges and those of the two sets have their records and ends
 --     network_of_site, neighbours_kept, neighbours_drawn, neighbours_hold         the first step: the tables hold the network of the site
 --     surveyed, found_in           the second step and the search, for any network that the tables hold
---     site_no, site_yes, groups_are     the outcome of a call
+--     groups_are, site_found       the outcome of a call
 use Rattle.std.specs.Prelude.{Err, Ok, Result}
 use Prim.Native.Nat.{ℕ, ◌+◌, ◌*◌, ◌-◌, ◌/◌, ◌%◌, ◌≤◌, ◌<◌, min}
 use native.Mathlib.Omega.{arith}
@@ -51,7 +51,8 @@ use Rattle.search.specs.ForProofs.{Surveyed}
 use Rattle.search.specs.Search.{SearchCall}
 use Rattle.search.proofs.Communities.{search_grouped}
 use Rattle.graph.specs.Graph.{edge_words, EdgeSet, neighbour_in, ends_near, is_near_edge, near_edges, NearCounts, Groups, SiteFound}
-use Rattle.graph.specs.ForProofs.{HasEnds, passes_near, Dropped, enough, enough_at, OfSite, Drawn, Holds, FoundIn, Neighbours, NeighboursRead}
+use Rattle.graph.specs.declared.SiteGroups.{SiteGroups}
+use Rattle.graph.specs.ForProofs.{HasEnds, passes_near, Dropped, enough, enough_at, OfSite, Drawn, DrawnAfter, Holds, FoundIn, GroupsFound, Neighbours, NeighboursRead}
 use Rattle.graph.proofs.Words.{set_passes, passes_set}
 use Rattle.graph.proofs.Edges.{dropped_cong}
 
@@ -391,33 +392,32 @@ module _ (s : List ℕ) (h : Header) (ok : Accepted s) (e : h ≡ header_of s) w
   handset_slice_length = ap length (handset_slice_is s h e) ∙ handsets_length s ok.header
 
   -- the near test of an edge by the records
-  edge_is_near : (k : ℕ) → k < edge_count s → passes_near (handset_slice s h) (edge_slice s h) h.limit k ≡ ends_near s (network s) k
+  edge_is_near : (k : ℕ) → k < edge_count s → passes_near (handset_records s) (edge_records s) h.limit k ≡ ends_near s (network s) k
   unfolding neighbour
   edge_is_near k l =
-      ap₂ (λ (hs es : List ℕ). passes_near hs es h.limit k) (handset_slice_is s h e) (edge_slice_is s h e)
-      ∙ ap (λ (x : ℕ). passes_near (handset_records s) (edge_records s) x k) read.limit_is ∙ ap is_near (sym (edge_proximity_lem s ok k l))
+      ap (λ (x : ℕ). passes_near (handset_records s) (edge_records s) x k) read.limit_is ∙ ap is_near (sym (edge_proximity_lem s ok k l))
 
   passed_is : (f : Bool → Bool) (k : ℕ)
-      → (ltb k h.m && f (passes_near (handset_slice s h) (edge_slice s h) h.limit k)) ≡ (ltb k (edge_count s) && f (ends_near s (network s) k))
+      → (ltb k h.m && f (passes_near (handset_records s) (edge_records s) h.limit k)) ≡ (ltb k (edge_count s) && f (ends_near s (network s) k))
   passed_is f k =
-      ap (λ (m : ℕ). ltb k m && f (passes_near (handset_slice s h) (edge_slice s h) h.limit k)) read.m_is
+      ap (λ (m : ℕ). ltb k m && f (passes_near (handset_records s) (edge_records s) h.limit k)) read.m_is
       ∙ ⊎_elim
       (λ y. ap (λ (b : Bool). ltb k (edge_count s) && f b) (edge_is_near k (ltb→lt k (edge_count s) y)))
       (λ n. rw (T_false (ltb k (edge_count s)) n))
       (decide (ltb k (edge_count s)))
 
   pub neighbours_kept : {near ws after sizes : List ℕ} → Table ws (related s)
-      → EdgeSet near (λ k. ltb k h.m && passes_near (handset_slice s h) (edge_slice s h) h.limit k)
-      → Dropped (edge_slice s h) (λ k. ltb k h.m && not (passes_near (handset_slice s h) (edge_slice s h) h.limit k)) ws after
+      → EdgeSet near (λ k. ltb k h.m && passes_near (handset_records s) (edge_records s) h.limit k)
+      → Dropped (edge_records s) (λ k. ltb k h.m && not (passes_near (handset_records s) (edge_records s) h.limit k)) ws after
       → Counted after sizes → Neighbours s near after sizes
   neighbours_kept {near} {ws} {after} t set d c = record {
     near_set = record { size = set.size; bits = λ k l. set.bits k l ∙ ap bit (passed_is (λ b. b) k) };
     table =
         neighbour_table s ok t
-        (dropped_cong (λ k. ltb k h.m && not (passes_near (handset_slice s h) (edge_slice s h) h.limit k)) (far_edge s ok)
+        (dropped_cong (λ k. ltb k h.m && not (passes_near (handset_records s) (edge_records s) h.limit k)) (far_edge s ok)
         (λ k x. subst (λ (b : Bool). T b) (passed_is not k) x)
         (λ k x. subst (λ (b : Bool). T b) (sym (passed_is not k)) x)
-        (subst (λ (records : List ℕ). Dropped records (λ k. ltb k h.m && not (passes_near (handset_slice s h) (edge_slice s h) h.limit k)) ws after) (edge_slice_is s h e) d));
+        d);
     counted = c;
   }
 
@@ -435,20 +435,18 @@ module _ (s : List ℕ) (h : Header) (ok : Accepted s) (e : h ≡ header_of s) w
   neighbours_hold k = record { of_site = network_of_site s ok; near_set = k.near_set; table = k.table }
 
   module _ {near ws sizes : List ℕ} (kept : Drawn s h near ws sizes) where
-    pub near_ready : (k : ℕ) → bit_at near k ≡ 1 → (k < h.m) × HasEnds (edge_slice s h) 512 k
-    near_ready k x =
-        let l : k < h.m = omega (arith, kept.near_below k x, read.m_is) in
-        (l, edges_ready 512 k handsets_at_most l)
+    pub near_ready : (k : ℕ) → bit_at near k ≡ 1 → k < h.m
+    near_ready k x = omega (arith, kept.near_below k x, read.m_is)
 
-    module _ {dissimilar : List ℕ} (made : EdgeSet dissimilar (λ k. eqb (bit_at near k) 1 && not (enough_at ws sizes h.p h.q (edge_slice s h) k))) where
+    module _ {dissimilar : List ℕ} (made : EdgeSet dissimilar (λ k. eqb (bit_at near k) 1 && not (enough_at ws sizes h.p h.q (edge_records s) k))) where
       -- an edge of the new set is one of the old, and its ends do not have enough in common
-      dissimilar_in : (k : ℕ) → bit_at dissimilar k ≡ 1 → (bit_at near k ≡ 1) × T (not (enough_at ws sizes h.p h.q (edge_slice s h) k))
+      dissimilar_in : (k : ℕ) → bit_at dissimilar k ≡ 1 → (bit_at near k ≡ 1) × T (not (enough_at ws sizes h.p h.q (edge_records s) k))
       dissimilar_in k x =
           let y = (set_passes made k x).1 in
-          let t : Bool = not (enough_at ws sizes h.p h.q (edge_slice s h) k) in
+          let t : Bool = not (enough_at ws sizes h.p h.q (edge_records s) k) in
           (eqb→eq (bit_at near k) 1 (and_left (eqb (bit_at near k) 1) t y), and_right (eqb (bit_at near k) 1) t y)
 
-      pub dissimilar_ready : (k : ℕ) → bit_at dissimilar k ≡ 1 → (k < h.m) × HasEnds (edge_slice s h) 512 k
+      pub dissimilar_ready : (k : ℕ) → bit_at dissimilar k ≡ 1 → k < h.m
       dissimilar_ready k x = near_ready k (dissimilar_in k x).0
 
       module _ (g : Network) (holds : Holds s g near ws) where
@@ -458,14 +456,13 @@ module _ (s : List ℕ) (h : Header) (ok : Accepted s) (e : h ≡ header_of s) w
         handsets_most_lem : g.n ≤ 512
         handsets_most_lem = omega (arith, of_site.same_n, handsets_at_most)
 
-        test_is : (k : ℕ) → k < edge_count s → enough_at ws sizes h.p h.q (edge_slice s h) k ≡ meets g (end_a (edge_records s) k) (end_b (edge_records s) k)
+        test_is : (k : ℕ) → k < edge_count s → enough_at ws sizes h.p h.q (edge_records s) k ≡ meets g (end_a (edge_records s) k) (end_b (edge_records s) k)
         test_is k l =
             let b = ends_below s ok k l in
-            ap (λ (records : List ℕ). enough ws sizes h.p h.q (end_a records k) (end_b records k)) (edge_slice_is s h e)
-            ∙ enough_is g handsets_most_lem (end_a (edge_records s) k) (end_b (edge_records s) k) h.p h.q holds.table kept.counted
+            enough_is g handsets_most_lem (end_a (edge_records s) k) (end_b (edge_records s) k) h.p h.q holds.table kept.counted
             (omega (arith, b.0, of_site.same_n)) (omega (arith, b.1, of_site.same_n)) (read.p_is ∙ sym of_site.same_p) (read.q_is ∙ sym of_site.same_q)
 
-        pub surveyed : {after sizes' cores : List ℕ} {least : ℕ} → Dropped (edge_slice s h) (λ k. eqb (bit_at dissimilar k) 1) ws after → Counted after sizes'
+        pub surveyed : {after sizes' cores : List ℕ} {least : ℕ} → Dropped (edge_records s) (λ k. eqb (bit_at dissimilar k) 1) ws after → Counted after sizes'
             → least ≡ core_size h.mu
             → SetOf cores (λ u. ltb u h.n && leb least (get_or sizes' u 0)) → Surveyed g after cores
         surveyed {after} {sizes'} {cores} {least} d counted mu-read set =
@@ -478,11 +475,11 @@ module _ (s : List ℕ) (h : Header) (ok : Accepted s) (e : h ≡ header_of s) w
             (λ k l w n.
             let small-edge : k < edges_most = omega (arith, l, edges_most_lem) in
             passes_set made k small-edge
-            (and_make (eqb (bit_at near k) 1) (not (enough_at ws sizes h.p h.q (edge_slice s h) k))
+            (and_make (eqb (bit_at near k) 1) (not (enough_at ws sizes h.p h.q (edge_records s) k))
             (passes_set holds.near_set k small-edge (and_make (ltb k (edge_count s)) (ends_near s g k) (lt→ltb k (edge_count s) l) w))
             (subst (λ (b : Bool). T (not b)) (sym (test_is k l)) n)))
             holds.table
-            (subst (λ (records : List ℕ). Dropped records (λ k. eqb (bit_at dissimilar k) 1) ws after) (edge_slice_is s h e) d) in
+            d in
             record {
               sound = of_site.sound;
               most = handsets_most_lem;
@@ -505,20 +502,6 @@ found_in {g} {after} {cores} {rows} {r} y long call = record {
 }
 
 -- ---- the outcome of a call
-pub site_no : {s : List ℕ} {g : Network} {a : Result Header Refusal} {near ws sizes cores : List ℕ} → NeighboursRead s a near ws sizes → cores ≡ zeros 8 → (x : Refusal)
-    → a ≡ Err x
-    → SiteFound s g (record { opened = a; groups = 0; tests = 0 }) near ws sizes cores
-site_no r z x e = record {
-  answered = r.answered;
-  room = r.room;
-  found = λ h d. given_refused _ _ x (ap open_answer (sym d ∙ e));
-  cleared = λ y d. let c = r.cleared y d in (refl, refl, c.0, c.1, z);
-}
-
-pub site_yes : {s : List ℕ} {g : Network} {groups tests : ℕ} {near ws sizes cores : List ℕ} (h : Header) → Ok h ≡ open_of s → Room ws sizes
-    → Groups s g groups tests near ws sizes cores → SiteFound s g (record { opened = Ok h; groups = groups; tests = tests }) near ws sizes cores
-site_yes h e room k = record { answered = e; room = room; found = λ i d. k; cleared = λ y d. given_refused _ _ y (ap open_answer d) }
-
 pub groups_are : {s : List ℕ} {g : Network} {groups tests : ℕ} {near ws table sizes cores : List ℕ} → Accepted s → length sizes ≡ 512
     → Neighbours s near ws sizes
     → FoundIn g groups table cores → tests ≡ near_edges s g → Groups s g groups tests near table sizes cores
@@ -530,3 +513,33 @@ groups_are {s} ok long k f t = record {
   rest = f.rest;
   tested = t;
 }
+
+module _ {s : List ℕ} {opened : Result Header Refusal} {near ws sizes : List ℕ} (n : NeighboursRead s opened near ws sizes) where
+  -- the answer was a yes
+  pub said_yes : (h : Header) → opened ≡ Ok h → Accepted s × (h ≡ header_of s)
+  said_yes h e = accepted s h (sym n.answered ∙ e)
+
+  pub drawn_after : DrawnAfter s opened near ws sizes
+  drawn_after h e = let a = said_yes h e in neighbours_drawn s h a.0 a.1 (n.neighbours h e)
+
+  pub holds_after : (h : Header) → opened ≡ Ok h → Holds s (network s) near ws
+  holds_after h e = let a = said_yes h e in neighbours_hold s h a.0 a.1 (n.neighbours h e)
+
+  -- what was found of a network that the tables held then
+  pub site_found : {g : Network} {r : SiteGroups} {near' ws' after cores : List ℕ} → length after ≡ table_words → GroupsFound s opened near' ws' r after cores
+      → ((h : Header) → opened ≡ Ok h → Holds s g near' ws') → ((x : Refusal) → opened ≡ Err x → ws' ≡ ws)
+      → SiteFound s g r near after sizes cores
+  site_found {g} long f holds same = record {
+    answered = f.answered ∙ n.answered;
+    room = (long, n.room.1);
+    found = λ h e.
+        let d = sym f.answered ∙ e in
+        let a = said_yes h d in
+        groups_are a.0 n.room.1 (n.neighbours h d) ((f.found h d).each g (holds h d))
+        (f.tested h d ∙ near_count s g (edges_most_lem s h a.0 a.1) (holds h d).near_set);
+    cleared = λ x e.
+        let d = sym f.answered ∙ e in
+        let c = f.refused x d in
+        let z = n.cleared x d in
+        (c.0, c.1, z.0, (c.2 ∙ same x d ∙ z.1.0, z.1.1), c.3);
+  }

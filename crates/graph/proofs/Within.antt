@@ -24,7 +24,6 @@ use Rattle.image.specs.Image.{header_of, handset_count, edge_count, edge_records
 use Rattle.image.specs.Questions.{Accepted, is_loop}
 use Rattle.image.specs.declared.Header.{Header}
 use Rattle.image.proofs.Acceptance.{ends_below}
-use Rattle.image.proofs.Records.{edge_slice, edge_slice_is}
 use Rattle.near.specs.Near.{neighbour}
 use Rattle.near.proofs.Near.{neighbour_cases}
 use Rattle.community.specs.Site.{network}
@@ -98,20 +97,20 @@ unfolding is_loop
 no_loop s ok k h t = T_not (eqb (end_a (edge_records s) k) (end_b (edge_records s) k)) (ok.q9 k h) t
 
 module _ (s : List ℕ) (h : Header) (ok : Accepted s) (e : h ≡ header_of s) (within near kept : List ℕ)
-    (left : EdgeSet kept (λ k. eqb (bit_at near k) 1 && both_within within (edge_slice s h) k)) where
+    (left : EdgeSet kept (λ k. eqb (bit_at near k) 1 && both_within within (edge_records s) k)) where
   -- the edges kept are some of those before
   pub drawn_within : {ws after sizes sizes' : List ℕ} → Drawn s h near ws sizes → Counted after sizes' → Drawn s h kept after sizes'
   drawn_within d c = record {
     accepted = ok;
     header = e;
     near_size = left.size;
-    near_below = λ k x. d.near_below k (in_both_lem near (both_within within (edge_slice s h)) left k x);
+    near_below = λ k x. d.near_below k (in_both_lem near (both_within within (edge_records s)) left k x);
     counted = c;
   }
 
   -- the edges dropped
   abbrev gone : ℕ → Bool
-  gone k = eqb (bit_at near k) 1 && not (both_within within (edge_slice s h) k)
+  gone k = eqb (bit_at near k) 1 && not (both_within within (edge_records s) k)
 
   module _ (f : ℕ → Bool) (c : SetOf within f) {ws : List ℕ} (holds : Holds s (network s) near ws) where
     abbrev end_of : ℕ → ℕ
@@ -123,12 +122,11 @@ module _ (s : List ℕ) (h : Header) (ok : Accepted s) (e : h ≡ header_of s) (
     abbrev inside : ℕ → Bool
     inside k = f (end_of k) && f (end_to k)
 
-    inside_is : (k : ℕ) → k < edge_count s → both_within within (edge_slice s h) k ≡ inside k
+    inside_is : (k : ℕ) → k < edge_count s → both_within within (edge_records s) k ≡ inside k
     inside_is k l =
         let b = ends_below s ok k l in
         let small = handsets_at_most s h ok e in
-        ap (λ (records : List ℕ). both_within within records k) (edge_slice_is s h e)
-        ∙ ap₂ ◌&&◌ (in_set_is c (end_of k) (omega (arith, b.0, small))) (in_set_is c (end_to k) (omega (arith, b.1, small)))
+        ap₂ ◌&&◌ (in_set_is c (end_of k) (omega (arith, b.0, small))) (in_set_is c (end_to k) (omega (arith, b.1, small)))
 
     near_is : (k : ℕ) → bit_at near k ≡ 1 → (k < edge_count s) × T (ends_near s (network s) k)
     near_is k x =
@@ -141,13 +139,13 @@ module _ (s : List ℕ) (h : Header) (ok : Accepted s) (e : h ≡ header_of s) (
 
     gone_is : (k : ℕ) → T (gone k) → (k < edge_count s) × (T (inside k) → ⊥)
     gone_is k x =
-        let b : Bool = both_within within (edge_slice s h) k in
+        let b : Bool = both_within within (edge_records s) k in
         let l = (near_is k (eqb→eq (bit_at near k) 1 (and_left (eqb (bit_at near k) 1) (not b) x))).0 in
         (l, λ z. T_not b (and_right (eqb (bit_at near k) 1) (not b) x) (subst (λ (y : Bool). T y) (sym (inside_is k l)) z))
 
     is_gone : (k : ℕ) → k < edge_count s → T (ends_near s (network s) k) → (T (inside k) → ⊥) → T (gone k)
     is_gone k l y n =
-        let b : Bool = both_within within (edge_slice s h) k in
+        let b : Bool = both_within within (edge_records s) k in
         and_make (eqb (bit_at near k) 1) (not b) (is_near_lem k l y) (not_T b (λ z. n (subst (λ (x : Bool). T x) (inside_is k l) z)))
 
     -- the edges kept are the near edges of the network
@@ -155,11 +153,11 @@ module _ (s : List ℕ) (h : Header) (ok : Accepted s) (e : h ≡ header_of s) (
     kept_set = record { size = left.size; bits = λ k l. left.bits k l ∙ ap bit (T-ext (kept_test k) (is_near_edge s (among (network s) f) k) (to k) (from k)) }
       where
         kept_test : ℕ → Bool
-        kept_test k = eqb (bit_at near k) 1 && both_within within (edge_slice s h) k
+        kept_test k = eqb (bit_at near k) 1 && both_within within (edge_records s) k
 
         to : (k : ℕ) → T (kept_test k) → T (is_near_edge s (among (network s) f) k)
         to k x =
-            let b : Bool = both_within within (edge_slice s h) k in
+            let b : Bool = both_within within (edge_records s) k in
             let n = near_is k (eqb→eq (bit_at near k) 1 (and_left (eqb (bit_at near k) 1) b x)) in
             and_make (ltb k (edge_count s)) (inside k && ends_near s (network s) k) (lt→ltb k (edge_count s) n.0)
             (and_make (inside k) (ends_near s (network s) k) (subst (λ (y : Bool). T y) (inside_is k n.0) (and_right (eqb (bit_at near k) 1) b x)) n.1)
@@ -168,7 +166,7 @@ module _ (s : List ℕ) (h : Header) (ok : Accepted s) (e : h ≡ header_of s) (
         from k x =
             let l = ltb→lt k (edge_count s) (and_left (ltb k (edge_count s)) (inside k && ends_near s (network s) k) x) in
             let y = and_right (ltb k (edge_count s)) (inside k && ends_near s (network s) k) x in
-            and_make (eqb (bit_at near k) 1) (both_within within (edge_slice s h) k) (is_near_lem k l (and_right (inside k) (ends_near s (network s) k) y))
+            and_make (eqb (bit_at near k) 1) (both_within within (edge_records s) k) (is_near_lem k l (and_right (inside k) (ends_near s (network s) k) y))
             (subst (λ (z : Bool). T z) (sym (inside_is k l)) (and_left (inside k) (ends_near s (network s) k) y))
 
     -- the neighbours inside, and each handset with itself
@@ -181,7 +179,7 @@ module _ (s : List ℕ) (h : Header) (ok : Accepted s) (e : h ≡ header_of s) (
       only = λ u v t. neighbour_cases s u v (and_left (neighbour s u v) (eqb u v || (f u && f v)) t);
     }
 
-    mid_table : {mid : List ℕ} → Dropped (edge_slice s h) gone ws mid → Table mid (λ u v. both (network s) u v && or_self u v)
+    mid_table : {mid : List ℕ} → Dropped (edge_records s) gone ws mid → Table mid (λ u v. both (network s) u v && or_self u v)
     unfolding neighbour_in
     mid_table {mid} d =
         dropped_is s (neighbour s) or_self (record { symmetric = neighbour_comm s; only = neighbour_cases s }) along_self
@@ -199,7 +197,7 @@ module _ (s : List ℕ) (h : Header) (ok : Accepted s) (e : h ≡ header_of s) (
         is_gone k l y (λ z.
         T_not (or_self (end_of k) (end_to k)) n
         (and_make (neighbour s (end_of k) (end_to k)) (eqb (end_of k) (end_to k) || inside k) y (or_right (eqb (end_of k) (end_to k)) (inside k) z))))
-        (subst (λ (records : List ℕ). Dropped records gone ws mid) (edge_slice_is s h e) d)
+        d
         (both (network s)) holds.table
 
     -- without these
@@ -262,7 +260,7 @@ module _ (s : List ℕ) (h : Header) (ok : Accepted s) (e : h ≡ header_of s) (
           go u v hu hv (no d) =
               t.kept u v hu hv (λ q l n. d q) ∙ m.bits u v hu hv ∙ ap bit (same_cell u v (λ x. absurd (d (eqb→eq u v x))))
 
-  pub held_within : {ws mid after : List ℕ} → Dropped (edge_slice s h) gone ws mid → SelfTaken within h.n mid after → HeldWithin s within near ws kept after
+  pub held_within : {ws mid after : List ℕ} → Dropped (edge_records s) gone ws mid → SelfTaken within h.n mid after → HeldWithin s within near ws kept after
   held_within d t = record {
     among_held = λ f c holds. record {
       of_site = among_of_site s f (network_of_site s ok);

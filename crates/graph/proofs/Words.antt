@@ -5,33 +5,39 @@
 --     word_none, word_put          an empty word, and a word with one bit more, as the code makes it; word_cong: equal tests have equal words
 --     below, below_lt, _first, _rest       a word with one bit more below its own, as the code makes it
 --     bit_of_past, first_word       a word has no bit from 64 on; the word whose first c bits are set, as the code makes it
---     others_word                  of the numbers that a word holds, those that another does not
---     word_at, put_word            a word of a list, and the list with one word put
---     lt_or_le, one_true, bit_of_lem   of two numbers; a bit and the test for it
---     Filtering, filtering_start, filtering_on, filtering_end     the bits of a word that pass a test, gone through one after the other
---     partly, partly_start, partly_on, partly_end                 a set whose words are filtered one after the other
+--     others_word, word_own        of the numbers that a word holds, those that another does not, and those that pass a test
+--     passing, failing, failing_lt a word of the edges that there are from one on: those that pass a test, and the others
+--     ones_end                     a word with no set bits left
+--     word_at, put_word, set_word  a word of a list, the list with one word put, and a word of a set
+--     lt_or_le, one_true, bit_of_lem, bit_from     of two numbers; a bit and the test for it
+--     Filtering, filtering_start, filtering_bit, filtering_on, filtering_end     the bits of a word that pass a test, gone through one after the other
+--     partly, partly_start, partly_word, _other, _on, _end        a set whose words are filtered one after the other
 --     filled_none, filled_more, filled_end                        a set whose words are filled one after the other
---     set_passes, passes_set       the edges of a set
-use Prim.Native.Nat.{ℕ, zero, suc, ◌+◌, ◌*◌, ◌-◌, ◌/◌, ◌%◌, ◌^◌, ◌≤◌, ◌<◌}
+--     marked_none, marked_more     a set of handsets, filled one after the other
+--     own_set, set_passes, passes_set       the edges of a set
+use Prim.Native.Nat.{ℕ, zero, suc, ◌+◌, ◌*◌, ◌-◌, ◌/◌, ◌%◌, ◌^◌, ◌≤◌, ◌<◌, min}
 use native.Mathlib.Omega.{arith}
-use native.Mathlib.Nat.{le_refl, mod-lt, zero-lt-suc, zero-mul, div-eq_of_lt, div-div-eq-div-mul, pow-suc, pow-le-pow_right, lt_of_lt_of_le}
+use native.Mathlib.Nat.{le_refl, mod-lt, zero-lt-suc, zero-mul, div-eq_of_lt, div-div-eq-div-mul, pow-suc, pow-le-pow_right, lt_of_lt_of_le, div-le_self, lt_of_le_of_lt}
 use native.Mathlib.Decide.{ℕ_discrete, dec_lt}
 use mathlib.Core.Path.{◌≡◌, refl, sym, ap, ap₂, ◌∙◌, subst}
 use mathlib.Core.Logic.{◌⊎◌, inl, inr, ⊎_elim}
 use mathlib.Core.Bool.{Bool, true, false, ◌&&◌, ◌||◌, not, and-true}
-use mathlib.Core.List.{List}
-use lib.Dec.{T, leb, ltb, eqb, leb→le, le→leb, ltb→lt, lt→ltb, eqb→eq, T_not, not_T}
+use mathlib.Core.List.{List, []}
+use lib.Dec.{T, leb, ltb, eqb, leb→le, le→leb, ltb→lt, lt→ltb, T_not, not_T}
 use lib.Arith.{digits_div}
-use lib.Bits.{bit_or, bit_xor, differ, or_lt, or_zero_r}
+use lib.Bits.{bit_or, bit_xor, differ, or_lt, xor_lt, or_zero_r}
 use lib.ListN.{length, get_or, set, length-set, length-replicate}
 use lib.Pow.{pow_pos, pow-add, shl_exact, ones_lt, ones_split}
 use lib.Seq.{get_or-set_same, get_or-set_other}
+use Rattle.std.specs.Int.{from_bool}
 use Rattle.sets.specs.Below.{bit}
-use Rattle.sets.specs.Bits.{bit_of, bit_at}
-use Rattle.sets.proofs.Tests.{passed_none, and_make, and_left, and_right, or_right, or_cases, decide, T-ext, T_true, T_false, eqb_of}
-use Rattle.sets.proofs.Counting.{bit_true, bit_false}
+use Rattle.sets.specs.Bits.{bit_of, bit_at, ones_of}
+use Rattle.sets.proofs.Tests.{passed_none, passed_new, passed_self, passed_other, and_make, and_left, and_right, decide, T-ext, T_true, T_false, eqb_of}
+use Rattle.sets.proofs.Counting.{bit_true, bit_false, bit_test}
+use Rattle.sets.proofs.Selecting.{mem_select, mem_at}
+use Rattle.sets.proofs.Ascending.{Step}
 use Rattle.sets.proofs.Bits.{bit_of_lt, bit_of_none, bit_of_or, bit_of_first, bit_of_half, bit_of_set_same, bit_of_set_other, bit_of_xor, bit_at_lt, bit_at_past, bit_at_zeros, shl_one, word_bit, zeros}
-use Rattle.sets.proofs.Lowest.{Lowest, cleared, cleared_lt, cleared_le, cleared_same, cleared_other}
+use Rattle.sets.specs.Rows.{SetOf}
 use Rattle.limits.specs.Limits.{edges_most}
 use Rattle.graph.specs.Graph.{edge_words, EdgeSet}
 use Rattle.graph.specs.ForProofs.{WordOf}
@@ -55,18 +61,31 @@ all_below k m b x h =
     (λ t. and_right (ltb k b) (ltb k m && x) t)
     (λ t. and_make (ltb k b) (ltb k m && x) (lt→ltb k b (omega (arith, ltb→lt k m (and_left (ltb k m) x t)))) t)
 
+-- ---- the set bits of a word
+-- none is left
+pub ones_end : (w : ℕ) → ones_of w ≡ [] → (i : ℕ) → i < 64 → bit_of w i ≡ 0
+unfolding ones_of
+ones_end w e i h = go (ℕ_discrete (bit_of w i) 1)
+  where
+    go : Dec (bit_of w i ≡ 1) → bit_of w i ≡ 0
+    go (yes b) =
+        let r = mem_at (ones_of w) 0 i (mem_select 64 (λ k. eqb (bit_of w k) 1) i h (eqb_of (bit_of w i) 1 b)) in
+        absurd (omega (arith, r.1, ap length e))
+    go (no d) = omega (arith, d, bit_of_lt w i)
+
 -- ---- a word
 pub word_none : (f : ℕ → Bool) → ((i : ℕ) → f i ≡ false) → WordOf 0 f
 word_none f e = record { bits = λ i h. bit_of_none i ∙ sym (ap bit (e i)) }
 
 -- bit k is put as the test g has it; no other bit differs
-module _ (w k : ℕ) (f g : ℕ → Bool) (hk : k < 64) (new : T (not (f k))) (others : (i : ℕ) → (i ≡ k → ⊥) → g i ≡ f i) (t : WordOf w f) where
+module _ (w k : ℕ) (f g : ℕ → Bool) (hk : k < 64) (new : T (not (f k)))
+    (others : (i : ℕ) → i < 64 → (i ≡ k → ⊥) → g i ≡ f i) (t : WordOf w f) where
   on : T (g k) → (i : ℕ) → i < 64 → bit_of (bit_or w (1 * 2 ^ k % 2 ^ 64)) i ≡ bit (g i)
   on y i h = ap (λ (x : ℕ). bit_of (bit_or w x) i) (shl_one k hk) ∙ go (ℕ_discrete i k)
     where
       go : Dec (i ≡ k) → bit_of (bit_or w (2 ^ k)) i ≡ bit (g i)
       go (yes e) = ap (bit_of (bit_or w (2 ^ k))) e ∙ bit_of_set_same w k ∙ sym (ap (λ (j : ℕ). bit (g j)) e ∙ bit_true (g k) y)
-      go (no d) = bit_of_set_other w k i d ∙ t.bits i h ∙ ap bit (sym (others i d))
+      go (no d) = bit_of_set_other w k i d ∙ t.bits i h ∙ ap bit (sym (others i h d))
 
   off : T (not (g k)) → (i : ℕ) → i < 64 → bit_of (bit_or w (0 * 2 ^ k % 2 ^ 64)) i ≡ bit (g i)
   off n i h =
@@ -74,7 +93,7 @@ module _ (w k : ℕ) (f g : ℕ → Bool) (hk : k < 64) (new : T (not (f k))) (o
     where
       go : Dec (i ≡ k) → bit (f i) ≡ bit (g i)
       go (yes e) = ap (λ (j : ℕ). bit (f j)) e ∙ bit_false (f k) new ∙ sym (ap (λ (j : ℕ). bit (g j)) e ∙ bit_false (g k) n)
-      go (no d) = ap bit (sym (others i d))
+      go (no d) = ap bit (sym (others i h d))
 
   pub word_put : (x : ℕ) → x ≡ bit (g k) → WordOf (bit_or w (x * 2 ^ k % 2 ^ 64)) g
   word_put x e = record {
@@ -143,6 +162,32 @@ others_word w all p f a t = record { bits = λ i l. bit_of_xor w all i ∙ ap₂
     go true false = refl
     go false b = refl
 
+-- of the numbers that a word holds, those that pass f
+pub word_own : {w x : ℕ} (p f : ℕ → Bool) → WordOf w p → WordOf x (λ i. eqb (bit_of w i) 1 && f i) → WordOf x (λ i. p i && f i)
+word_own p f a t = record { bits = λ i h. t.bits i h ∙ ap (λ (b : Bool). bit (b && f i)) (ap (λ (x : ℕ). eqb x 1) (a.bits i h) ∙ bit_test (p i)) }
+
+-- a word of n edges from b on, of the m that there are: those that pass f, and the others
+module _ (b m n w : ℕ) (f : ℕ → Bool) (e : n ≡ min (m - b) 64) (t : WordOf w (λ i. ltb i n && f (b + i))) where
+  there : (g : ℕ → Bool) {x : ℕ} → WordOf x (λ i. ltb i n && g (b + i)) → WordOf x (λ i. ltb (b + i) m && g (b + i))
+  there g p = record {
+    bits = λ i h.
+        p.bits i h
+        ∙ ap (λ (x : Bool). bit (x && g (b + i)))
+        (T-ext (ltb i n) (ltb (b + i) m) (λ x. lt→ltb (b + i) m (omega (arith, ltb→lt i n x, e))) (λ x. lt→ltb i n (omega (arith, ltb→lt (b + i) m x, h, e))));
+  }
+
+  pub passing : WordOf w (λ i. ltb (b + i) m && f (b + i))
+  passing = there f t
+
+  abbrev pub others : ℕ
+  others = bit_xor w (18446744073709551615 / 2 ^ (64 - n))
+
+  pub failing : WordOf others (λ i. ltb (b + i) m && not (f (b + i)))
+  failing = there (λ k. not (f k)) (others_word w (18446744073709551615 / 2 ^ (64 - n)) (λ i. ltb i n) (λ i. f (b + i)) (first_word n (omega (arith, e))) t)
+
+  pub failing_lt : w < 2 ^ 64 → others < 2 ^ 64
+  failing_lt h = xor_lt 64 w (18446744073709551615 / 2 ^ (64 - n)) h (lt_of_le_of_lt (div-le_self 18446744073709551615 (2 ^ (64 - n))) (omega arith))
+
 -- ---- a list of words
 pub word_at : (ws : List ℕ) (j : ℕ) (f : ℕ → Bool) → ((i : ℕ) → i < 64 → bit_at ws (j * 64 + i) ≡ bit (f (64 * j + i)))
     → WordOf (get_or ws j 0) (λ i. f (64 * j + i))
@@ -160,17 +205,36 @@ put_word ws j w f g h t others k e = go (ℕ_discrete (k / 64) j)
         ∙ t.bits (k % 64) (mod-lt k (zero-lt-suc 63)) ∙ ap (λ (x : ℕ). bit (g x)) whole
     go (no d) = ap (λ (x : ℕ). bit_of x (k % 64)) (get_or-set_other ws j (k / 64) w 0 d) ∙ e ∙ ap bit (sym (others k d))
 
+-- the word of a set
+pub set_word : {ws : List ℕ} (f : ℕ → Bool) (j : ℕ) → j < 64 → EdgeSet ws f → WordOf (get_or ws j 0) (λ i. f (64 * j + i))
+set_word {ws} f j l t = word_at ws j f (λ i h. let p : j * 64 + i ≡ 64 * j + i = omega arith in ap (bit_at ws) p ∙ t.bits (64 * j + i) (omega arith))
+
 -- ---- a bit by the test for it
+pub bit_from : (b : Bool) → from_bool b ≡ bit b
+bit_from true = refl
+bit_from false = refl
+
 pub bit_of_lem : (x : ℕ) → x < 2 → x ≡ bit (eqb x 1)
 bit_of_lem zero h = refl
 bit_of_lem (suc zero) h = refl
 bit_of_lem (suc (suc x)) h = absurd (omega arith)
 
+-- a list of words is the set of its bits
+pub own_set : (ws : List ℕ) → length ws ≡ edge_words → EdgeSet ws (λ k. eqb (bit_at ws k) 1)
+own_set ws e = record { size = e; bits = λ k l. bit_of_lem (bit_at ws k) (bit_at_lt ws k) }
+
 -- ---- a word made of the set bits of another: w has those that are left, and `made` those gone through that pass f
 pub record Filtering (word : ℕ) (f : ℕ → Bool) (w made : ℕ) : Type 0 where
-  pub fits : w < 2 ^ 64
-  pub sub : (i : ℕ) → bit_of w i ≤ bit_of word i
+  pub sub : (i : ℕ) → i < 64 → bit_of w i ≤ bit_of word i
   pub passed : WordOf made (λ i. (eqb (bit_of word i) 1 && not (eqb (bit_of w i) 1)) && f i)
+
+-- a word of whose set bits one was taken has no more of them
+pub step_sub : {w k v : ℕ} (word : ℕ) → Step w k v → ((i : ℕ) → i < 64 → bit_of w i ≤ bit_of word i) → (i : ℕ) → i < 64 → bit_of v i ≤ bit_of word i
+step_sub {w} {k} {v} word s sub i h = go (ℕ_discrete i k)
+  where
+    go : Dec (i ≡ k) → bit_of v i ≤ bit_of word i
+    go (yes e) = omega (arith, ap (bit_of v) e, s.gone)
+    go (no d) = omega (arith, s.same i h d, sub i h)
 
 module _ (word : ℕ) (f : ℕ → Bool) where
   -- bit i is gone through
@@ -183,10 +247,9 @@ module _ (word : ℕ) (f : ℕ → Bool) where
   is_gone : (w i : ℕ) → bit_of word i ≡ 1 → bit_of w i ≡ 0 → gone w i ≡ true
   is_gone w i e z = ap₂ (λ (x y : ℕ). eqb x 1 && not (eqb y 1)) e z
 
-  pub filtering_start : word < 2 ^ 64 → Filtering word f word 0
-  filtering_start h = record {
-    fits = h;
-    sub = λ i. le_refl _;
+  pub filtering_start : {w : ℕ} → w ≡ word → Filtering word f w 0
+  filtering_start e = rw e record {
+    sub = λ i h. le_refl _;
     passed = word_none (λ i. gone word i && f i) (λ i. ap (λ (b : Bool). b && f i) (none (eqb (bit_of word i) 1)));
   }
     where
@@ -194,25 +257,25 @@ module _ (word : ℕ) (f : ℕ → Bool) where
       none true = refl
       none false = refl
 
-  pub filtering_on : {w made : ℕ} (t x : ℕ) → t < 64 → Lowest w t → x ≡ bit (f t) * 2 ^ t % 2 ^ 64 → Filtering word f w made
-      → Filtering word f (cleared w) (bit_or made x)
-  filtering_on {w} {made} t x h low told r = record {
-    fits = cleared_lt w r.fits;
-    sub = λ i. omega (arith, cleared_le w i, r.sub i);
+  pub filtering_bit : {w k v made : ℕ} → Step w k v → Filtering word f w made → bit_of word k ≡ 1
+  filtering_bit {w} {k} s r = omega (arith, r.sub k s.below, s.here, bit_of_lt word k)
+
+  pub filtering_on : {w k v made : ℕ} (x : ℕ) → Step w k v → x ≡ bit (f k) → Filtering word f w made → Filtering word f v (bit_or made (x * 2 ^ k % 2 ^ 64))
+  filtering_on {w} {k} {v} {made} x s told r = record {
+    sub = step_sub word s r.sub;
     passed =
-        rw told
-        (word_put made t (λ i. gone w i && f i) (λ i. gone (cleared w) i && f i) h
-        (subst (λ (b : Bool). T (not (b && f t))) (sym (not_gone w t low.here)) tt)
-        (λ i d. ap (λ (y : ℕ). (eqb (bit_of word i) 1 && not (eqb y 1)) && f i) (cleared_other w t low i d))
-        r.passed (bit (f t))
-        (sym (ap (λ (b : Bool). bit (b && f t)) (is_gone (cleared w) t (omega (arith, r.sub t, low.here, bit_of_lt word t)) (cleared_same w t low)))));
+        word_put made k (λ i. gone w i && f i) (λ i. gone v i && f i) s.below
+        (subst (λ (b : Bool). T (not (b && f k))) (sym (not_gone w k s.here)) tt)
+        (λ i h d. ap (λ (y : ℕ). (eqb (bit_of word i) 1 && not (eqb y 1)) && f i) (s.same i h d))
+        r.passed x
+        (told ∙ sym (ap (λ (b : Bool). bit (b && f k)) (is_gone v k (filtering_bit s r) s.gone)));
   }
 
-  pub filtering_end : {w made : ℕ} → w ≡ 0 → Filtering word f w made → WordOf made (λ i. eqb (bit_of word i) 1 && f i)
-  filtering_end {w} z r = record {
+  pub filtering_end : {w made : ℕ} → ones_of w ≡ [] → Filtering word f w made → WordOf made (λ i. eqb (bit_of word i) 1 && f i)
+  filtering_end {w} none r = record {
     bits = λ i h.
         r.passed.bits i h
-        ∙ ap (λ (y : ℕ). bit ((eqb (bit_of word i) 1 && not (eqb y 1)) && f i)) (ap (λ (x : ℕ). bit_of x i) z ∙ bit_of_none i)
+        ∙ ap (λ (y : ℕ). bit ((eqb (bit_of word i) 1 && not (eqb y 1)) && f i)) (ones_end w none i h)
         ∙ ap (λ (b : Bool). bit (b && f i)) (and-true (eqb (bit_of word i) 1));
   }
 
@@ -260,23 +323,28 @@ module _ (before : List ℕ) (f : ℕ → Bool) where
           (λ y. le→leb (64 * j) k (omega (arith, leb→le (64 * (j + 1)) k y)))
           (λ y. le→leb (64 * (j + 1)) k (omega (arith, leb→le (64 * j) k y, d))))
 
-  pub partly_end : {ws : List ℕ} (m j : ℕ) → m ≤ 64 * j → ((k : ℕ) → bit_at before k ≡ 1 → k < m) → EdgeSet ws (partly j)
-      → EdgeSet ws (λ k. eqb (bit_at before k) 1 && f k)
-  partly_end m j h below t = record {
+  -- the word that is next is that of the set before
+  pub partly_word : {ws : List ℕ} (j : ℕ) → j < 64 → EdgeSet ws (partly j) → WordOf (get_or ws j 0) (λ i. eqb (bit_at before (64 * j + i)) 1)
+  partly_word {ws} j l t = record {
+    bits = λ i h.
+        let p : j * 64 + i ≡ 64 * j + i = omega arith in
+        sym (word_bit ws j i h) ∙ ap (bit_at ws) p ∙ partly_at j (64 * j + i) t (omega arith) (omega arith) ∙ bit_of_lem _ (bit_at_lt before (64 * j + i));
+  }
+
+  -- those of them that do not pass
+  pub partly_other : {ws : List ℕ} {w : ℕ} (j : ℕ) → j < 64 → EdgeSet ws (partly j) → WordOf w (λ i. eqb (bit_of (get_or ws j 0) i) 1 && f (64 * j + i))
+      → WordOf (bit_xor w (get_or ws j 0)) (λ i. eqb (bit_at before (64 * j + i)) 1 && not (f (64 * j + i)))
+  partly_other {ws} {w} j l t p =
+      let own = partly_word j l t in
+      others_word w (get_or ws j 0) (λ i. eqb (bit_at before (64 * j + i)) 1) (λ i. f (64 * j + i)) own
+      (word_own (λ i. eqb (bit_at before (64 * j + i)) 1) (λ i. f (64 * j + i)) own p)
+
+  pub partly_end : {ws : List ℕ} (j : ℕ) → 64 ≤ j → EdgeSet ws (partly j) → EdgeSet ws (λ k. eqb (bit_at before k) 1 && f k)
+  partly_end j h t = record {
     size = t.size;
     bits = λ k l.
         t.bits k l
-        ∙ ap bit (T-ext (partly j k) (eqb (bit_at before k) 1 && f k)
-        (λ x.
-        let y = and_left (eqb (bit_at before k) 1) (leb (64 * j) k || f k) x in
-        and_make (eqb (bit_at before k) 1) (f k) y
-        (⊎_elim
-        (λ z. absurd (omega (arith, leb→le (64 * j) k z, below k (eqb→eq (bit_at before k) 1 y))))
-        (λ z. z)
-        (or_cases (leb (64 * j) k) (f k) (and_right (eqb (bit_at before k) 1) (leb (64 * j) k || f k) x))))
-        (λ x.
-        and_make (eqb (bit_at before k) 1) (leb (64 * j) k || f k) (and_left (eqb (bit_at before k) 1) (f k) x)
-        (or_right (leb (64 * j) k) (f k) (and_right (eqb (bit_at before k) 1) (f k) x))));
+        ∙ ap (λ (b : Bool). bit (eqb (bit_at before k) 1 && (b || f k))) (T_false (leb (64 * j) k) (not_T (leb (64 * j) k) (λ z. absurd (omega (arith, leb→le (64 * j) k z)))));
   }
 
 -- ---- a set of edges whose words are filled one after the other
@@ -307,6 +375,35 @@ filled_more ws w f j h made t = record {
 -- once all m are passed
 pub filled_end : {ws : List ℕ} (f : ℕ → Bool) (m b : ℕ) → m ≤ b → EdgeSet ws (λ k. ltb k b && (ltb k m && f k)) → EdgeSet ws (λ k. ltb k m && f k)
 filled_end f m b h t = record { size = t.size; bits = λ k l. t.bits k l ∙ ap bit (all_below k m b (f k) h) }
+
+-- ---- a set of handsets, filled one after the other: those below u that pass g
+pub marked_none : (g : ℕ → Bool) → SetOf (zeros 8) (λ v. ltb v 0 && g v)
+marked_none g = record { size = length-replicate {A = ℕ} 8 0; bits = λ v h. bit_at_zeros 8 v ∙ sym (ap bit (passed_none v (g v))) }
+
+module _ (ws : List ℕ) (u x : ℕ) (g : ℕ → Bool) (low : u < 512) (told : x ≡ bit (g u)) (t : SetOf ws (λ v. ltb v u && g v)) where
+  abbrev put : ℕ
+  put = bit_or (get_or ws (u / 64) 0) (x * 2 ^ (u % 64) % 2 ^ 64)
+
+  pub marked_more : SetOf (set ws (u / 64) put) (λ v. ltb v (u + 1) && g v)
+  marked_more = record {
+    size = length-set ws (u / 64) put ∙ t.size;
+    bits = λ v h.
+        put_word ws (u / 64) put (λ v. ltb v u && g v) (λ v. ltb v (u + 1) && g v) (omega (arith, t.size)) word
+        (λ y d. passed_other u y (g y) (λ e. d (ap (λ (z : ℕ). z / 64) e))) v (t.bits v h);
+  }
+    where
+      whole : 64 * (u / 64) + u % 64 ≡ u
+      whole = omega arith
+
+      word : WordOf put (λ i. ltb (64 * (u / 64) + i) (u + 1) && g (64 * (u / 64) + i))
+      word =
+          word_put (get_or ws (u / 64) 0) (u % 64) (λ i. ltb (64 * (u / 64) + i) u && g (64 * (u / 64) + i))
+          (λ i. ltb (64 * (u / 64) + i) (u + 1) && g (64 * (u / 64) + i)) (mod-lt u (zero-lt-suc 63))
+          (rw whole (passed_new u (g u)))
+          (λ i h d. passed_other u (64 * (u / 64) + i) (g (64 * (u / 64) + i)) (λ e. d (omega arith)))
+          (word_at ws (u / 64) (λ v. ltb v u && g v)
+          (λ i h. let p : u / 64 * 64 + i ≡ 64 * (u / 64) + i = omega arith in ap (bit_at ws) p ∙ t.bits (64 * (u / 64) + i) (omega arith)))
+          x (told ∙ sym (ap (λ (v : ℕ). bit (ltb v (u + 1) && g v)) whole ∙ ap bit (passed_self u (g u))))
 
 -- ---- what a word and a set hold
 pub word_cong : {w : ℕ} (f g : ℕ → Bool) → ((i : ℕ) → i < 64 → f i ≡ g i) → WordOf w f → WordOf w g

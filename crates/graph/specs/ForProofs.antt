@@ -11,9 +11,11 @@
 --     SelfTaken ws n a b       the table b is the table a, with each handset below n outside the set taken out of its own row
 --     OfSite s g               a network of the handsets of an image, along its edges
 --     Drawn s h near ws sizes  an accepted image and its header, edges of it, a table and its sizes
+--     DrawnAfter s opened ..   so they are after the reader's yes
 --     Holds s g near ws        these edges are the near edges of the network, and the table is its neighbour table
 --     FoundIn g ..             the cores and the communities of the network, and the rows past these
 --     Finds s near ws ..       whichever network of the image the edges and the table hold, that is found of it
+--     GroupsFound s opened ..   what finding the communities answers and leaves: that after the reader's yes, with a test for each edge; nothing after its no
 --     HeldWithin s within ..   where the edges and the table held the site's network, they now hold that of the handsets within the set
 --     Neighbours s near ws sizes   of an accepted image: the set of its near edges, its neighbour table, and the sizes of the table's rows
 --     NeighboursRead s answer ..   what opening the image answers and leaves: the reader's answer; the neighbours after a yes, 0 everywhere after a no
@@ -34,6 +36,7 @@ use Rattle.community.specs.ForProofs.{Sound}
 use Rattle.search.specs.Communities.{similar_in, core_in, Grouped}
 use Rattle.community.specs.Site.{network}
 use Rattle.graph.specs.Graph.{edge_words, EdgeSet, neighbour_in, is_near_edge, among}
+use Rattle.graph.specs.declared.SiteGroups.{SiteGroups}
 
 abbrev pub HasEnds : List ℕ → ℕ → ℕ → Type 0
 HasEnds edges n k = (k < edges_most) × (edge_bytes * k + edge_bytes ≤ length edges) × (end_a edges k < n) × (end_b edges k < n)
@@ -91,6 +94,9 @@ pub record Drawn (s : List ℕ) (h : Header) (near ws sizes : List ℕ) : Type 0
   pub near_below : (k : ℕ) → bit_at near k ≡ 1 → k < edge_count s
   pub counted : Counted ws sizes
 
+abbrev pub DrawnAfter : List ℕ → Result Header Refusal → List ℕ → List ℕ → List ℕ → Type 0
+DrawnAfter s opened near ws sizes = (h : Header) → opened ≡ Ok h → Drawn s h near ws sizes
+
 pub record Holds (s : List ℕ) (g : Network) (near ws : List ℕ) : Type 0 where
   pub of_site : OfSite s g
   pub near_set : EdgeSet near (is_near_edge s g)
@@ -103,6 +109,12 @@ pub record FoundIn (g : Network) (groups : ℕ) (ws cores : List ℕ) : Type 0 w
 
 pub record Finds (s near before : List ℕ) (groups : ℕ) (after cores : List ℕ) : Type 0 where
   pub each : (g : Network) → Holds s g near before → FoundIn g groups after cores
+
+pub record GroupsFound (s : List ℕ) (opened : Result Header Refusal) (near before : List ℕ) (r : SiteGroups) (after cores : List ℕ) : Type 0 where
+  pub answered : r.opened ≡ opened
+  pub found : (h : Header) → opened ≡ Ok h → Finds s near before r.groups after cores
+  pub tested : (h : Header) → opened ≡ Ok h → r.tests ≡ sum edges_most (bit_at near)
+  pub refused : (x : Refusal) → opened ≡ Err x → (r.groups ≡ 0) × (r.tests ≡ 0) × (after ≡ before) × (cores ≡ zeros 8)
 
 pub record HeldWithin (s within near ws near' ws' : List ℕ) : Type 0 where
   pub among_held : (f : ℕ → Bool) → SetOf within f → Holds s (network s) near ws → Holds s (among (network s) f) near' ws'

@@ -12,16 +12,17 @@
 
 ghost use Rattle.std.specs.Prelude.{◌≡◌, ◌&&◌, not, ℕ, ◌+◌, ◌*◌, ◌/◌, ◌≤◌, ◌<◌, T, leb, ltb, eqb, length, get_or};
 ghost use Rattle.sets.specs.Below.{sum};
-ghost use Rattle.sets.specs.Bits.{bit_of, bit_at, without_bit};
+ghost use Rattle.sets.specs.Bits.{bit_of, bit_at, without_bit, ones_of};
 ghost use Rattle.sets.specs.Rows.{SetOf, Counted};
 ghost use Rattle.fields.specs.Fields.{handset_bytes, edge_bytes};
 ghost use Rattle.limits.specs.Limits.{edges_most};
-ghost use Rattle.image.specs.Image.{end_a, end_b};
-ghost use Rattle.image.specs.Rows.{Room, zeros};
+ghost use Rattle.image.specs.Image.{header_of, handset_records, edge_records, end_a, end_b};
+ghost use Rattle.image.specs.Questions.{Accepted};
+ghost use Rattle.image.specs.Rows.{zeros};
 ghost use Rattle.community.specs.Site.{network};
 ghost use Rattle.graph.specs.Graph.{edge_words, EdgeSet, RowsFound, SiteFound, PartFound};
-ghost use Rattle.graph.specs.ForProofs.{HasEnds, in_word, WordOf, edge_proximity, passes_near, Dropped, enough, enough_at, NeighboursRead};
-ghost use Rattle.graph.specs.ForProofs.{both_within, SelfTaken, Drawn, Finds, HeldWithin};
+ghost use Rattle.graph.specs.ForProofs.{HasEnds, in_word, WordOf, passes_near, Dropped, enough_at, NeighboursRead};
+ghost use Rattle.graph.specs.ForProofs.{both_within, SelfTaken, Drawn, DrawnAfter, GroupsFound, HeldWithin};
 
 use fields::Ends;
 use image::{Header, Refusal};
@@ -29,26 +30,10 @@ use image::{Header, Refusal};
 // How many words a set of edges has, one bit an edge.
 pub const EDGE_WORDS: usize = limits::EDGES_MOST / 64;
 
-// What the test of two different handsets for similarity answers, and the count of tests with it.
-#[derive(Clone, Copy)]
-struct Tested {
-    similar: bool,
-    count: u32,
-}
+// A set of edges, and the sizes of the rows of a table.
+type Edges = [u64; EDGE_WORDS];
 
-// Those of a word of edges whose ends are not similar, and the count of tests with these.
-#[derive(Clone, Copy)]
-struct Sifted {
-    word: u64,
-    count: u32,
-}
-
-// How many communities were found, and by how many tests for similarity.
-#[derive(Clone, Copy)]
-struct Found {
-    groups: usize,
-    tests: u32,
-}
+type Sizes = [u32; 512];
 
 // The reader's answer, how many communities were found, and by how many tests for similarity.
 #[derive(Clone, Copy)]
@@ -59,221 +44,236 @@ pub struct SiteGroups {
 }
 
 // Takes v out of row u, if it is in it.
-fn take_out(table: &mut [u64], sizes: &mut [u32], u: usize, v: usize)
-    requires { (u < 512) × (v < 512) × (Room table.old sizes.old) × (Counted table.old sizes.old) }
+fn take_out(table: &mut sets::Table, sizes: &mut Sizes, u: usize, v: usize)
+    requires { (u < 512) × (v < 512) × (Counted table.old sizes.old) }
     ensures taken { table.new ≡ without_bit table.old (u * 512 + v) }
     ensures counted { Counted table.new sizes.new }
 {
     let i = (u * 512 + v) / 64;
     let k = (u * 512 + v) % 64;
-    let w = table[i];
-    table[i] = w ^ (w & (1u64 << k));
-    sizes[u] = sizes[u] - ((w >> k) % 2) as u32;
+    let word = table[i];
+    table[i] = word ^ (word & (1 << k));
+    sizes[u] -= ((word >> k) % 2) as u32;
 }
 
-// The two ends of edge k, whose record is there.
-fn ends_at(edges: &[u8], k: usize) -> Ends
-    requires { (k < edges_most) × (edge_bytes * k + edge_bytes ≤ length edges.now) }
-    ensures { (result.a ≡ end_a edges.now k) × (result.b ≡ end_b edges.now k) }
-{
-    let at = fields::EDGE_BYTES * k;
-    let past = at + fields::EDGE_BYTES;
-    fields::read_ends(&edges[at..past])
-}
-
-// The near test of the ends of edge k.
-fn test_edge<'a>(handsets: &'a [u8], edges: &'a [u8], k: usize, limit: u64) -> Option<u64>
-    requires { (length handsets.now ≤ handset_bytes * 512) × (HasEnds edges.now (length handsets.now / handset_bytes) k) }
-    ensures { result ≡ edge_proximity handsets.now edges.now limit k }
-{
-    let e = ends_at(edges, k);
-    let a = fields::HANDSET_BYTES * e.a;
-    let a_past = a + fields::HANDSET_BYTES;
-    let b = fields::HANDSET_BYTES * e.b;
-    let b_past = b + fields::HANDSET_BYTES;
-    near::proximity_of(&handsets[a..a_past], &handsets[b..b_past], limit)
-}
-
-// The edges from `base` on whose ends are near, as a word: of `count` edges, at most 64. It is made from its highest bit down, without a branch on the test.
-fn near_word<'a>(handsets: &'a [u8], edges: &'a [u8], base: usize, count: usize, limit: u64) -> u64
-    requires { (count ≤ 64) × (base ≤ edges_most) × (length handsets.now ≤ handset_bytes * 512)
-        × ((k : ℕ) → k < count → HasEnds edges.now (length handsets.now / handset_bytes) (base + k)) }
-    ensures { WordOf result (λ k. ltb k count && passes_near handsets.now edges.now limit (base + k)) }
-{
-    let mut word: u64 = 0;
-    let mut k = count;
-    while 0 < k {
-        k -= 1;
-        let tested = test_edge(handsets, edges, base + k, limit);
-        let one = match tested {
-            Some(_) => 1u64,
-            None => 0u64,
-        };
-        word = (word << 1) | one;
-    }
-    word
-}
-
-// Drops the edges base + k, for each set bit k of the word: takes the ends of each out of each other's rows.
-fn drop_edges(edges: &[u8], word: u64, base: usize, table: &mut [u64], sizes: &mut [u32])
-    requires { (base ≤ edges_most) × (Room table.old sizes.old) × (Counted table.old sizes.old)
-        × ((k : ℕ) → T (in_word word base k) → HasEnds edges.now 512 k) }
-    ensures dropped { Dropped edges.now (in_word word base) table.old table.new }
-    ensures counted { Counted table.new sizes.new }
-{
-    let mut w = word;
-    while w != 0 {
-        let k = u64::trailing_zeros(w);
-        let e = ends_at(edges, base + k as usize);
-        take_out(table, sizes, e.a, e.b);
-        take_out(table, sizes, e.b, e.a);
-        w = w & (w - 1);
-    }
-}
-
-// Drops those of the first m edges whose ends are not near. The empty set `near` gets the others.
-fn drop_far<'a>(
+// The records of a site's handsets and edges, and the numbers of its header.
+#[derive(Clone, Copy)]
+struct Records<'a> {
     handsets: &'a [u8],
     edges: &'a [u8],
-    m: usize,
-    limit: u64,
-    near: &mut [u64],
-    table: &mut [u64],
-    sizes: &mut [u32],
-)
-    requires { (m ≤ edges_most) × (length handsets.now ≤ handset_bytes * 512) × (near.old ≡ zeros edge_words)
-        × (Room table.old sizes.old) × (Counted table.old sizes.old)
-        × ((k : ℕ) → k < m → HasEnds edges.now (length handsets.now / handset_bytes) k) }
-    ensures kept { EdgeSet near.new (λ k. ltb k m && passes_near handsets.now edges.now limit k) }
-    ensures dropped { Dropped edges.now
-        (λ k. ltb k m && not (passes_near handsets.now edges.now limit k)) table.old table.new }
-    ensures counted { Counted table.new sizes.new }
-{
-    let mut j: usize = 0;
-    while 64 * j < m {
-        let count = if m - 64 * j < 64 { m - 64 * j } else { 64 };
-        let word = near_word(handsets, edges, 64 * j, count, limit);
-        let all = 18446744073709551615u64 >> (64 - count);
-        drop_edges(edges, word ^ all, 64 * j, table, sizes);
-        near[j] = word;
-        j += 1;
-    }
+    h: Header,
+    ghost handsets_most: { length handsets.now ≤ handset_bytes * 512 },
+    ghost edges_most: { h.m ≤ edges_most },
+    ghost whole: { (k : ℕ) → k < h.m → HasEnds edges.now (length handsets.now / handset_bytes) k },
 }
 
-// The test of two different handsets for similarity: whether rows u and v have enough in common for their sizes. Takes the count of tests so far, and hands it
-// back one higher.
-fn test_similarity<'a>(
-    table: &'a [u64],
-    sizes: &'a [u32],
-    u: usize,
-    v: usize,
-    p: u16,
-    q: u16,
-    count: u32,
-) -> Tested
-    requires { (u < 512) × (v < 512) × (Room table.now sizes.now) × (Counted table.now sizes.now) × (count ≤ edges_most + 64) }
-    ensures answer { result.similar ≡ enough table.now sizes.now p q u v }
-    ensures counted { result.count ≡ count + 1 }
-{
-    let a = u * 8;
-    let a_past = a + 8;
-    let b = v * 8;
-    let b_past = b + 8;
-    let c = similarity::common(&table[a..a_past], &table[b..b_past]);
-    let similar = similarity::meets_epsilon(c as u16, sizes[u] as u16, sizes[v] as u16, p, q);
-    Tested {
-        similar,
-        count: count + 1,
+impl<'a> Records<'a> {
+    // Those of an accepted image.
+    fn of_image(image: &'a [u8], h: Header) -> Records<'a>
+        requires { (Accepted image.now) × (h ≡ header_of image.now) }
+        ensures handsets { result.handsets.now ≡ handset_records image.now }
+        ensures edges { result.edges.now ≡ edge_records image.now }
+        ensures header { result.h ≡ h }
+    {
+        let a = h.handsets as usize;
+        let b = h.edges as usize;
+        Records {
+            handsets: &image[a..a + fields::HANDSET_BYTES * (h.n as usize)],
+            edges: &image[b..b + fields::EDGE_BYTES * (h.m as usize)],
+            h,
+        }
     }
-}
 
-// Of the edges base + k, for each set bit k of the word, those whose ends are not similar, as a word. Each is tested once.
-fn dissimilar_word<'a>(
-    edges: &'a [u8],
-    word: u64,
-    base: usize,
-    table: &'a [u64],
-    sizes: &'a [u32],
-    p: u16,
-    q: u16,
-    count: u32,
-) -> Sifted
-    requires { (base ≤ edges_most) × (Room table.now sizes.now) × (Counted table.now sizes.now)
-        × ((k : ℕ) → T (in_word word base k) → HasEnds edges.now 512 k) × (count ≤ edges_most) }
-    ensures sifted { WordOf result.word
-        (λ k. eqb (bit_of word k) 1 && not (enough_at table.now sizes.now p q edges.now (base + k))) }
-    ensures counted { result.count ≡ count + sum 64 (bit_of word) }
-{
-    let mut w = word;
-    let mut dissimilar: u64 = 0;
-    let mut tests = count;
-    while w != 0 {
-        let k = u64::trailing_zeros(w);
-        let rest = w & (w - 1);
-        let e = ends_at(edges, base + k as usize);
-        let tested = test_similarity(table, sizes, e.a, e.b, p, q, tests);
-        tests = tested.count;
-        let one = if tested.similar { 0u64 } else { w ^ rest };
-        dissimilar = dissimilar | one;
-        w = rest;
+    // The two ends of edge k.
+    fn ends_at(&self, k: usize) -> Ends
+        requires { k < self.now.h.m }
+        ensures ends { (result.a ≡ end_a self.now.edges.now k) × (result.b ≡ end_b self.now.edges.now k) }
+        ensures below { (result.a < 512) × (result.b < 512) }
+    {
+        let at = fields::EDGE_BYTES * k;
+        fields::read_ends(&self.edges[at..at + fields::EDGE_BYTES])
     }
-    Sifted {
-        word: dissimilar,
-        count: tests,
-    }
-}
 
-// Tests the edges of a set, all below m, for similarity, each once. Keeps those whose ends are not similar, and gives the count of tests.
-fn keep_dissimilar<'a>(
-    edges: &'a [u8],
-    table: &'a [u64],
-    sizes: &'a [u32],
-    m: usize,
-    p: u16,
-    q: u16,
-    set: &mut [u64],
-) -> u32
-    requires { (m ≤ edges_most) × (length set.old ≡ edge_words) × (Room table.now sizes.now) × (Counted table.now sizes.now)
-        × ((k : ℕ) → bit_at set.old k ≡ 1 → (k < m) × (HasEnds edges.now 512 k)) }
-    ensures kept { EdgeSet set.new
-        (λ k. eqb (bit_at set.old k) 1 && not (enough_at table.now sizes.now p q edges.now k)) }
-    ensures counted { result ≡ sum edges_most (bit_at set.old) }
-{
-    let mut count: u32 = 0;
-    let mut j: usize = 0;
-    while 64 * j < m {
-        let sifted = dissimilar_word(edges, set[j], 64 * j, table, sizes, p, q, count);
-        set[j] = sifted.word;
-        count = sifted.count;
-        j += 1;
+    // Whether the ends of edge k are near.
+    fn is_near(&self, k: usize) -> bool
+        requires { k < self.now.h.m }
+        ensures { result ≡ passes_near self.now.handsets.now self.now.edges.now self.now.h.limit k }
+    {
+        let e = self.ends_at(k);
+        let a = fields::HANDSET_BYTES * e.a;
+        let b = fields::HANDSET_BYTES * e.b;
+        let first = &self.handsets[a..a + fields::HANDSET_BYTES];
+        let second = &self.handsets[b..b + fields::HANDSET_BYTES];
+        match near::proximity_of(first, second, self.h.limit) {
+            Some(_) => true,
+            None => false,
+        }
     }
-    count
-}
 
-// Drops the edges of a set, all below m.
-fn drop_set<'a>(edges: &'a [u8], set: &'a [u64], m: usize, table: &mut [u64], sizes: &mut [u32])
-    requires { (m ≤ edges_most) × (length set.now ≡ edge_words) × (Room table.old sizes.old) × (Counted table.old sizes.old)
-        × ((k : ℕ) → bit_at set.now k ≡ 1 → (k < m) × (HasEnds edges.now 512 k)) }
-    ensures dropped { Dropped edges.now (λ k. eqb (bit_at set.now k) 1) table.old table.new }
-    ensures counted { Counted table.new sizes.new }
-{
-    let mut j: usize = 0;
-    while 64 * j < m {
-        drop_edges(edges, set[j], 64 * j, table, sizes);
-        j += 1;
+    // The edges from `base` on whose ends are near, as a word: of `count` edges, at most 64. It is made from its highest bit down, without a branch on the test.
+    fn near_word(&self, base: usize, count: usize) -> u64
+        requires { (count ≤ 64) × (base + count ≤ self.now.h.m) }
+        ensures { WordOf result
+            (λ k. ltb k count && passes_near self.now.handsets.now self.now.edges.now self.now.h.limit (base + k)) }
+    {
+        let mut word = 0;
+        for k in (0..count).rev() {
+            word = (word << 1) | u64::from(self.is_near(base + k));
+        }
+        word
+    }
+
+    // Drops the edges base + k, for each set bit k of the word: takes the ends of each out of each other's rows.
+    fn drop_edges(&self, word: u64, base: usize, table: &mut sets::Table, sizes: &mut Sizes)
+        requires { (Counted table.old sizes.old) × ((k : ℕ) → T (in_word word base k) → k < self.now.h.m) }
+        ensures dropped { Dropped self.now.edges.now (in_word word base) table.old table.new }
+        ensures counted { Counted table.new sizes.new }
+    {
+        for k in sets::set_bits(word) {
+            let e = self.ends_at(base + k);
+            take_out(table, sizes, e.a, e.b);
+            take_out(table, sizes, e.b, e.a);
+        }
+    }
+
+    // Drops the edges whose ends are not near. The empty set `near` gets the others.
+    fn drop_far(&self, near: &mut Edges, table: &mut sets::Table, sizes: &mut Sizes)
+        requires { (near.old ≡ zeros edge_words) × (Counted table.old sizes.old) }
+        ensures kept { EdgeSet near.new
+            (λ k. ltb k self.now.h.m && passes_near self.now.handsets.now self.now.edges.now self.now.h.limit k) }
+        ensures dropped { Dropped self.now.edges.now
+            (λ k. ltb k self.now.h.m && not (passes_near self.now.handsets.now self.now.edges.now self.now.h.limit k)) table.old table.new }
+        ensures counted { Counted table.new sizes.new }
+    {
+        let m = self.h.m as usize;
+        for j in 0..m.div_ceil(64) {
+            let count = (m - 64 * j).min(64);
+            let word = self.near_word(64 * j, count);
+            let all = u64::MAX >> (64 - count);
+            self.drop_edges(word ^ all, 64 * j, table, sizes);
+            near[j] = word;
+        }
+    }
+
+    // Drops the edges of a set.
+    fn drop_set(&self, set: &Edges, table: &mut sets::Table, sizes: &mut Sizes)
+        requires { (Counted table.old sizes.old) × ((k : ℕ) → bit_at set.now k ≡ 1 → k < self.now.h.m) }
+        ensures dropped { Dropped self.now.edges.now (λ k. eqb (bit_at set.now k) 1) table.old table.new }
+        ensures counted { Counted table.new sizes.new }
+    {
+        for (j, word) in set.iter().enumerate() {
+            self.drop_edges(*word, 64 * j, table, sizes);
+        }
+    }
+
+    // The test of the ends of edge k for similarity: whether their rows have enough in common for their sizes.
+    fn is_similar(&self, table: &sets::Table, sizes: &Sizes, k: usize) -> bool
+        requires { (k < self.now.h.m) × (Counted table.now sizes.now) }
+        ensures { result ≡ enough_at table.now sizes.now self.now.h.p self.now.h.q self.now.edges.now k }
+    {
+        let e = self.ends_at(k);
+        let a = e.a * 8;
+        let b = e.b * 8;
+        let common = similarity::common(&table[a..a + 8], &table[b..b + 8]);
+        similarity::meets_epsilon(
+            common as u16,
+            sizes[e.a] as u16,
+            sizes[e.b] as u16,
+            self.h.p,
+            self.h.q,
+        )
+    }
+
+    // Of the edges base + k, for each set bit k of the word, those whose ends are not similar, as a word. Each is tested once, which `tests` counts.
+    fn dissimilar_word(
+        &self,
+        word: u64,
+        base: usize,
+        table: &sets::Table,
+        sizes: &Sizes,
+        tests: &mut u32,
+    ) -> u64
+        requires { (Counted table.now sizes.now) × ((k : ℕ) → T (in_word word base k) → k < self.now.h.m) × (tests.old ≤ edges_most) }
+        ensures sifted { WordOf result
+            (λ k. eqb (bit_of word k) 1
+            && not (enough_at table.now sizes.now self.now.h.p self.now.h.q self.now.edges.now (base + k))) }
+        ensures counted { tests.new ≡ tests.old + length (ones_of word) }
+    {
+        let mut dissimilar = 0;
+        for k in sets::set_bits(word) {
+            let similar = self.is_similar(table, sizes, base + k);
+            *tests += 1;
+            dissimilar |= u64::from(!similar) << k;
+        }
+        dissimilar
+    }
+
+    // Tests the edges of a set for similarity, each once. Keeps those whose ends are not similar, and gives the count of tests.
+    fn keep_dissimilar(&self, table: &sets::Table, sizes: &Sizes, set: &mut Edges) -> u32
+        requires { (Counted table.now sizes.now) × ((k : ℕ) → bit_at set.old k ≡ 1 → k < self.now.h.m) }
+        ensures kept { EdgeSet set.new
+            (λ k. eqb (bit_at set.old k) 1
+            && not (enough_at table.now sizes.now self.now.h.p self.now.h.q self.now.edges.now k)) }
+        ensures counted { result ≡ sum edges_most (bit_at set.old) }
+    {
+        let mut tests = 0;
+        for (j, word) in set.iter_mut().enumerate() {
+            *word = self.dissimilar_word(*word, 64 * j, table, sizes, &mut tests);
+        }
+        tests
+    }
+
+    // Whether both ends of edge k are within a set of handsets.
+    fn is_within(&self, within: &sets::Row, k: usize) -> bool
+        requires { k < self.now.h.m }
+        ensures { result ≡ both_within within.now self.now.edges.now k }
+    {
+        let e = self.ends_at(k);
+        sets::has(within, e.a) & sets::has(within, e.b)
+    }
+
+    // Of the edges base + k, for each set bit k of the word, those with both ends within a set of handsets, as a word.
+    fn within_word(&self, word: u64, base: usize, within: &sets::Row) -> u64
+        requires { (k : ℕ) → T (in_word word base k) → k < self.now.h.m }
+        ensures { WordOf result (λ k. eqb (bit_of word k) 1 && both_within within.now self.now.edges.now (base + k)) }
+    {
+        let mut inside = 0;
+        for k in sets::set_bits(word) {
+            inside |= u64::from(self.is_within(within, base + k)) << k;
+        }
+        inside
+    }
+
+    // Keeps those edges of the set `near` that have both ends within a set of handsets, and drops the others of them.
+    fn drop_outside(
+        &self,
+        within: &sets::Row,
+        near: &mut Edges,
+        table: &mut sets::Table,
+        sizes: &mut Sizes,
+    )
+        requires { (Counted table.old sizes.old) × ((k : ℕ) → bit_at near.old k ≡ 1 → k < self.now.h.m) }
+        ensures kept { EdgeSet near.new
+            (λ k. eqb (bit_at near.old k) 1 && both_within within.now self.now.edges.now k) }
+        ensures dropped { Dropped self.now.edges.now
+            (λ k. eqb (bit_at near.old k) 1 && not (both_within within.now self.now.edges.now k)) table.old table.new }
+        ensures counted { Counted table.new sizes.new }
+    {
+        for (j, word) in near.iter_mut().enumerate() {
+            let inside = self.within_word(*word, 64 * j, within);
+            self.drop_edges(inside ^ *word, 64 * j, table, sizes);
+            *word = inside;
+        }
     }
 }
 
 // Fills the empty set `cores` with the handsets below n whose size is at least mu, without a branch.
-fn mark_cores(sizes: &[u32], n: usize, mu: u32, cores: &mut [u64])
-    requires { (n ≤ length sizes.now) × (n ≤ 512) × (cores.old ≡ zeros 8) }
+fn mark_cores(sizes: &Sizes, n: usize, mu: u32, cores: &mut sets::Row)
+    requires { (n ≤ 512) × (cores.old ≡ zeros 8) }
     ensures { SetOf cores.new (λ u. ltb u n && leb mu (get_or sizes.now u 0)) }
 {
-    let mut u: usize = 0;
-    while u < n {
-        let one = if mu <= sizes[u] { 1u64 } else { 0u64 };
-        cores[u / 64] = cores[u / 64] | (one << (u % 64));
-        u += 1;
+    for (u, size) in sizes[..n].iter().enumerate() {
+        cores[u / 64] |= u64::from(mu <= *size) << (u % 64);
     }
 }
 
@@ -282,9 +282,9 @@ fn mark_cores(sizes: &[u32], n: usize, mu: u32, cores: &mut [u64])
 // earlier contents are overwritten.
 fn open_neighbours(
     image: &[u8],
-    near: &mut [u64; EDGE_WORDS],
-    table: &mut [u64; sets::TABLE_WORDS],
-    sizes: &mut [u32; 512],
+    near: &mut Edges,
+    table: &mut sets::Table,
+    sizes: &mut Sizes,
 ) -> Result<Header, Refusal>
     ensures { NeighboursRead image.now result near.new table.new sizes.new }
 {
@@ -293,47 +293,43 @@ fn open_neighbours(
     let Ok(h) = opened else {
         return opened;
     };
-    let m = h.m as usize;
-    let a = h.edges as usize;
-    let b = a + fields::EDGE_BYTES * m;
-    let from = h.handsets as usize;
-    let to = from + fields::HANDSET_BYTES * (h.n as usize);
-    drop_far(
-        &image[from..to],
-        &image[a..b],
-        m,
-        h.limit,
-        near,
-        table,
-        sizes,
-    );
+    let records = Records::of_image(image, h);
+    records.drop_far(near, table, sizes);
     opened
 }
 
-// Makes the neighbour table of a network its communities, as the first rows; the empty set `cores` gets the cores. Gives how many communities there are, and
-// how many tests were made. On the way the near edges whose ends are not similar are dropped, which leaves the similarity relation; the set of near edges
-// keeps those, and the sizes become those of this relation.
+// Finds the communities of the network that the tables hold, and gives how many there are, and how many tests were made. They become the first rows of the
+// table, and `cores` gets the cores. On the way the near edges whose ends are not similar are dropped, which leaves the similarity relation; the set of near
+// edges keeps those, and the sizes become those of this relation. After the reader's no there are none, and the tables stay.
 fn find_groups(
     image: &[u8],
-    h: Header,
-    near: &mut [u64],
-    sizes: &mut [u32],
-    table: &mut [u64],
-    cores: &mut [u64],
-) -> Found
-    requires { (Drawn image.now h near.old table.old sizes.old) × (Room table.old sizes.old) × (cores.old ≡ zeros 8) }
-    ensures found { Finds image.now near.old table.old result.groups table.new cores.new }
-    ensures counted { result.tests ≡ sum edges_most (bit_at near.old) }
+    opened: Result<Header, Refusal>,
+    near: &mut Edges,
+    table: &mut sets::Table,
+    sizes: &mut Sizes,
+    cores: &mut sets::Row,
+) -> SiteGroups
+    requires { DrawnAfter image.now opened near.old table.old sizes.old }
+    ensures { GroupsFound image.now opened near.old table.old result table.new cores.new }
 {
-    let m = h.m as usize;
-    let a = h.edges as usize;
-    let b = a + fields::EDGE_BYTES * m;
-    let edges = &image[a..b];
-    let tests = keep_dissimilar(edges, table, sizes, m, h.p, h.q, near);
-    drop_set(edges, near, m, table, sizes);
+    *cores = [0u64; sets::ROW_WORDS];
+    let Ok(h) = opened else {
+        return SiteGroups {
+            opened,
+            groups: 0,
+            tests: 0,
+        };
+    };
+    let records = Records::of_image(image, h);
+    let tests = records.keep_dissimilar(table, sizes, near);
+    records.drop_set(near, table, sizes);
     mark_cores(sizes, h.n as usize, fields::core_size(h.mu) as u32, cores);
     let groups = search::find_communities(table, cores);
-    Found { groups, tests }
+    SiteGroups {
+        opened,
+        groups,
+        tests,
+    }
 }
 
 // Opens an image by the reader and finds its communities. After a yes the first rows of the table are the communities, and `cores` is the set of the cores.
@@ -347,21 +343,8 @@ pub fn find_rows(
 {
     let mut near = [0u64; EDGE_WORDS];
     let mut sizes = [0u32; 512];
-    *cores = [0u64; 8];
     let opened = open_neighbours(image, &mut near, table, &mut sizes);
-    let Ok(h) = opened else {
-        return SiteGroups {
-            opened,
-            groups: 0,
-            tests: 0,
-        };
-    };
-    let found = find_groups(image, h, &mut near, &mut sizes, table, cores);
-    SiteGroups {
-        opened,
-        groups: found.groups,
-        tests: found.tests,
-    }
+    find_groups(image, opened, &mut near, table, &mut sizes, cores)
 }
 
 // The same, with the near edges and the near counts of the site: `near` is the set of the near edges, and the sizes are those of the neighbourhoods.
@@ -375,119 +358,53 @@ pub fn find_site(
     ensures { SiteFound image.now (network image.now) result near.new table.new
         sizes.new cores.new }
 {
-    *cores = [0u64; 8];
     let opened = open_neighbours(image, near, table, sizes);
-    let Ok(h) = opened else {
-        return SiteGroups {
-            opened,
-            groups: 0,
-            tests: 0,
-        };
-    };
     let mut tested = *near;
     let mut left = *sizes;
-    let found = find_groups(image, h, &mut tested, &mut left, table, cores);
-    SiteGroups {
-        opened,
-        groups: found.groups,
-        tests: found.tests,
-    }
+    find_groups(image, opened, &mut tested, table, &mut left, cores)
 }
 
 // ---- within a set of handsets
 
-// Of the edges base + k, for each set bit k of the word, those with both ends within a set of handsets, as a word.
-fn within_word<'a>(edges: &'a [u8], word: u64, base: usize, within: &'a [u64]) -> u64
-    requires { (base ≤ edges_most) × ((k : ℕ) → T (in_word word base k) → HasEnds edges.now 512 k) }
-    ensures { WordOf result (λ k. eqb (bit_of word k) 1 && both_within within.now edges.now (base + k)) }
-{
-    let mut w = word;
-    let mut inside: u64 = 0;
-    while w != 0 {
-        let k = u64::trailing_zeros(w);
-        let rest = w & (w - 1);
-        let e = ends_at(edges, base + k as usize);
-        let one = if sets::has(within, e.a) & sets::has(within, e.b) {
-            w ^ rest
-        } else {
-            0u64
-        };
-        inside = inside | one;
-        w = rest;
-    }
-    inside
-}
-
-// Keeps those edges of the set `near`, all below m, that have both ends within a set of handsets, and drops the others of them.
-fn drop_outside<'a>(
-    edges: &'a [u8],
-    within: &'a [u64],
-    m: usize,
-    near: &mut [u64],
-    table: &mut [u64],
-    sizes: &mut [u32],
-)
-    requires { (m ≤ edges_most) × (length near.old ≡ edge_words) × (Room table.old sizes.old) × (Counted table.old sizes.old)
-        × ((k : ℕ) → bit_at near.old k ≡ 1 → (k < m) × (HasEnds edges.now 512 k)) }
-    ensures kept { EdgeSet near.new (λ k. eqb (bit_at near.old k) 1 && both_within within.now edges.now k) }
-    ensures dropped { Dropped edges.now
-        (λ k. eqb (bit_at near.old k) 1 && not (both_within within.now edges.now k)) table.old
-        table.new }
-    ensures counted { Counted table.new sizes.new }
-{
-    let mut j: usize = 0;
-    while 64 * j < m {
-        let all = near[j];
-        let inside = within_word(edges, all, 64 * j, within);
-        drop_edges(edges, inside ^ all, 64 * j, table, sizes);
-        near[j] = inside;
-        j += 1;
-    }
-}
-
 // Takes each handset below n that is outside a set of handsets out of its own row.
-fn take_outside(within: &[u64], n: usize, table: &mut [u64], sizes: &mut [u32])
-    requires { (n ≤ 512) × (Room table.old sizes.old) × (Counted table.old sizes.old) }
+fn take_outside(within: &sets::Row, n: usize, table: &mut sets::Table, sizes: &mut Sizes)
+    requires { (n ≤ 512) × (Counted table.old sizes.old) }
     ensures taken { SelfTaken within.now n table.old table.new }
     ensures counted { Counted table.new sizes.new }
 {
-    let mut v: usize = 0;
-    while v < n {
+    for v in 0..n {
         if !sets::has(within, v) {
             take_out(table, sizes, v, v);
         }
-        v += 1;
     }
 }
 
 // Makes the neighbour table of a site, its sizes and its near edges those of the handsets within a set: the edges with an end outside are dropped, and the
 // handsets outside have no neighbours, not even themselves.
-fn keep_within<'a>(
-    image: &'a [u8],
+fn keep_within(
+    image: &[u8],
     h: Header,
-    within: &'a [u64],
-    near: &mut [u64],
-    table: &mut [u64],
-    sizes: &mut [u32],
+    within: &sets::Row,
+    near: &mut Edges,
+    table: &mut sets::Table,
+    sizes: &mut Sizes,
 )
-    requires { (Drawn image.now h near.old table.old sizes.old) × (Room table.old sizes.old) }
+    requires { Drawn image.now h near.old table.old sizes.old }
     ensures drawn { Drawn image.now h near.new table.new sizes.new }
     ensures held { HeldWithin image.now within.now near.old table.old near.new
         table.new }
 {
-    let m = h.m as usize;
-    let a = h.edges as usize;
-    let b = a + fields::EDGE_BYTES * m;
-    drop_outside(&image[a..b], within, m, near, table, sizes);
+    let records = Records::of_image(image, h);
+    records.drop_outside(within, near, table, sizes);
     take_outside(within, h.n as usize, table, sizes);
 }
 
 // Opens an image by the reader and finds the communities of the handsets within a set, with the edges between them, under the site's numbers. After a yes the
 // first rows of the table are these communities and `cores` is the set of their cores; `near` and the sizes are the near edges and the near counts of the whole
 // site. After a no everything is 0, as after `find_site`.
-pub fn find_part<'a>(
-    image: &'a [u8],
-    within: &'a [u64; 8],
+pub fn find_part(
+    image: &[u8],
+    within: &[u64; 8],
     near: &mut [u64; EDGE_WORDS],
     table: &mut [u64; sets::TABLE_WORDS],
     sizes: &mut [u32; 512],
@@ -495,22 +412,11 @@ pub fn find_part<'a>(
 ) -> SiteGroups
     ensures { PartFound image.now within.now result near.new table.new sizes.new cores.new }
 {
-    *cores = [0u64; 8];
     let opened = open_neighbours(image, near, table, sizes);
-    let Ok(h) = opened else {
-        return SiteGroups {
-            opened,
-            groups: 0,
-            tests: 0,
-        };
-    };
     let mut inside = *near;
     let mut left = *sizes;
-    keep_within(image, h, within, &mut inside, table, &mut left);
-    let found = find_groups(image, h, &mut inside, &mut left, table, cores);
-    SiteGroups {
-        opened,
-        groups: found.groups,
-        tests: found.tests,
+    if let Ok(h) = opened {
+        keep_within(image, h, within, &mut inside, table, &mut left);
     }
+    find_groups(image, opened, &mut inside, table, &mut left, cores)
 }
