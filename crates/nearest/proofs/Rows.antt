@@ -1,6 +1,7 @@
 -- The nearest group by the rows. The handsets at the least distance of all that are in a row are the nearest members of all groups, so that the first row that
 -- meets them is the nearest group.
 --
+--     none_seen        where no handset is in a row, there is none: no_rows is the answer then
 --     rows_nearest     what the pass over the rows answers
 --     some_member      a community has a member
 --     rows_filled      so that each row of the communities has
@@ -8,6 +9,7 @@
 --     site_answer_lem      the answer over the rows of an accepted image is the call's
 use Prim.Native.Nat.{ℕ, zero, suc, ◌+◌, ◌*◌, ◌-◌, ◌≤◌, ◌<◌, min}
 use native.Mathlib.Omega.{arith}
+use native.Mathlib.Decide.{dec_lt}
 use mathlib.Core.Path.{◌≡◌, refl, sym, ap, ap₂, ◌∙◌, subst}
 use mathlib.Core.Logic.{⊎_elim}
 use mathlib.Core.Bool.{Bool, true, false, ◌&&◌}
@@ -16,6 +18,7 @@ use lib.Dec.{T, eqb, leb, eqb→eq}
 use lib.IntN.{ℤ}
 use lib.ListN.{length, get_or, take, drop}
 use borrow.Author.Tests.{le-leb}
+use Rattle.std.specs.Prelude.{Some}
 use Rattle.sets.specs.Below.{any, bit, find}
 use Rattle.sets.specs.Bits.{bit_at}
 use Rattle.sets.proofs.Tests.{T_true, decide, any_make, any_take, not_any, and_make, and_left, and_right, eqb_of, find_law}
@@ -66,97 +69,96 @@ some_times v (x ∷ gs) h = go (contains v x) refl h (some_times v gs)
 
 -- ---- the pass over the rows
 module _ (far : ℕ → ℕ) (rows : List ℕ) (n : ℕ) (filled : RowsFilled rows n) (once twice : List ℕ) (found : MembersFound (rows_of rows n) once twice)
-    (least : ℕ) (closest : List ℕ) (held : Closest far (λ v. eqb (bit_at once v) 1) least closest) (fits : (v : ℕ) → far v ≤ 18446744073709551615) (some : 0 < n) where
-  abbrev group : ℕ → List ℕ
-  group k = get_or (rows_of rows n) k []
+  where
+    abbrev group : ℕ → List ℕ
+    group k = get_or (rows_of rows n) k []
 
-  abbrev in_once : ℕ → Bool
-  in_once v = eqb (bit_at once v) 1
+    abbrev in_once : ℕ → Bool
+    in_once v = eqb (bit_at once v) 1
 
-  below_all : (k v : ℕ) → k < n → Memᴰ v (group k) → v < 512
-  unfolding row_members
-  below_all k v h m = (select_mem 512 (in_row rows k) v (subst (λ (l : List ℕ). Memᴰ v l) (rows_at rows n k h) m)).0
+    below_all : (k v : ℕ) → k < n → Memᴰ v (group k) → v < 512
+    unfolding row_members
+    below_all k v h m = (select_mem 512 (in_row rows k) v (subst (λ (l : List ℕ). Memᴰ v l) (rows_at rows n k h) m)).0
 
-  once_is : (v : ℕ) → v < 512 → in_once v ≡ leb 1 (membership_count v (rows_of rows n))
-  once_is v h = ap (λ (b : ℕ). eqb b 1) (found.in_one.bits v h) ∙ bit_test (leb 1 (membership_count v (rows_of rows n)))
+    once_is : (v : ℕ) → v < 512 → in_once v ≡ leb 1 (membership_count v (rows_of rows n))
+    once_is v h = ap (λ (b : ℕ). eqb b 1) (found.in_one.bits v h) ∙ bit_test (leb 1 (membership_count v (rows_of rows n)))
 
-  seen : (k v : ℕ) → k < n → Memᴰ v (group k) → T (in_once v)
-  seen k v h m =
-      subst T (sym (once_is v (below_all k v h m) ∙ le-leb 1 _ (times_some v (rows_of rows n) k (omega (arith, rows_length rows n)) (mem_contains v (group k) m)))) tt
+    seen : (k v : ℕ) → k < n → Memᴰ v (group k) → T (in_once v)
+    seen k v h m =
+        subst T (sym (once_is v (below_all k v h m) ∙ le-leb 1 _ (times_some v (rows_of rows n) k (omega (arith, rows_length rows n)) (mem_contains v (group k) m)))) tt
 
-  -- a handset that is in the set of the closest
-  close : (v : ℕ) → v < 512 → T (in_once v) → far v ≡ least → T (eqb (bit_at closest v) 1)
-  close v h t e =
-      eqb_of (bit_at closest v) 1 (held.bits v h ∙ bit_true (in_once v && eqb (far v) least) (and_make (in_once v) (eqb (far v) least) t (eqb_of (far v) least e)))
+    -- where no handset is in a row, there is no row
+    pub none_seen : ((v : ℕ) → v < 512 → in_once v ≡ false) → n ≡ 0
+    none_seen none = pick (dec_lt 0 n)
+      where
+        pick : Dec (0 < n) → n ≡ 0
+        pick (yes some) =
+            let l : 0 < length (group 0) = subst (λ (x : List ℕ). 0 < length x) (sym (rows_at rows n 0 some)) (filled.some 0 some) in
+            let v : ℕ = get_or (group 0) 0 0 in
+            let m : Memᴰ v (group 0) = at_mem (group 0) 0 0 l in
+            absurd (subst T (none v (below_all 0 v some m)) (seen 0 v some m))
+        pick (no h) = omega arith
 
-  close_far : (v : ℕ) → v < 512 → T (eqb (bit_at closest v) 1) → far v ≡ least
-  close_far v h t =
-      let q : (in_once v && eqb (far v) least) ≡ true = sym (bit_test (in_once v && eqb (far v) least)) ∙ ap (λ (b : ℕ). eqb b 1) (sym (held.bits v h)) ∙ T_true (eqb (bit_at closest v) 1) t in
-      eqb→eq (far v) least (and_right (in_once v) (eqb (far v) least) (subst T (sym q) tt))
+    module _ (least : ℕ) (closest : List ℕ) (held : Closest far in_once (Some least) closest) where
+      -- a handset that is in the set of the closest
+      close : (v : ℕ) → v < 512 → T (in_once v) → far v ≡ least → T (eqb (bit_at closest v) 1)
+      close v h t e =
+          eqb_of (bit_at closest v) 1 (held.bits v h ∙ bit_true (in_once v && eqb (far v) least) (and_make (in_once v) (eqb (far v) least) t (eqb_of (far v) least e)))
 
-  -- some handset of a row is as near as the least
-  nearest_handset : (v : ℕ) × (v < 512) × T (in_once v) × (far v ≡ least)
-  nearest_handset =
-      let l : 0 < length (group 0) = subst (λ (x : List ℕ). 0 < length x) (sym (rows_at rows n 0 some)) (filled.some 0 some) in
-      let v : ℕ = get_or (group 0) 0 0 in
-      let m : Memᴰ v (group 0) = at_mem (group 0) 0 0 l in
-      let b : v < 512 = below_all 0 v some m in
-      let t : T (in_once v) = seen 0 v some m in
-      ⊎_elim (λ e. (v, b, t, omega (arith, e, fits v, held.none_nearer v b t))) (λ w. w) held.attained
+      close_far : (v : ℕ) → v < 512 → T (eqb (bit_at closest v) 1) → far v ≡ least
+      close_far v h t =
+          let q : (in_once v && eqb (far v) least) ≡ true = sym (bit_test (in_once v && eqb (far v) least)) ∙ ap (λ (b : ℕ). eqb b 1) (sym (held.bits v h)) ∙ T_true (eqb (bit_at closest v) 1) t in
+          eqb→eq (far v) least (and_right (in_once v) (eqb (far v) least) (subst T (sym q) tt))
 
-  abbrev at : ℕ → Bool
-  at k = meets closest (group k)
+      abbrev at : ℕ → Bool
+      at k = meets closest (group k)
 
-  meets_with : (k v : ℕ) → v < 512 → T (eqb (bit_at closest v) 1) → T (contains v (group k)) → T (at k)
-  unfolding meets
-  meets_with k v h c t = any_make 512 (λ u. eqb (bit_at closest u) 1 && contains u (group k)) v h (and_make (eqb (bit_at closest v) 1) (contains v (group k)) c t)
+      meets_with : (k v : ℕ) → v < 512 → T (eqb (bit_at closest v) 1) → T (contains v (group k)) → T (at k)
+      unfolding meets
+      meets_with k v h c t = any_make 512 (λ u. eqb (bit_at closest u) 1 && contains u (group k)) v h (and_make (eqb (bit_at closest v) 1) (contains v (group k)) c t)
 
-  met_by : (k : ℕ) → T (at k) → (v : ℕ) × (v < 512) × T (eqb (bit_at closest v) 1) × T (contains v (group k))
-  unfolding meets
-  met_by k t =
-      let r = any_take 512 (λ u. eqb (bit_at closest u) 1 && contains u (group k)) t in
-      (r.0, r.1, and_left (eqb (bit_at closest r.0) 1) (contains r.0 (group k)) r.2, and_right (eqb (bit_at closest r.0) 1) (contains r.0 (group k)) r.2)
+      met_by : (k : ℕ) → T (at k) → (v : ℕ) × (v < 512) × T (eqb (bit_at closest v) 1) × T (contains v (group k))
+      unfolding meets
+      met_by k t =
+          let r = any_take 512 (λ u. eqb (bit_at closest u) 1 && contains u (group k)) t in
+          (r.0, r.1, and_left (eqb (bit_at closest r.0) 1) (contains r.0 (group k)) r.2, and_right (eqb (bit_at closest r.0) 1) (contains r.0 (group k)) r.2)
 
-  some_meets : T (any (length (rows_of rows n)) at)
-  some_meets =
-      let w = nearest_handset in
-      let e : leb 1 (membership_count w.0 (rows_of rows n)) ≡ true = sym (once_is w.0 w.1) ∙ T_true (in_once w.0) w.2 in
-      let k = some_times w.0 (rows_of rows n) (lib.Dec.leb→le 1 (membership_count w.0 (rows_of rows n)) (subst T (sym e) tt)) in
-      any_make (length (rows_of rows n)) at k.0 k.1 (meets_with k.0 w.0 w.1 (close w.0 w.1 w.2 w.3) k.2)
+      some_meets : T (any (length (rows_of rows n)) at)
+      some_meets =
+          let w = held.standing.attained in
+          let e : leb 1 (membership_count w.0 (rows_of rows n)) ≡ true = sym (once_is w.0 w.1) ∙ T_true (in_once w.0) w.2 in
+          let k = some_times w.0 (rows_of rows n) (lib.Dec.leb→le 1 (membership_count w.0 (rows_of rows n)) (subst T (sym e) tt)) in
+          any_make (length (rows_of rows n)) at k.0 k.1 (meets_with k.0 w.0 w.1 (close w.0 w.1 w.2 w.3) k.2)
 
-  is_nearest : IsNearest far (Below group (length (rows_of rows n))) (first_meeting closest (rows_of rows n)) least
-  unfolding first_meeting
-  is_nearest =
-      let l = find_law (length (rows_of rows n)) at some_meets in
-      let k : ℕ = find (length (rows_of rows n)) at in
-      let v = met_by k l.1 in
-      record {
-        stands = (v.0, (l.0, contains_mem v.0 (group k) v.3), close_far v.0 v.1 v.2);
-        none_nearer = λ j u m.
-            let h : j < n = omega (arith, m.0, rows_length rows n) in
-            held.none_nearer u (below_all j u h m.1) (seen j u h m.1);
-        lowest = λ j u m e.
-            let h : j < n = omega (arith, m.0, rows_length rows n) in
-            let b : u < 512 = below_all j u h m.1 in
-            let t : T (at j) = meets_with j u b (close u b (seen j u h m.1) e) (mem_contains u (group j) m.1) in
-            ⊎_elim (λ q. absurd (not_any k at j l.2 (lib.Dec.ltb→lt j k q) t)) (λ q. lib.Dec.nltb→le j k q) (decide (lib.Dec.ltb j k));
-      }
+      is_nearest : IsNearest far (Below group (length (rows_of rows n))) (first_meeting closest (rows_of rows n)) least
+      unfolding first_meeting
+      is_nearest =
+          let l = find_law (length (rows_of rows n)) at some_meets in
+          let k : ℕ = find (length (rows_of rows n)) at in
+          let v = met_by k l.1 in
+          record {
+            stands = (v.0, (l.0, contains_mem v.0 (group k) v.3), close_far v.0 v.1 v.2);
+            none_nearer = λ j u m.
+                let h : j < n = omega (arith, m.0, rows_length rows n) in
+                held.standing.none_nearer u (below_all j u h m.1) (seen j u h m.1);
+            lowest = λ j u m e.
+                let h : j < n = omega (arith, m.0, rows_length rows n) in
+                let b : u < 512 = below_all j u h m.1 in
+                let t : T (at j) = meets_with j u b (close u b (seen j u h m.1) e) (mem_contains u (group j) m.1) in
+                ⊎_elim (λ q. absurd (not_any k at j l.2 (lib.Dec.ltb→lt j k q) t)) (λ q. lib.Dec.nltb→le j k q) (decide (lib.Dec.ltb j k));
+          }
 
-  pub rows_nearest : Group (first_meeting closest (rows_of rows n)) least ≡ nearest_in far (rows_of rows n)
-  unfolding nearest_in
-  rows_nearest =
-      sym (nearest_is far (Below group (length (rows_of rows n))) _ (first_meeting closest (rows_of rows n)) least
-      (groups_right far group (length (rows_of rows n))
-      (λ k h. let q : k < n = omega (arith, h, rows_length rows n) in subst (λ (x : List ℕ). 0 < length x) (sym (rows_at rows n k q)) (filled.some k q)))
-      is_nearest)
+      pub rows_nearest : Group (first_meeting closest (rows_of rows n)) least ≡ nearest_in far (rows_of rows n)
+      unfolding nearest_in
+      rows_nearest =
+          sym (nearest_is far (Below group (length (rows_of rows n))) _ (first_meeting closest (rows_of rows n)) least
+          (groups_right far group (length (rows_of rows n))
+          (λ k h. let q : k < n = omega (arith, h, rows_length rows n) in subst (λ (x : List ℕ). 0 < length x) (sym (rows_at rows n k q)) (filled.some k q)))
+          is_nearest)
 
 pub no_rows : (far : ℕ → ℕ) (rows : List ℕ) (n : ℕ) → n ≡ 0 → NoGroups ≡ nearest_in far (rows_of rows n)
 unfolding nearest_in nearest_among rows_of
 no_rows far rows n e = ap (λ (k : ℕ). nearest_in far (rows_of rows k)) (sym e)
-
--- what 64 bits hold
-pub wrapped_fits : (q records : List ℕ) (v : ℕ) → wrapped q records v ≤ 18446744073709551615
-wrapped_fits q records v = omega arith
 
 -- ---- of an accepted image
 pub some_member : (s : List ℕ) → Accepted s → (k : ℕ) → k < length (communities_of s) → 0 < length (get_or (communities_of s) k [])

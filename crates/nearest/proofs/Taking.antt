@@ -2,97 +2,119 @@
 --
 --     closest_none                         before the first handset
 --     closest_far, closest_same, closest_nearer     one handset more, which is farther than the nearest so far, as near, or nearer
---     word_none, word_more, word_done      the handsets of a word, one more at a time
+--     word_more, word_end                  the handsets of a word, one more at a time
 --     closest_word                         one word of a set more
 --     closest_all                          all words of the set
 use Prim.Native.Nat.{ℕ, ◌+◌, ◌-◌, ◌*◌, ◌≤◌, ◌<◌}
 use native.Mathlib.Omega.{arith}
 use native.Mathlib.Decide.{ℕ_discrete, dec_lt}
 use mathlib.Core.Path.{◌≡◌, refl, sym, ap, ap₂, ◌∙◌, subst}
-use mathlib.Core.Logic.{inl, inr, ⊎_elim}
-use mathlib.Core.Bool.{Bool, true, false, ◌&&◌, ◌||◌, not}
-use mathlib.Core.List.{List}
+use mathlib.Core.Logic.{⊎_elim}
+use mathlib.Core.Bool.{Bool, true, false, ◌&&◌, ◌||◌, and-false}
+use mathlib.Core.List.{List, []}
 use lib.Dec.{T, eqb, leb, ltb, eqb→eq}
 use lib.ListN.{get_or}
 use borrow.Author.Tests.{lt-ltb, le-ltb, le-leb, lt-leb, ne_eqb}
 use Rattle.sets.specs.Below.{bit}
-use Rattle.sets.specs.Bits.{bit_of, bit_at, with_bit}
+use Rattle.std.specs.Prelude.{Option, Some, None}
+use Rattle.sets.specs.Bits.{bit_of, bit_at, with_bit, ones_of}
 use Rattle.sets.proofs.Tests.{T_true, or_cases, or_left, or_right, eqb_of}
 use Rattle.sets.proofs.Bits.{zeros, bit_at_zeros, bit_at_set_same, bit_at_set_other, length_with_bit, bit_of_none, word_bit}
-use Rattle.sets.proofs.Lowest.{Lowest, cleared, cleared_le, cleared_same, cleared_other}
-use Rattle.nearest.specs.ForProofs.{Closest, also, in_word, TakesWord}
+use Rattle.sets.proofs.Ascending.{Step, ones_end}
+use Rattle.nearest.specs.ForProofs.{IsLeast, is_away, Closest, also, Takes, in_word, TakesWord}
 
 module _ (far : ℕ → ℕ) where
-  closest_cong : (seen other : ℕ → Bool) (least : ℕ) (ws : List ℕ) → ((v : ℕ) → v < 512 → seen v ≡ other v) → Closest far seen least ws → Closest far other least ws
+  least_cong : (seen other : ℕ → Bool) (least : Option ℕ) → ((v : ℕ) → v < 512 → seen v ≡ other v) → IsLeast far seen least → IsLeast far other least
+  least_cong seen other None e none = λ v h. sym (e v h) ∙ none v h
+  least_cong seen other (Some d) e l = record {
+    attained = (l.attained.0, l.attained.1, subst T (e l.attained.0 l.attained.1) l.attained.2, l.attained.3);
+    none_nearer = λ v h t. l.none_nearer v h (subst T (sym (e v h)) t);
+  }
+
+  closest_cong : (seen other : ℕ → Bool) (least : Option ℕ) (ws : List ℕ) → ((v : ℕ) → v < 512 → seen v ≡ other v) → Closest far seen least ws → Closest far other least ws
   closest_cong seen other least ws e c = record {
     size = c.size;
-    bits = λ v h. c.bits v h ∙ ap (λ (b : Bool). bit (b && eqb (far v) least)) (e v h);
-    none_nearer = λ v h t. c.none_nearer v h (subst T (sym (e v h)) t);
-    attained = ⊎_elim (λ q. inl q) (λ q. inr (q.0, q.1, subst T (e q.0 q.1) q.2, q.3)) c.attained;
+    bits = λ v h. c.bits v h ∙ ap (λ (b : Bool). bit (b && is_away least (far v))) (e v h);
+    standing = least_cong seen other least e c.standing;
   }
 
-  pub closest_none : (seen : ℕ → Bool) → ((v : ℕ) → v < 512 → seen v ≡ false) → Closest far seen 18446744073709551615 (zeros 8)
+  pub closest_none : (seen : ℕ → Bool) → ((v : ℕ) → v < 512 → seen v ≡ false) → Closest far seen None (zeros 8)
   closest_none seen none = record {
     size = refl;
-    bits = λ v h. bit_at_zeros 8 v ∙ sym (ap (λ (b : Bool). bit (b && eqb (far v) 18446744073709551615)) (none v h));
-    none_nearer = λ v h t. absurd (subst T (none v h) t);
-    attained = inl refl;
+    bits = λ v h. bit_at_zeros 8 v ∙ sym (ap (λ (b : Bool). bit (b && false)) (none v h));
+    standing = none;
   }
 
-  module _ (seen : ℕ → Bool) (least : ℕ) (ws : List ℕ) (v : ℕ) (below : v < 512) (c : Closest far seen least ws) where
+  or_false : (b : Bool) → (b || false) ≡ b
+  or_false true = refl
+  or_false false = refl
+
+  or_assoc : (a b c : Bool) → ((a || b) || c) ≡ (a || (b || c))
+  or_assoc true b c = refl
+  or_assoc false b c = refl
+
+  module _ (seen : ℕ → Bool) (v : ℕ) (below : v < 512) where
     also_self : also seen v v ≡ true
     also_self = T_true (also seen v v) (or_right (seen v) (eqb v v) (eqb_of v v refl))
-
-    or_false : (b : Bool) → (b || false) ≡ b
-    or_false true = refl
-    or_false false = refl
 
     also_other : (u : ℕ) → (u ≡ v → ⊥) → also seen v u ≡ seen u
     also_other u d = ap (λ (b : Bool). seen u || b) (ne_eqb u v d) ∙ or_false (seen u)
 
-    kept : (u : ℕ) → T (also seen v u) → (T (seen u) → least ≤ far u) → (x : ℕ) → x ≤ far v → x ≤ least → x ≤ far u
-    kept u t k x h l = ⊎_elim (λ s. omega (arith, l, k s)) (λ e. omega (arith, h, ap far (eqb→eq u v e))) (or_cases (seen u) (eqb u v) t)
+    kept : (u : ℕ) → T (also seen v u) → (x : ℕ) → (T (seen u) → x ≤ far u) → x ≤ far v → x ≤ far u
+    kept u t x k h = ⊎_elim k (λ e. omega (arith, h, ap far (eqb→eq u v e))) (or_cases (seen u) (eqb u v) t)
 
-    pub closest_far : least < far v → Closest far (also seen v) least ws
-    closest_far h = record {
+    pub closest_far : (d : ℕ) (ws : List ℕ) → d < far v → Closest far seen (Some d) ws → Closest far (also seen v) (Some d) ws
+    closest_far d ws h c = record {
       size = c.size;
       bits = λ u l. c.bits u l ∙ ap bit (pick u (ℕ_discrete u v));
-      none_nearer = λ u l t. kept u t (c.none_nearer u l) least (omega (arith, h)) (omega arith);
-      attained = ⊎_elim (λ q. inl q) (λ q. inr (q.0, q.1, or_left (seen q.0) (eqb q.0 v) q.2, q.3)) c.attained;
+      standing = record {
+        attained = let a = c.standing.attained in (a.0, a.1, or_left (seen a.0) (eqb a.0 v) a.2, a.3);
+        none_nearer = λ u l t. kept u t d (c.standing.none_nearer u l) (omega (arith, h));
+      };
     }
       where
         false_right : (b : Bool) → (b && false) ≡ false
         false_right true = refl
         false_right false = refl
 
-        pick : (u : ℕ) → Dec (u ≡ v) → (seen u && eqb (far u) least) ≡ (also seen v u && eqb (far u) least)
+        pick : (u : ℕ) → Dec (u ≡ v) → (seen u && eqb (far u) d) ≡ (also seen v u && eqb (far u) d)
         pick u (yes e) =
-            let z : eqb (far u) least ≡ false = ne_eqb (far u) least (λ q. omega (arith, h, q, ap far e)) in
+            let z : eqb (far u) d ≡ false = ne_eqb (far u) d (λ q. omega (arith, h, q, ap far e)) in
             rw (z, false_right (seen u), false_right (also seen v u)) refl
-        pick u (no d) = ap (λ (b : Bool). b && eqb (far u) least) (sym (also_other u d))
+        pick u (no n) = ap (λ (b : Bool). b && eqb (far u) d) (sym (also_other u n))
 
-    pub closest_same : far v ≡ least → Closest far (also seen v) least (with_bit ws v)
-    closest_same e = record {
+    pub closest_same : (d : ℕ) (ws : List ℕ) → far v ≡ d → Closest far seen (Some d) ws → Closest far (also seen v) (Some d) (with_bit ws v)
+    closest_same d ws e c = record {
       size = length_with_bit ws v ∙ c.size;
       bits = λ u l. pick u l (ℕ_discrete u v);
-      none_nearer = λ u l t. kept u t (c.none_nearer u l) least (omega (arith, e)) (omega arith);
-      attained = inr (v, below, subst T (sym also_self) tt, e);
+      standing = record {
+        attained = (v, below, subst T (sym also_self) tt, e);
+        none_nearer = λ u l t. kept u t d (c.standing.none_nearer u l) (omega (arith, e));
+      };
     }
       where
-        pick : (u : ℕ) → u < 512 → Dec (u ≡ v) → bit_at (with_bit ws v) u ≡ bit (also seen v u && eqb (far u) least)
-        pick u l (yes q) = rw (q, also_self, T_true (eqb (far v) least) (eqb_of (far v) least e)) (bit_at_set_same ws v (omega (arith, c.size)))
-        pick u l (no d) = bit_at_set_other ws v u d ∙ c.bits u l ∙ ap (λ (b : Bool). bit (b && eqb (far u) least)) (sym (also_other u d))
+        pick : (u : ℕ) → u < 512 → Dec (u ≡ v) → bit_at (with_bit ws v) u ≡ bit (also seen v u && eqb (far u) d)
+        pick u l (yes q) = rw (q, also_self, T_true (eqb (far v) d) (eqb_of (far v) d e)) (bit_at_set_same ws v (omega (arith, c.size)))
+        pick u l (no n) = bit_at_set_other ws v u n ∙ c.bits u l ∙ ap (λ (b : Bool). bit (b && eqb (far u) d)) (sym (also_other u n))
 
-    pub closest_nearer : far v < least → Closest far (also seen v) (far v) (with_bit (zeros 8) v)
-    closest_nearer h = record {
+    -- nearer than the nearest so far, or the first
+    beyond : (least : Option ℕ) → ((d : ℕ) → least ≡ Some d → far v < d) → IsLeast far seen least → (u : ℕ) → u < 512 → T (seen u) → far v < far u
+    beyond None h none u l t = absurd (subst T (none u l) t)
+    beyond (Some d) h s u l t = omega (arith, h d refl, s.none_nearer u l t)
+
+    pub closest_nearer : (least : Option ℕ) (ws : List ℕ) → ((d : ℕ) → least ≡ Some d → far v < d) → Closest far seen least ws
+        → Closest far (also seen v) (Some (far v)) (with_bit (zeros 8) v)
+    closest_nearer least ws h c = record {
       size = length_with_bit (zeros 8) v;
       bits = λ u l. pick u l (ℕ_discrete u v);
-      none_nearer = λ u l t. kept u t (c.none_nearer u l) (far v) (omega arith) (omega (arith, h));
-      attained = inr (v, below, subst T (sym also_self) tt, refl);
+      standing = record {
+        attained = (v, below, subst T (sym also_self) tt, refl);
+        none_nearer = λ u l t. kept u t (far v) (λ s. omega (arith, beyond least h c.standing u l s)) (omega arith);
+      };
     }
       where
         none : (u : ℕ) → u < 512 → (b : Bool) → seen u ≡ b → (b && eqb (far u) (far v)) ≡ false
-        none u l true e = ne_eqb (far u) (far v) (λ q. omega (arith, h, q, c.none_nearer u l (subst T (sym e) tt)))
+        none u l true e = ne_eqb (far u) (far v) (λ q. omega (arith, q, beyond least h c.standing u l (subst T (sym e) tt)))
         none u l false e = refl
 
         pick : (u : ℕ) → u < 512 → Dec (u ≡ v) → bit_at (with_bit (zeros 8) v) u ≡ bit (also seen v u && eqb (far u) (far v))
@@ -102,92 +124,52 @@ module _ (far : ℕ → ℕ) where
             ∙ sym (ap bit (ap (λ (b : Bool). b && eqb (far u) (far v)) (also_other u d) ∙ none u l (seen u) refl))
 
   -- ---- the handsets of a word
-  -- those of the word W that are not in the word w any more
-  abbrev pub gone : ℕ → ℕ → ℕ → ℕ → Bool
-  gone base word w v = in_word base word v && not (in_word base w v)
-
-  pub record WordTaken (base word w least : ℕ) (ws : List ℕ) (least' : ℕ) (ws' : List ℕ) : Type 0 where
-    pub within : (k : ℕ) → bit_of w k ≤ bit_of word k
-    pub each : (seen : ℕ → Bool) → Closest far seen least ws → Closest far (λ v. seen v || gone base word w v) least' ws'
-
-  and_not : (b : Bool) → (b && not b) ≡ false
-  and_not true = refl
-  and_not false = refl
-
-  or_none : (b : Bool) → b ≡ (b || false)
-  or_none true = refl
-  or_none false = refl
-
-  pub word_none : (base word least : ℕ) (ws : List ℕ) → WordTaken base word word least ws least ws
-  word_none base word least ws = record {
-    within = λ k. omega arith;
-    each = λ seen c.
-        closest_cong seen (λ v. seen v || gone base word word v) least ws
-        (λ v h. or_none (seen v) ∙ ap (λ (b : Bool). seen v || b) (sym (and_not (in_word base word v)))) c;
-  }
-
   in_word_lem : (base w k : ℕ) → k < 64 → in_word base w (base + k) ≡ eqb (bit_of w k) 1
   unfolding in_word
   in_word_lem base w k h =
       let e : base + k - base ≡ k = omega arith in
       ap₂ (λ (b : Bool) (i : ℕ). b && eqb (bit_of w i) 1) (ap₂ ◌&&◌ (le-leb base (base + k) (omega arith)) (lt-ltb (base + k) (base + 64) (omega arith))) e
 
-  word_same : (base w x v : ℕ) → ((k : ℕ) → (base + k ≡ v) → bit_of w k ≡ bit_of x k) → in_word base w v ≡ in_word base x v
+  word_same : (base w x v : ℕ) → ((k : ℕ) → k < 64 → (base + k ≡ v) → bit_of w k ≡ bit_of x k) → in_word base w v ≡ in_word base x v
   unfolding in_word
-  word_same base w x v same = pick (dec_lt v base)
+  word_same base w x v same = pick (dec_lt v base) (dec_lt v (base + 64))
     where
-      pick : Dec (v < base) → in_word base w v ≡ in_word base x v
-      pick (yes h) = rw (lt-leb base v h) refl
-      pick (no h) = ap (λ (b : ℕ). (leb base v && ltb v (base + 64)) && eqb b 1) (same (v - base) (omega arith))
+      pick : Dec (v < base) → Dec (v < base + 64) → in_word base w v ≡ in_word base x v
+      pick (yes h) l = rw (lt-leb base v h) refl
+      pick (no h) (yes l) = ap (λ (b : ℕ). (leb base v && ltb v (base + 64)) && eqb b 1) (same (v - base) (omega arith) (omega arith))
+      pick (no h) (no l) = rw (le-leb base v (omega arith), le-ltb v (base + 64) (omega arith)) refl
 
-  module _ (base word w least : ℕ) (ws ws₀ : List ℕ) (least₀ t : ℕ) (small : t < 64) (l : Lowest w t) (taken : WordTaken base word w least₀ ws₀ least ws) where
-    gone_more : (v : ℕ) → also (λ u. gone base word w u) (base + t) v ≡ gone base word (cleared w) v
-    gone_more v = pick (ℕ_discrete v (base + t))
-      where
-        pick : Dec (v ≡ base + t) → (gone base word w v || eqb v (base + t)) ≡ gone base word (cleared w) v
-        pick (yes e) =
-            let p : in_word base word (base + t) ≡ true =
-            in_word_lem base word t small ∙ T_true (eqb (bit_of word t) 1) (eqb_of (bit_of word t) 1 (omega (arith, taken.within t, l.here, Rattle.sets.proofs.Bits.bit_of_lt word t))) in
-            let q : in_word base (cleared w) (base + t) ≡ false = in_word_lem base (cleared w) t small ∙ ne_eqb (bit_of (cleared w) t) 1 (λ z. omega (arith, z, cleared_same w t l)) in
-            rw e (T_true (gone base word w (base + t) || eqb (base + t) (base + t)) (or_right (gone base word w (base + t)) (eqb (base + t) (base + t)) (eqb_of (base + t) (base + t) refl))
-            ∙ sym (ap₂ (λ (a b : Bool). a && not b) p q))
-        pick (no n) =
-            ap (λ (b : Bool). gone base word w v || b) (ne_eqb v (base + t) n) ∙ sym (or_none (gone base word w v))
-            ∙ ap (λ (b : Bool). in_word base word v && not b) (word_same base w (cleared w) v (λ k e. sym (cleared_other w t l k (λ q. n (sym e ∙ ap (λ (i : ℕ). base + i) q)))))
+  -- the first set bit of a word, and the rest
+  word_first : (base : ℕ) {w k r : ℕ} → Step w k r → (v : ℕ) → (eqb v (base + k) || in_word base r v) ≡ in_word base w v
+  word_first base {w} {k} {r} s v = pick (ℕ_discrete v (base + k))
+    where
+      pick : Dec (v ≡ base + k) → (eqb v (base + k) || in_word base r v) ≡ in_word base w v
+      pick (yes e) =
+          let on : in_word base w (base + k) ≡ true = in_word_lem base w k s.below ∙ T_true (eqb (bit_of w k) 1) (eqb_of (bit_of w k) 1 s.here) in
+          rw (e, on) (ap (λ (b : Bool). b || in_word base r (base + k)) (T_true (eqb (base + k) (base + k)) (eqb_of (base + k) (base + k) refl)))
+      pick (no n) = rw (ne_eqb v (base + k) n) (word_same base r w v (λ j l e. s.same j l (λ q. n (omega arith))))
 
-    or_assoc : (a b c : Bool) → ((a || b) || c) ≡ (a || (b || c))
-    or_assoc true b c = refl
-    or_assoc false b c = refl
-
-    pub word_more : (least' : ℕ) (ws' : List ℕ) → ((seen : ℕ → Bool) → Closest far seen least ws → Closest far (also seen (base + t)) least' ws')
-        → WordTaken base word (cleared w) least₀ ws₀ least' ws'
-    word_more least' ws' step = record {
-      within = λ k. omega (arith, cleared_le w k, taken.within k);
-      each = λ seen c.
-          closest_cong (also (λ v. seen v || gone base word w v) (base + t)) (λ v. seen v || gone base word (cleared w) v) least' ws'
-          (λ v h. or_assoc (seen v) (gone base word w v) (eqb v (base + t)) ∙ ap (λ (b : Bool). seen v || b) (gone_more v))
-          (step (λ v. seen v || gone base word w v) (taken.each seen c));
-    }
-
-  pub word_done : (base word least : ℕ) (ws : List ℕ) (least' : ℕ) (ws' : List ℕ) → WordTaken base word 0 least ws least' ws' → TakesWord far word base least ws least' ws'
-  unfolding in_word
-  word_done base word least ws least' ws' taken = record {
+  pub word_more : (base : ℕ) {w k r : ℕ} {least middle last : Option ℕ} {ws ws₁ ws' : List ℕ} → Step w k r → Takes far (base + k) least ws middle ws₁
+      → TakesWord far r base middle ws₁ last ws' → TakesWord far w base least ws last ws'
+  word_more base {w} {k} {r} s one others = record {
     each = λ seen c.
-        closest_cong (λ v. seen v || gone base word 0 v) (λ v. seen v || in_word base word v) least' ws'
-        (λ v h. ap (λ (b : Bool). seen v || b) (ap (λ (b : Bool). in_word base word v && not b) (nothing v) ∙ and_true (in_word base word v)))
-        (taken.each seen c);
+        closest_cong (λ v. also seen (base + k) v || in_word base r v) (λ v. seen v || in_word base w v) _ _
+        (λ v h. or_assoc (seen v) (eqb v (base + k)) (in_word base r v) ∙ ap (λ (b : Bool). seen v || b) (word_first base s v))
+        (others.each (also seen (base + k)) (one.each seen c));
+  }
+
+  zero_word : (base v : ℕ) → in_word base 0 v ≡ false
+  unfolding in_word
+  zero_word base v =
+      ap (λ (x : Bool). (leb base v && ltb v (base + 64)) && x) (ne_eqb (bit_of 0 (v - base)) 1 (λ q. omega (arith, q, bit_of_none (v - base)))) ∙ and-false (leb base v && ltb v (base + 64))
+
+  pub word_end : (base w : ℕ) (least : Option ℕ) (ws : List ℕ) → ones_of w ≡ [] → TakesWord far w base least ws least ws
+  word_end base w least ws e = record {
+    each = λ seen c. closest_cong seen (λ v. seen v || in_word base w v) least ws (λ v h. sym (ap (λ (b : Bool). seen v || b) (nothing v) ∙ or_false (seen v))) c;
   }
     where
-      and_true : (b : Bool) → (b && true) ≡ b
-      and_true true = refl
-      and_true false = refl
-
-      and_false : (b : Bool) → (b && false) ≡ false
-      and_false true = refl
-      and_false false = refl
-
-      nothing : (v : ℕ) → in_word base 0 v ≡ false
-      nothing v = ap (λ (x : Bool). (leb base v && ltb v (base + 64)) && x) (ne_eqb (bit_of 0 (v - base)) 1 (λ e. omega (arith, e, bit_of_none (v - base)))) ∙ and_false (leb base v && ltb v (base + 64))
+      nothing : (v : ℕ) → in_word base w v ≡ false
+      nothing v = word_same base w 0 v (λ k l q. ones_end w e k l ∙ sym (bit_of_none k)) ∙ zero_word base v
 
   -- ---- the words of a set
   module _ (set : List ℕ) where
@@ -203,7 +185,7 @@ module _ (far : ℕ → ℕ) where
       where
         pick : Dec (v < j * 64) → Dec (v < (j + 1) * 64) → (passed j v || in_word (j * 64) (get_or set j 0) v) ≡ passed (j + 1) v
         pick (yes h) (yes l) =
-            rw (lt-ltb v (j * 64) h, lt-leb (j * 64) v h, lt-ltb v ((j + 1) * 64) l) (sym (or_none (eqb (bit_at set v) 1)))
+            rw (lt-ltb v (j * 64) h, lt-leb (j * 64) v h, lt-ltb v ((j + 1) * 64) l) (or_false (eqb (bit_at set v) 1))
         pick (yes h) (no l) = absurd (omega arith)
         pick (no h) (yes l) =
             let k : ℕ = v - j * 64 in
@@ -214,11 +196,11 @@ module _ (far : ℕ → ℕ) where
         pick (no h) (no l) =
             rw (le-ltb v (j * 64) (omega arith), le-ltb v (j * 64 + 64) (omega arith), le-ltb v ((j + 1) * 64) (omega arith), le-leb (j * 64) v (omega arith)) refl
 
-    pub closest_word : (j least : ℕ) (ws : List ℕ) (least' : ℕ) (ws' : List ℕ) → Closest far (passed j) least ws → TakesWord far (get_or set j 0) (j * 64) least ws least' ws'
+    pub closest_word : (j : ℕ) (least : Option ℕ) (ws : List ℕ) (least' : Option ℕ) (ws' : List ℕ) → Closest far (passed j) least ws → TakesWord far (get_or set j 0) (j * 64) least ws least' ws'
         → Closest far (passed (j + 1)) least' ws'
     closest_word j least ws least' ws' c taken =
         closest_cong (λ v. passed j v || in_word (j * 64) (get_or set j 0) v) (passed (j + 1)) least' ws' (λ v h. word_passed j v) (taken.each (passed j) c)
 
-    pub closest_all : (least : ℕ) (ws : List ℕ) → Closest far (passed 8) least ws → Closest far (λ v. eqb (bit_at set v) 1) least ws
+    pub closest_all : (least : Option ℕ) (ws : List ℕ) → Closest far (passed 8) least ws → Closest far (λ v. eqb (bit_at set v) 1) least ws
     closest_all least ws c =
         closest_cong (passed 8) (λ v. eqb (bit_at set v) 1) least ws (λ v h. ap (λ (b : Bool). b && eqb (bit_at set v) 1) (lt-ltb v (8 * 64) (omega arith))) c

@@ -3,6 +3,8 @@
 --     ones_none, ones_next     of 0 there are none; of another word the lowest comes first, and then those of the word without it
 --     Step w k v               v is the word w without bit k, its lowest
 --     ones_step                what is known of the first, and of the word whose set bits are the others
+--     ones_below               the first is below 64
+--     ones_end                 a word that has none
 use Prim.Native.Nat.{ℕ, zero, suc, ◌<◌, ◌^◌}
 use native.Mathlib.Omega.{arith}
 use mathlib.Core.Path.{◌≡◌, refl, sym, ap, ap₂, ◌∙◌, subst}
@@ -116,3 +118,11 @@ module _ (w k v : ℕ) (e : ones_of w ≡ k ∷ ones_of v) where
 
       rest : (j : ℕ) → j < k → Memᴰ j (k ∷ ones_of v) → ⊥
       rest j l m = ⊎_elim (λ q. absurd (omega arith)) (λ x. let h = later j x in absurd (omega arith)) (Memᴰ.cases_cons m)
+
+-- for the bounds in a loop: `#[tactic(auto, using(sets::proofs::Ascending::ones_below))]`
+pub ones_below : (w k v : ℕ) → ones_of w ≡ k ∷ ones_of v → k < 64
+ones_below w k v e = (ones_step w k v e).below
+
+-- a word with no set bit left
+pub ones_end : (w : ℕ) → ones_of w ≡ [] → (j : ℕ) → j < 64 → bit_of w j ≡ 0
+ones_end w e j l = zero_or (bit_of_lt w j) (λ b. let m = ones_mem w j l b in absurd (Memᴰ.not-nil (rw e at m)))

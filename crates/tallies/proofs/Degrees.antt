@@ -5,7 +5,8 @@
 --     degrees_room                   there is room for one more end
 --     sum_times, sum_one             a factor of all terms of a sum; two sums that differ in one term
 --     degree_sum_le                  a sum of degrees fits its word
---     sum_cleared, sum_done          the sum by the bits of a word, one by one, the lowest first
+--     sum_step, sum_end              the sum by the set bits of a word, one by one
+--     row_sum_none, row_sum_more     the sum by the words of a row
 --     summed_none, summed_more       the sums of the first rows, and of one row more
 --     taken_none, taken_more         the edges inside taken out of the ends of the first groups, and of one group more
 --     ends_summed                    the degrees of the handsets that pass f, summed: two for each edge with both ends among them, one for each with just one
@@ -17,23 +18,23 @@ use native.Mathlib.Nat.{mul-add, add-mul, mul-le-mul}
 use mathlib.Core.Path.{◌≡◌, refl, sym, ap, ap₂, ◌∙◌}
 use mathlib.Core.Logic.{⊎_elim}
 use mathlib.Core.Bool.{Bool, true, false, ◌&&◌, cond}
-use mathlib.Core.List.{List}
+use mathlib.Core.List.{List, []}
 use lib.Dec.{eqb}
 use lib.ListN.{length, get_or, set, length-set, replicate, length-replicate, get_or-replicate, get_or-eq_default}
 use lib.Seq.{get_or-set_same, get_or-set_other}
-use borrow.Author.Tests.{eq-eqb, ne_eqb}
+use borrow.Author.Tests.{eq-eqb, ne_eqb, le-ltb}
 use Rattle.sets.specs.Below.{bit, count, sum}
-use Rattle.sets.specs.Bits.{bit_at}
+use Rattle.sets.specs.Bits.{bit_at, ones_of}
 use Rattle.sets.proofs.Tests.{below}
 use Rattle.sets.proofs.Counting.{bit_le, count_sum, sum_add, sum_cong, sum_const, sum_le, sum_swap, sum_zero}
-use Rattle.sets.proofs.Lowest.{Lowest, cleared, cleared_same}
+use Rattle.sets.proofs.Ascending.{Step}
 use Rattle.limits.specs.Limits.{edges_most}
 use Rattle.image.specs.Image.{end_a, end_b}
 use Rattle.community.specs.Network.{contains}
 use Rattle.community.specs.Scores.{just_one}
 use Rattle.rows.specs.Rows.{row_members, row_words}
 use Rattle.tallies.specs.ForProofs.{EndAdded, ends_at, DegreesHold, degree_most, DegreesFit, degree_sum, bit_for, RowsSummed, InsideTaken}
-use Rattle.tallies.proofs.Words.{bit_for_of, bit_for_cleared, raised_done, row_bit}
+use Rattle.tallies.proofs.Words.{bit_for_first, bit_for_gone, bit_for_rest, bit_for_end, up_to, row_more, row_bit}
 
 -- ---- counting the ends
 
@@ -123,22 +124,27 @@ pub degree_sum_none : (ds : List ℕ) → degree_sum (λ v. 0) ds ≡ 0
 unfolding degree_sum
 degree_sum_none ds = sum_cong 512 (λ v. 0 * get_or ds v 0) (λ v. 0) (λ v h. omega arith) ∙ sum_zero 512
 
--- by the bits of a word, the lowest taken out
-pub sum_cleared : (ds : List ℕ) (base w t : ℕ) → t < 64 → Lowest w t → base + t < 512
-    → degree_sum (bit_for base w) ds ≡ degree_sum (bit_for base (cleared w)) ds + get_or ds (base + t) 0
+-- by the set bits of a word, the first taken out
+pub sum_step : (ds : List ℕ) (base : ℕ) {w k r : ℕ} → Step w k r → base + k < 512
+    → degree_sum (bit_for base w) ds ≡ degree_sum (bit_for base r) ds + get_or ds (base + k) 0
 unfolding degree_sum
-sum_cleared ds base w t h low room =
-    let i : ℕ = base + t in
-    sum_one 512 (λ v. bit_for base w v * get_or ds v 0) (λ v. bit_for base (cleared w) v * get_or ds v 0) i (get_or ds i 0) room
-    (let on : bit_for base w i ≡ 1 = bit_for_of base w i t h refl ∙ low.here in
-    let off : bit_for base (cleared w) i ≡ 0 = bit_for_of base (cleared w) i t h refl ∙ cleared_same w t low in
-    ap (λ (b : ℕ). b * get_or ds i 0) on ∙ (let e : 1 * get_or ds i 0 ≡ 0 * get_or ds i 0 + get_or ds i 0 = omega arith in e)
-    ∙ sym (ap (λ (b : ℕ). b * get_or ds i 0 + get_or ds i 0) off))
-    (λ j n. ap (λ (b : ℕ). b * get_or ds j 0) (sym (bit_for_cleared base w t j low n)))
+sum_step ds base {w} {k} {r} s room =
+    sum_one 512 (λ v. bit_for base w v * get_or ds v 0) (λ v. bit_for base r v * get_or ds v 0) (base + k) (get_or ds (base + k) 0) room
+    (rw (bit_for_first base s, bit_for_gone base s) (omega arith))
+    (λ j n. ap (λ (b : ℕ). b * get_or ds j 0) (sym (bit_for_rest base s j n)))
 
-pub sum_done : (ds : List ℕ) (base w : ℕ) → w ≡ 0 → degree_sum (bit_for base w) ds ≡ 0
-sum_done ds base w e =
-    degree_sum_cong (bit_for base w) (λ v. 0) ds (λ v h. ap (λ (x : ℕ). bit_for base x v) e ∙ raised_done base v) ∙ degree_sum_none ds
+pub sum_end : (ds : List ℕ) (base w : ℕ) → ones_of w ≡ [] → degree_sum (bit_for base w) ds ≡ 0
+sum_end ds base w e = degree_sum_cong (bit_for base w) (λ v. 0) ds (λ v h. bit_for_end base w e v) ∙ degree_sum_none ds
+
+-- one word of a row more
+pub row_sum_none : (row ds : List ℕ) → degree_sum (up_to row 0) ds ≡ 0
+row_sum_none row ds =
+    degree_sum_cong (up_to row 0) (λ v. 0) ds (λ v h. ap (λ (b : Bool). cond b (bit_at row v) 0) (le-ltb v (0 * 64) (omega arith))) ∙ degree_sum_none ds
+
+pub row_sum_more : (row ds : List ℕ) (j : ℕ) → degree_sum (up_to row (j + 1)) ds ≡ degree_sum (up_to row j) ds + degree_sum (bit_for (j * 64) (get_or row j 0)) ds
+row_sum_more row ds j =
+    degree_sum_cong (up_to row (j + 1)) (λ v. up_to row j v + bit_for (j * 64) (get_or row j 0) v) ds (λ v h. sym (row_more row j v))
+    ∙ degree_sum_add (up_to row j) (bit_for (j * 64) (get_or row j 0)) ds
 
 -- ---- the degrees of a group
 

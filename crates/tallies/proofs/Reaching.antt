@@ -1,7 +1,7 @@
 -- The reaches of all groups, 64 at a time: an edge raises the reach of the groups that it is inside. A table holds one more than a reach, or 0 for none, so that the
 -- farther of two answers is the larger of two numbers. And the tables as they stand after all groups.
 --
---     raised_to_more, raised_to_done     a table that is raised by the bits of a word one by one, the lowest first
+--     raised_to_more                     a table that is raised by the bits of a word, one bit more
 --     raised_inside                      of an edge inside no group it does not matter what is raised to
 --     reaches_none, reaches_more         the first edges: none, and one more
 --     reach_step                         the reaches, 64 groups more
@@ -24,7 +24,7 @@ use lib.Seq.{get_or-set_same, get_or-set_other}
 use borrow.Author.Tests.{lt-ltb, le-ltb, ne_eqb}
 use Rattle.sets.specs.Below.{bit, count}
 use Rattle.sets.specs.Bits.{bit_of}
-use Rattle.sets.proofs.Lowest.{Lowest, cleared, cleared_same}
+use Rattle.sets.proofs.Ascending.{Step, ones_none}
 use Rattle.sets.proofs.Counting.{count_cong, count_false, count_at, count_le}
 use Rattle.limits.specs.Limits.{limit_most}
 use Rattle.image.specs.Image.{end_a, end_b}
@@ -37,29 +37,18 @@ use Rattle.rows.specs.Rows.{row_members, rows_of}
 use Rattle.rows.proofs.Listing.{rows_at}
 use Rattle.tallies.specs.Tallies.{edges_in, is_member, is_inside, is_leaving, reach_entry, GroupsCounted, GroupsReach}
 use Rattle.tallies.specs.ForProofs.{DegreesHold, bit_for, WordsHold, RowsSummed, RaisedTo, inside_word, highest, EdgesCounted, EdgesRaised, ends_in, Progress, InsideFits, InsideTaken}
-use Rattle.tallies.proofs.Words.{where_is, bit_for_of, bit_for_before, bit_for_past, bit_for_cleared, raised_done, in_rows}
+use Rattle.tallies.proofs.Words.{where_is, bit_for_of, bit_for_before, bit_for_past, bit_for_first, bit_for_gone, bit_for_rest, bit_for_end, in_rows}
 use Rattle.tallies.proofs.Tallying.{member_none, inside_bit, joined_chunk, ends_chunk}
 
 -- ---- a table that is raised
 
-pub raised_to_more : (rs : List ℕ) (base w t x : ℕ) → t < 64 → Lowest w t → base + t < length rs
-    → (i : ℕ) → max (get_or (set rs (base + t) (max (get_or rs (base + t) 0) x)) i 0) (x * bit_for base (cleared w) i) ≡ max (get_or rs i 0) (x * bit_for base w i)
-raised_to_more rs base w t x h low room i = pick (ℕ_discrete i (base + t))
+pub raised_to_more : (rs : List ℕ) (base x : ℕ) {w k r : ℕ} → Step w k r → base + k < length rs
+    → (i : ℕ) → max (get_or (set rs (base + k) (max (get_or rs (base + k) 0) x)) i 0) (x * bit_for base r i) ≡ max (get_or rs i 0) (x * bit_for base w i)
+raised_to_more rs base x {w} {k} {r} s room i = pick (ℕ_discrete i (base + k))
   where
-    new : ℕ
-    new = max (get_or rs (base + t) 0) x
-
-    pick : Dec (i ≡ base + t) → max (get_or (set rs (base + t) new) i 0) (x * bit_for base (cleared w) i) ≡ max (get_or rs i 0) (x * bit_for base w i)
-    pick (yes e) =
-        let here : get_or (set rs (base + t) new) i 0 ≡ max (get_or rs i 0) x =
-        ap (λ (k : ℕ). get_or (set rs (base + t) new) k 0) e ∙ get_or-set_same rs (base + t) new 0 room ∙ ap (λ (k : ℕ). max (get_or rs k 0) x) (sym e) in
-        let off : bit_for base (cleared w) i ≡ 0 = bit_for_of base (cleared w) i t h e ∙ cleared_same w t low in
-        let on : bit_for base w i ≡ 1 = bit_for_of base w i t h e ∙ low.here in
-        ap₂ max here (ap (λ (b : ℕ). x * b) off) ∙ omega arith ∙ sym (ap (λ (b : ℕ). max (get_or rs i 0) (x * b)) on)
-    pick (no n) = ap₂ max (get_or-set_other rs (base + t) i new 0 n) (ap (λ (b : ℕ). x * b) (bit_for_cleared base w t i low n))
-
-pub raised_to_done : (y base x i : ℕ) → max y (x * bit_for base 0 i) ≡ y
-raised_to_done y base x i = ap (λ (b : ℕ). max y (x * b)) (raised_done base i) ∙ omega arith
+    pick : Dec (i ≡ base + k) → max (get_or (set rs (base + k) (max (get_or rs (base + k) 0) x)) i 0) (x * bit_for base r i) ≡ max (get_or rs i 0) (x * bit_for base w i)
+    pick (yes e) = rw (e, get_or-set_same rs (base + k) (max (get_or rs (base + k) 0) x) 0 room, bit_for_gone base s, bit_for_first base s) (omega arith)
+    pick (no n) = ap₂ max (get_or-set_other rs (base + k) i (max (get_or rs (base + k) 0) x) 0 n) (ap (λ (b : ℕ). x * b) (bit_for_rest base s i n))
 
 -- ---- what a table holds of a reach
 
@@ -107,7 +96,7 @@ raised_inside {rs} base w x y q r = record {
   where
     go : (i : ℕ) → Dec (w ≡ 0) → cond (eqb w 0) 0 y * bit_for base w i ≡ y * bit_for base w i
     go i (yes e) =
-        let none : bit_for base w i ≡ 0 = ap (λ (x : ℕ). bit_for base x i) e ∙ raised_done base i in
+        let none : bit_for base w i ≡ 0 = bit_for_end base w (ones_none w e) i in
         let k : ℕ = cond (eqb w 0) 0 y in
         let z : k * 0 ≡ y * 0 = omega arith in
         ap (λ (b : ℕ). k * b) none ∙ z ∙ sym (ap (λ (b : ℕ). y * b) none)

@@ -2,32 +2,34 @@
 -- by one, the lowest first.
 --
 --     where_is                      a place is before a word's 64, one of them, or past them
---     bit_for_at, _of, _before, _past, _le, _cleared     a bit by its place; it is at most 1; without its lowest bit, a word has the other bits that it had
---     raised_more, raised_done      a table where the bits of a word are added, one bit more and none left
---     marked_more, marked_done      the words where the bits of a word are marked, one bit more and none left
---     up_to row j                    a row, up to its word j: row_none, row_more, row_next, row_all
+--     bit_for_at, _of, _before, _past, _le              a bit by its place; it is at most 1
+--     bit_for_first, _gone, _rest, _end                 the first set bit of a word; the rest of the word has the others that it had; a word with no set bit
+--     raised_more                   a table where the bits of a word are added, one bit more
+--     marked_more, marked_end       the words where the bits of a word are marked, one bit more and none left
+--     up_to row j                    a row, up to its word j: row_none, row_more, row_next, row_all; row_short: it has no more than eight
 --     row_bit                       a bit of a row, by its members
 --     words_none, words_next        the words of the first rows, one row more
-use Prim.Native.Nat.{ℕ, zero, suc, ◌+◌, ◌*◌, ◌-◌, ◌/◌, ◌%◌, ◌≤◌, ◌<◌, min, max}
+use Prim.Native.Nat.{ℕ, zero, suc, ◌+◌, ◌*◌, ◌-◌, ◌/◌, ◌%◌, ◌≤◌, ◌<◌, max}
 use native.Mathlib.Omega.{arith}
 use native.Mathlib.Decide.{ℕ_discrete, dec_lt}
-use mathlib.Core.Path.{◌≡◌, sym, ap, ap₂, ◌∙◌}
+use mathlib.Core.Path.{◌≡◌, refl, sym, ap, ap₂, ◌∙◌}
 use mathlib.Core.Logic.{◌⊎◌, inl, inr, ⊎_elim}
 use mathlib.Core.Bool.{Bool, true, false, ◌&&◌, cond, and-false}
-use mathlib.Core.List.{List}
+use mathlib.Core.List.{List, []}
 use lib.Dec.{eqb, leb, ltb}
 use lib.ListN.{length, get_or, set, take, drop, replicate}
 use lib.Seq.{get_or-set_same, get_or-set_other, get_or-take, get_or-drop}
 use borrow.Author.Tests.{lt-ltb, le-ltb, le-leb, lt-leb, eq-eqb, ne_eqb}
 use Rattle.sets.specs.Below.{bit}
-use Rattle.sets.specs.Bits.{bit_of, bit_at, cell, with_bit}
-use Rattle.sets.proofs.Bits.{bit_of_none, bit_of_lt, bit_at_lt, bit_at_set_same, bit_at_set_other, bit_at_past, bit_at_zeros, word_bit}
-use Rattle.sets.proofs.Lowest.{Lowest, cleared, cleared_same, cleared_other}
+use Rattle.sets.specs.Bits.{bit_of, bit_at, cell, with_bit, ones_of}
+use Rattle.sets.proofs.Bits.{bit_of_lt, bit_at_lt, bit_at_set_same, bit_at_set_other, bit_at_past, bit_at_zeros, word_bit}
+use Rattle.sets.proofs.Ascending.{Step, ones_end}
 use Rattle.sets.proofs.Counting.{bit_le, test_bit}
 use Rattle.sets.proofs.Tests.{three}
 use Rattle.community.specs.Network.{contains}
 use Rattle.rows.specs.Rows.{row_members, row_words}
 use Rattle.rows.proofs.Rows.{contains_row}
+use Rattle.std.proofs.Common.{length-take}
 use Rattle.tallies.specs.ForProofs.{bit_for, WordMarked, RowMarked, WordsHold}
 
 -- ---- the bits of a word, added to a table
@@ -66,61 +68,59 @@ bit_for_le base w i =
     (⊎_elim (λ p. omega (arith, bit_for_of base w i p.0 p.1 p.2, bit_of_lt w p.0)) (λ h. omega (arith, bit_for_past base w i h)))
     (where_is base i)
 
-pub bit_for_cleared : (base w t i : ℕ) → Lowest w t → (i ≡ base + t → ⊥) → bit_for base (cleared w) i ≡ bit_for base w i
-bit_for_cleared base w t i low n =
-    ⊎_elim (λ l. bit_for_before base (cleared w) i l ∙ sym (bit_for_before base w i l))
+-- the first set bit of a word, and the rest of the word
+pub bit_for_first : (base : ℕ) {w k r : ℕ} → Step w k r → bit_for base w (base + k) ≡ 1
+bit_for_first base {w} {k} s = bit_for_at base w k s.below ∙ s.here
+
+pub bit_for_gone : (base : ℕ) {w k r : ℕ} → Step w k r → bit_for base r (base + k) ≡ 0
+bit_for_gone base {w} {k} {r} s = bit_for_at base r k s.below ∙ s.gone
+
+pub bit_for_rest : (base : ℕ) {w k r : ℕ} → Step w k r → (i : ℕ) → (i ≡ base + k → ⊥) → bit_for base r i ≡ bit_for base w i
+bit_for_rest base {w} {k} {r} s i n =
+    ⊎_elim (λ l. bit_for_before base r i l ∙ sym (bit_for_before base w i l))
     (⊎_elim
-    (λ p. bit_for_of base (cleared w) i p.0 p.1 p.2 ∙ cleared_other w t low p.0 (λ e. n (omega (arith, p.2))) ∙ sym (bit_for_of base w i p.0 p.1 p.2))
-    (λ l. bit_for_past base (cleared w) i l ∙ sym (bit_for_past base w i l)))
+    (λ p. bit_for_of base r i p.0 p.1 p.2 ∙ s.same p.0 p.1 (λ e. n (omega arith)) ∙ sym (bit_for_of base w i p.0 p.1 p.2))
+    (λ l. bit_for_past base r i l ∙ sym (bit_for_past base w i l)))
     (where_is base i)
 
-pub raised_more : (ts : List ℕ) (base w t : ℕ) → t < 64 → Lowest w t → base + t < length ts
-    → (i : ℕ) → get_or (set ts (base + t) (get_or ts (base + t) 0 + 1)) i 0 + bit_for base (cleared w) i ≡ get_or ts i 0 + bit_for base w i
-raised_more ts base w t h low room i = pick (ℕ_discrete i (base + t))
+pub bit_for_end : (base w : ℕ) → ones_of w ≡ [] → (i : ℕ) → bit_for base w i ≡ 0
+bit_for_end base w e i =
+    ⊎_elim (bit_for_before base w i)
+    (⊎_elim (λ p. bit_for_of base w i p.0 p.1 p.2 ∙ ones_end w e p.0 p.1) (bit_for_past base w i))
+    (where_is base i)
+
+pub raised_more : (ts : List ℕ) (base : ℕ) {w k r : ℕ} → Step w k r → base + k < length ts
+    → (i : ℕ) → get_or (set ts (base + k) (get_or ts (base + k) 0 + 1)) i 0 + bit_for base r i ≡ get_or ts i 0 + bit_for base w i
+raised_more ts base {w} {k} {r} s room i = pick (ℕ_discrete i (base + k))
   where
-    pick : Dec (i ≡ base + t) → get_or (set ts (base + t) (get_or ts (base + t) 0 + 1)) i 0 + bit_for base (cleared w) i ≡ get_or ts i 0 + bit_for base w i
-    pick (yes e) =
-        let set_here : get_or (set ts (base + t) (get_or ts (base + t) 0 + 1)) i 0 ≡ get_or ts i 0 + 1 =
-        ap (λ (x : ℕ). get_or (set ts (base + t) (get_or ts (base + t) 0 + 1)) x 0) e ∙ get_or-set_same ts (base + t) (get_or ts (base + t) 0 + 1) 0 room
-        ∙ ap (λ (x : ℕ). get_or ts x 0 + 1) (sym e) in
-        omega (arith, set_here, bit_for_of base (cleared w) i t h e, cleared_same w t low, bit_for_of base w i t h e, low.here)
-    pick (no n) = ap₂ ◌+◌ (get_or-set_other ts (base + t) i (get_or ts (base + t) 0 + 1) 0 n) (bit_for_cleared base w t i low n)
-
-pub raised_done : (base i : ℕ) → bit_for base 0 i ≡ 0
-raised_done base i =
-    ⊎_elim (bit_for_before base 0 i)
-    (⊎_elim (λ p. bit_for_of base 0 i p.0 p.1 p.2 ∙ bit_of_none p.0) (bit_for_past base 0 i))
-    (where_is base i)
+    pick : Dec (i ≡ base + k) → get_or (set ts (base + k) (get_or ts (base + k) 0 + 1)) i 0 + bit_for base r i ≡ get_or ts i 0 + bit_for base w i
+    pick (yes e) = rw e (omega (arith, get_or-set_same ts (base + k) (get_or ts (base + k) 0 + 1) 0 room, bit_for_first base s, bit_for_gone base s))
+    pick (no n) = ap₂ ◌+◌ (get_or-set_other ts (base + k) i (get_or ts (base + k) 0 + 1) 0 n) (bit_for_rest base s i n)
 
 -- ---- the words of the handsets
 
-pub marked_more : (ws : List ℕ) (base w t i : ℕ) → t < 64 → Lowest w t → i < 64 → base + t < length ws → (v j : ℕ) → j < 64
-    → max (bit_at (with_bit ws ((base + t) * 64 + i)) (v * 64 + j)) (bit (eqb j i) * bit_for base (cleared w) v) ≡ max (bit_at ws (v * 64 + j)) (bit (eqb j i) * bit_for base w v)
-marked_more ws base w t i h low q room v j l = pick (ℕ_discrete v (base + t)) (ℕ_discrete j i)
+pub marked_more : (ws : List ℕ) (base i : ℕ) {w k r : ℕ} → Step w k r → i < 64 → base + k < length ws → (v j : ℕ) → j < 64
+    → max (bit_at (with_bit ws ((base + k) * 64 + i)) (v * 64 + j)) (bit (eqb j i) * bit_for base r v) ≡ max (bit_at ws (v * 64 + j)) (bit (eqb j i) * bit_for base w v)
+marked_more ws base i {w} {k} {r} s q room v j l = pick (ℕ_discrete v (base + k)) (ℕ_discrete j i)
   where
-    at : ℕ
-    at = (base + t) * 64 + i
-
-    pick : Dec (v ≡ base + t) → Dec (j ≡ i)
-        → max (bit_at (with_bit ws ((base + t) * 64 + i)) (v * 64 + j)) (bit (eqb j i) * bit_for base (cleared w) v) ≡ max (bit_at ws (v * 64 + j)) (bit (eqb j i) * bit_for base w v)
+    pick : Dec (v ≡ base + k) → Dec (j ≡ i)
+        → max (bit_at (with_bit ws ((base + k) * 64 + i)) (v * 64 + j)) (bit (eqb j i) * bit_for base r v) ≡ max (bit_at ws (v * 64 + j)) (bit (eqb j i) * bit_for base w v)
     pick (yes d) (yes e) =
-        let new : bit_at (with_bit ws ((base + t) * 64 + i)) (v * 64 + j) ≡ 1 =
-        ap (bit_at (with_bit ws ((base + t) * 64 + i))) (let p : v * 64 + j ≡ (base + t) * 64 + i = omega (arith, d, e) in p) ∙ bit_at_set_same ws ((base + t) * 64 + i) (omega (arith, room, q)) in
-        let one : bit (eqb j i) ≡ 1 = ap bit (eq-eqb j i e) in
-        let off : bit_for base (cleared w) v ≡ 0 = bit_for_of base (cleared w) v t h d ∙ cleared_same w t low in
-        let on : bit_for base w v ≡ 1 = bit_for_of base w v t h d ∙ low.here in
-        ap₂ max new (ap₂ ◌*◌ one off) ∙ (let z : max 1 (1 * 0) ≡ max (bit_at ws (v * 64 + j)) (1 * 1) = omega (arith, bit_at_lt ws (v * 64 + j)) in z)
-        ∙ sym (ap (max (bit_at ws (v * 64 + j))) (ap₂ ◌*◌ one on))
+        let new : bit_at (with_bit ws ((base + k) * 64 + i)) ((base + k) * 64 + i) ≡ 1 = bit_at_set_same ws ((base + k) * 64 + i) (omega (arith, room, q)) in
+        let one : bit (eqb i i) ≡ 1 = ap bit (eq-eqb i i refl) in
+        rw (d, e, new, one, bit_for_gone base s, bit_for_first base s) (omega (arith, bit_at_lt ws ((base + k) * 64 + i)))
     pick (yes d) (no e) =
         let none : bit (eqb j i) ≡ 0 = ap bit (ne_eqb j i e) in
-        ap₂ max (bit_at_set_other ws ((base + t) * 64 + i) (v * 64 + j) (λ p. e (omega (arith, p, d, l, q)))) (ap (λ (x : ℕ). x * bit_for base (cleared w) v) none)
-        ∙ (let z : max (bit_at ws (v * 64 + j)) (0 * bit_for base (cleared w) v) ≡ max (bit_at ws (v * 64 + j)) (0 * bit_for base w v) = omega arith in z)
-        ∙ sym (ap (λ (x : ℕ). max (bit_at ws (v * 64 + j)) (x * bit_for base w v)) none)
-    pick (no d) e =
-        ap₂ max (bit_at_set_other ws ((base + t) * 64 + i) (v * 64 + j) (λ p. d (omega (arith, p, l, q)))) (ap (λ (x : ℕ). bit (eqb j i) * x) (bit_for_cleared base w t v low d))
+        rw (none, bit_at_set_other ws ((base + k) * 64 + i) (v * 64 + j) (λ p. e (omega (arith, p, d, l, q)))) (omega arith)
+    pick (no d) e = ap₂ max (bit_at_set_other ws ((base + k) * 64 + i) (v * 64 + j) (λ p. d (omega (arith, p, l, q)))) (ap (λ (x : ℕ). bit (eqb j i) * x) (bit_for_rest base s v d))
 
-pub marked_done : (y x base v : ℕ) → max y (x * bit_for base 0 v) ≡ y
-marked_done y x base v = ap (λ (b : ℕ). max y (x * b)) (raised_done base v) ∙ omega arith
+pub marked_end : {word base i : ℕ} (w : ℕ) {ws₀ ws : List ℕ} → ones_of w ≡ [] → length ws ≡ length ws₀
+    → ((v j : ℕ) → j < 64 → max (bit_at ws (v * 64 + j)) (bit (eqb j i) * bit_for base w v) ≡ max (bit_at ws₀ (v * 64 + j)) (bit (eqb j i) * bit_for base word v))
+    → WordMarked word base i ws₀ ws
+marked_end {word} {base} {i} w {ws₀} {ws} e size held = record {
+  size = size;
+  bits = λ v j l. let h = held v j l in let z = rw (bit_for_end base w e v) at h in omega (arith, z);
+}
 
 -- a row, up to its word j
 abbrev pub up_to : List ℕ → ℕ → ℕ → ℕ
@@ -166,12 +166,16 @@ row_next row ws₀ ws ws' i j held marked v k h l =
     ∙ max_times (bit (eqb k i)) (bit_at ws₀ (v * 64 + k)) (up_to row j v) (bit_for (j * 64) (get_or row j 0) v) (bit_le (eqb k i))
     ∙ ap (λ (x : ℕ). max (bit_at ws₀ (v * 64 + k)) (bit (eqb k i) * x)) (row_either row j v)
 
-pub row_all : (row : List ℕ) (n v : ℕ) → n ≡ min (length row) 8 → v < 512 → up_to row n v ≡ bit_at row v
-row_all row n v e h = pick (dec_lt v (n * 64))
+pub row_all : (row : List ℕ) (j v : ℕ) → length row ≤ j → up_to row j v ≡ bit_at row v
+row_all row j v past = pick (dec_lt v (j * 64))
   where
-    pick : Dec (v < n * 64) → up_to row n v ≡ bit_at row v
-    pick (yes l) = ap (λ (b : Bool). cond b (bit_at row v) 0) (lt-ltb v (n * 64) l)
-    pick (no l) = ap (λ (b : Bool). cond b (bit_at row v) 0) (le-ltb v (n * 64) (omega arith)) ∙ sym (bit_at_past row v (omega (arith, e, l, h)))
+    pick : Dec (v < j * 64) → up_to row j v ≡ bit_at row v
+    pick (yes l) = ap (λ (b : Bool). cond b (bit_at row v) 0) (lt-ltb v (j * 64) l)
+    pick (no l) = ap (λ (b : Bool). cond b (bit_at row v) 0) (le-ltb v (j * 64) (omega arith)) ∙ sym (bit_at_past row v (omega arith))
+
+pub row_short : (rows : List ℕ) (k : ℕ) → length (row_words rows k) ≤ 8
+unfolding row_words
+row_short rows k = omega (arith, length-take 8 (drop (8 * k) rows))
 
 abbrev pub in_rows : List ℕ → ℕ → ℕ → ℕ → ℕ → Bool
 in_rows rows first count i v = ltb i count && contains v (row_members rows (first + i))

@@ -21,55 +21,54 @@ fn add_end(degrees: &mut [u32], v: usize)
     requires { get_or degrees.old v 0 < 4294967295 }
     ensures { EndAdded degrees.old v degrees.new }
 {
+    // Tried with `get_mut`: no proof, as its contract says nothing of the slice afterwards.
     if v < degrees.len() {
-        degrees[v] = degrees[v] + 1;
+        degrees[v] += 1;
     }
 }
 
 // Counts the ends of the first m edges: a table of zeros gets the degree of each handset.
-fn count_degrees(edges: &[u8], m: usize, degrees: &mut [u32])
-    requires { (m ≤ edges_most) × (degrees.old ≡ replicate 512 0) }
+fn count_degrees(edges: &[u8], m: usize, degrees: &mut [u32; 512])
+    requires few { m ≤ edges_most }
+    requires zeros { degrees.old ≡ replicate 512 0 }
     ensures { DegreesHold edges.now every_edge m degrees.new }
 {
-    let mut k: usize = 0;
-    while k < m {
+    for k in 0..m {
         let ends = near::ends_at(edges, k);
         add_end(degrees, ends.a);
         add_end(degrees, ends.b);
-        k += 1;
     }
 }
 
 // Adds the group of bit i to the words of the handsets base + k, for each set bit k of the word, and gives the sum of their degrees.
-fn mark_word(word: u64, base: usize, i: usize, degrees: &[u32], words: &mut [u64]) -> u32
-    requires { (base ≤ 448) × ((i < 64) × (DegreesFit degrees.now × (length words.old ≡ 512))) }
+#[tactic(auto, using(sets::proofs::Ascending::ones_below))]
+fn mark_word(word: u64, base: usize, i: usize, degrees: &[u32; 512], words: &mut [u64; 512]) -> u32
+    requires in_words { base ≤ 448 }
+    requires in_word { i < 64 }
+    requires fits { DegreesFit degrees.now }
     ensures marked { WordMarked word base i words.old words.new }
     ensures summed { result ≡ degree_sum (bit_for base word) degrees.now }
 {
-    let mut sum: u32 = 0;
-    let mut w = word;
-    while w != 0 {
-        let k = u64::trailing_zeros(w);
-        let v = base + k as usize;
+    let mut sum = 0;
+    for k in sets::set_bits(word) {
+        let v = base + k;
         sets::mark(words, v * 64 + i);
         sum += degrees[v];
-        w = w & (w - 1);
     }
     sum
 }
 
 // Adds the group of bit i to the words of the members of a row, which is a set of handsets below 512, and gives the sum of their degrees.
-fn mark_row<'a>(row: &'a [u64], i: usize, degrees: &'a [u32], words: &mut [u64]) -> u32
-    requires { (i < 64) × (DegreesFit degrees.now × (length words.old ≡ 512)) }
+fn mark_row<'a>(row: &'a [u64], i: usize, degrees: &'a [u32; 512], words: &mut [u64; 512]) -> u32
+    requires short { length row.now ≤ 8 }
+    requires in_word { i < 64 }
+    requires fits { DegreesFit degrees.now }
     ensures marked { RowMarked row.now i words.old words.new }
     ensures summed { result ≡ degree_sum (bit_at row.now) degrees.now }
 {
-    let n = sets::smaller(row.len(), 8);
-    let mut sum: u32 = 0;
-    let mut j: usize = 0;
-    while j < n {
-        sum += mark_word(row[j], j * 64, i, degrees, words);
-        j += 1;
+    let mut sum = 0;
+    for (j, word) in row.iter().enumerate() {
+        sum += mark_word(*word, j * 64, i, degrees, words);
     }
     sum
 }
@@ -77,30 +76,31 @@ fn mark_row<'a>(row: &'a [u64], i: usize, degrees: &'a [u32], words: &mut [u64])
 // Fills empty words: bit i of handset v's is whether v is in row first + i, for the `count` rows from `first` on. The sum of the degrees in each of these rows goes
 // to the row's second place in the table of tallies.
 fn mark_rows<'a>(
-    rows: &'a [u64; sets::TABLE_WORDS],
+    rows: &'a sets::Table,
     first: usize,
     count: usize,
-    degrees: &'a [u32],
-    words: &mut [u64],
-    tallies: &mut [u32],
+    degrees: &'a [u32; 512],
+    words: &mut [u64; 512],
+    tallies: &mut [u32; 1024],
 )
-    requires { (first ≤ 448) × ((count ≤ 64) × (DegreesFit degrees.now × ((words.old ≡ replicate 512 0) × (length tallies.old ≡ 1024)))) }
+    requires in_rows { first ≤ 448 }
+    requires few { count ≤ 64 }
+    requires fits { DegreesFit degrees.now }
+    requires empty { words.old ≡ replicate 512 0 }
     ensures marked { WordsHold (λ (i v : ℕ). ltb i count && contains v (row_members rows.now (first + i))) words.new }
     ensures summed { RowsSummed rows.now first count degrees.now tallies.old tallies.new }
 {
-    let mut i: usize = 0;
-    while i < count {
+    for i in 0..count {
         let k = first + i;
         tallies[512 + k] = mark_row(rows::row_of(rows, k), i, degrees, words);
-        i += 1;
     }
 }
 
 // The word of handset v; 0 for a handset that has none.
-fn at_or_zero(words: &[u64], v: usize) -> u64
+fn word_of(words: &[u64; 512], v: usize) -> u64
     ensures { result ≡ get_or words.now v 0 }
 {
-    if v < words.len() { words[v] } else { 0 }
+    words.get(v).copied().unwrap_or(0)
 }
 
 // What a table of reaches holds of the edge between u and v: one more than its squared distance, or 0 where they are not near. Only an edge that is inside some
@@ -112,58 +112,56 @@ fn reach_inside(inside: u64, handsets: &[u8], u: usize, v: usize, limit: u64) ->
     if inside == 0 {
         return 0;
     }
-    let tested = near::test_ends(handsets, u, v, limit);
-    match tested {
+    match near::test_ends(handsets, u, v, limit) {
         Some(d) => d + 1,
         None => 0,
     }
 }
 
-// The larger of two numbers.
-fn larger(a: u64, b: u64) -> u64
-    ensures { result ≡ max a b }
-{
-    if a < b { b } else { a }
-}
-
 // Counts an edge inside group base + k, for each set bit k of the word, and raises its reach to that of the edge where it is less. The other places are left alone.
-fn add_inside(word: u64, base: usize, reach: u64, tallies: &mut [u32], reaches: &mut [u64])
-    requires { (base + 64 ≤ length tallies.old) × (((k : ℕ) → k < 64 → get_or tallies.old (base + k) 0 < 4294967295) × (base + 64 ≤ length reaches.old)) }
+#[tactic(auto, using(sets::proofs::Ascending::ones_below))]
+fn add_inside(
+    word: u64,
+    base: usize,
+    reach: u64,
+    tallies: &mut [u32; 1024],
+    reaches: &mut [u64; 512],
+)
+    requires in_tables { base ≤ 448 }
+    requires room { (k : ℕ) → k < 64 → get_or tallies.old (base + k) 0 < 4294967295 }
     ensures counted { Raised tallies.old base word tallies.new }
     ensures raised { RaisedTo reaches.old base word reach reaches.new }
 {
-    let mut w = word;
-    while w != 0 {
-        let k = u64::trailing_zeros(w);
-        let i = base + k as usize;
-        tallies[i] = tallies[i] + 1;
-        reaches[i] = larger(reaches[i], reach);
-        w = w & (w - 1);
+    for k in sets::set_bits(word) {
+        let i = base + k;
+        tallies[i] += 1;
+        reaches[i] = reaches[i].max(reach);
     }
 }
 
 // Counts each of the first m edges for those of the 64 groups from `base` on that it is inside, by the words of its ends, and raises their reaches.
 fn count_edges<'a>(
-    words: &'a [u64],
+    words: &'a [u64; 512],
     handsets: &'a [u8],
     edges: &'a [u8],
     m: usize,
     limit: u64,
     base: usize,
-    tallies: &mut [u32],
-    reaches: &mut [u64],
+    tallies: &mut [u32; 1024],
+    reaches: &mut [u64; 512],
 )
-    requires { (base ≤ 448) × ((limit ≤ limit_most) × ((m ≤ edges_most) × ((length tallies.old ≡ 1024) × (((k : ℕ) → k < 64 → get_or tallies.old (base + k) 0 ≡ 0) × (length reaches.old ≡ 512))))) }
+    requires in_tables { base ≤ 448 }
+    requires in_limits { limit ≤ limit_most }
+    requires few { m ≤ edges_most }
+    requires zeros { (k : ℕ) → k < 64 → get_or tallies.old (base + k) 0 ≡ 0 }
     ensures counted { EdgesCounted words.now edges.now m base tallies.old tallies.new }
     ensures raised { EdgesRaised words.now handsets.now edges.now m limit base reaches.old reaches.new }
 {
-    let mut k: usize = 0;
-    while k < m {
+    for k in 0..m {
         let ends = near::ends_at(edges, k);
-        let inside = at_or_zero(words, ends.a) & at_or_zero(words, ends.b);
+        let inside = word_of(words, ends.a) & word_of(words, ends.b);
         let reach = reach_inside(inside, handsets, ends.a, ends.b, limit);
         add_inside(inside, base, reach, tallies, reaches);
-        k += 1;
     }
 }
 
@@ -174,31 +172,35 @@ fn count_chunk<'a>(
     edges: &'a [u8],
     m: usize,
     limit: u64,
-    rows: &'a [u64; sets::TABLE_WORDS],
+    rows: &'a sets::Table,
     all: usize,
     first: usize,
-    degrees: &'a [u32],
-    tallies: &mut [u32],
-    reaches: &mut [u64],
+    degrees: &'a [u32; 512],
+    tallies: &mut [u32; 1024],
+    reaches: &mut [u64; 512],
 )
-    requires { (first ≤ 448) × ((first < all) × ((limit ≤ limit_most) × ((m ≤ edges_most) × (DegreesHold edges.now every_edge m degrees.now × (Progress handsets.now edges.now m limit rows.now all first tallies.old reaches.old))))) }
+    requires in_tables { first ≤ 448 }
+    requires left { first < all }
+    requires in_limits { limit ≤ limit_most }
+    requires few { m ≤ edges_most }
+    requires degrees_hold { DegreesHold edges.now every_edge m degrees.now }
+    requires so_far { Progress handsets.now edges.now m limit rows.now all first tallies.old reaches.old }
     ensures { Progress handsets.now edges.now m limit rows.now all (first + 64) tallies.new reaches.new }
 {
     let mut words = [0u64; 512];
-    let some = sets::smaller(all - first, 64);
+    let some = (all - first).min(64);
     mark_rows(rows, first, some, degrees, &mut words, tallies);
     count_edges(&words, handsets, edges, m, limit, first, tallies, reaches);
 }
 
 // Takes twice the edges inside out of the second place of each of the first groups.
-fn take_inside(groups: usize, tallies: &mut [u32])
-    requires { (groups ≤ 512) × InsideFits groups tallies.old }
+fn take_inside(groups: usize, tallies: &mut [u32; 1024])
+    requires few { groups ≤ 512 }
+    requires fits { InsideFits groups tallies.old }
     ensures { InsideTaken groups tallies.old tallies.new }
 {
-    let mut k: usize = 0;
-    while k < groups {
-        tallies[512 + k] = tallies[512 + k] - tallies[k] * 2;
-        k += 1;
+    for k in 0..groups {
+        tallies[512 + k] -= tallies[k] * 2;
     }
 }
 
@@ -217,19 +219,17 @@ pub fn count_groups<'a>(
     ensures counted { GroupsCounted edges.now rows.now count tallies.new }
     ensures raised { GroupsReach handsets.now edges.now limit rows.now count reaches.new }
 {
-    let m = sets::smaller(edges.len() / fields::EDGE_BYTES, limits::EDGES_MOST);
-    let all = sets::smaller(count, 512);
-    let most = sets::smaller(limit as usize, limits::LIMIT_MOST as usize) as u64;
+    let m = (edges.len() / fields::EDGE_BYTES).min(limits::EDGES_MOST);
+    let all = count.min(512);
+    let most = limit.min(limits::LIMIT_MOST);
     *tallies = [0u32; 1024];
     *reaches = [0u64; 512];
     let mut degrees = [0u32; 512];
     count_degrees(edges, m, &mut degrees);
-    let mut first: usize = 0;
-    while first < all {
+    for first in (0..all).step_by(64) {
         count_chunk(
             handsets, edges, m, most, rows, all, first, &degrees, tallies, reaches,
         );
-        first += 64;
     }
     take_inside(all, tallies);
 }

@@ -1,25 +1,21 @@
--- `nearest::nearest_of` meets its contract: with no groups there is none, and else the first row that meets the closest handsets is the nearest group.
-use Prim.Native.Nat.{ℕ, ◌<◌, min}
-use native.Mathlib.Omega.{arith}
-use mathlib.Core.Path.{◌≡◌, ap, ◌∙◌, subst}
-use mathlib.Core.List.{List}
-use Rattle.rows.specs.Rows.{rows_of, MembersFound, first_meeting}
+-- `nearest::nearest_of` meets its contract: with no handset in a row there is no group, and else the first row that meets the closest handsets is the nearest group.
+use Rattle.std.proofs.Common.{ℕ, ◌≡◌, min, ap, ◌∙◌, arith}
 use Rattle.nearest.specs.ForProofs.{wrapped}
 use Rattle.nearest.specs.declared.Nearest.TheVariants.{Group}
-use Rattle.nearest.proofs.Rows.{rows_nearest, no_rows, wrapped_fits}
+use Rattle.nearest.proofs.Rows.{none_seen, no_rows, rows_nearest}
 use Rattle.nearest.proofs.nearest_of.Goals as goal
 
-pub returns-then-groups-eq0 : goal.returns-then-groups-eq0
-returns-then-groups-eq0 c = no_rows (wrapped c.args.point.now c.args.handsets.now) c.args.rows.now c.args.groups c.if-groups-eq0.true
+pub returns-in_default : goal.returns-in_default
+returns-in_default c =
+    let far : ℕ → ℕ = wrapped c.args.point.now c.args.handsets.now in
+    let all : min c.args.groups 512 ≡ c.args.groups = omega (arith, c.requires.few) in
+    let found = rw all at c.find_members.ensures in
+    no_rows far c.args.rows.now c.args.groups (none_seen far c.args.rows.now c.args.groups c.requires _ _ found c.in_default.ensures.standing)
 
 pub returns : goal.returns
 returns c =
-    let e : min c.args.groups 512 ≡ c.args.groups = omega (arith, c.requires.few) in
-    let some : 0 < c.args.groups = omega arith in
-    let once : List ℕ = c.find_members.new.once in
-    let twice : List ℕ = c.find_members.new.twice in
-    let closest : List ℕ = c.find_closest-least.new.closest in
-    ap (λ (g : ℕ). Group g c.find_closest-least.result) (c.first_meeting.ensures ∙ ap (λ (n : ℕ). first_meeting closest (rows_of c.args.rows.now n)) e)
-    ∙ rows_nearest (wrapped c.args.point.now c.args.handsets.now) c.args.rows.now c.args.groups c.requires once twice
-    (subst (λ (n : ℕ). MembersFound (rows_of c.args.rows.now n) once twice) e c.find_members.ensures) c.find_closest-least.result closest c.find_closest-least.ensures
-    (wrapped_fits c.args.point.now c.args.handsets.now) some
+    let far : ℕ → ℕ = wrapped c.args.point.now c.args.handsets.now in
+    let all : min c.args.groups 512 ≡ c.args.groups = omega (arith, c.requires.few) in
+    let found = rw all at c.find_members.ensures in
+    let first = rw all at c.first_meeting.ensures in
+    ap (λ (g : ℕ). Group g c.in-Some.least) first ∙ rows_nearest far c.args.rows.now c.args.groups c.requires _ _ found c.in-Some.least _ c.in-Some.ensures

@@ -1,14 +1,12 @@
--- `nearest::take_word` meets its contract. The invariant: the handsets of the word that are not in what is left of it have been measured. A turn measures that of the
--- lowest set bit and clears it; the measure is the sum of the bits left.
-use Prim.Native.Nat.{◌^◌, ◌<◌}
-use Rattle.sets.specs.Below.{sum}
-use Rattle.sets.specs.Bits.{bit_of}
-use Rattle.nearest.specs.ForProofs.{wrapped}
-use Rattle.nearest.proofs.Taking.{WordTaken}
+-- `nearest::take_word` meets its contract. The invariant: measuring the rest of the word from here is measuring the word from the start.
+use Rattle.std.specs.Prelude.{ℕ, List, Option}
+use Rattle.nearest.specs.ForProofs.{wrapped, TakesWord}
 use Rattle.nearest.proofs.take_word.Given as goal
 
-abbrev pub invariant-loop-w : goal.invariant-loop-w
-invariant-loop-w l = (l.w < 2 ^ 64) × WordTaken (wrapped l.point l.handsets) l.base l.word l.w l.before l.initial.closest l.least l.closest
-
-abbrev pub decreases-loop-w : goal.decreases-loop-w
-decreases-loop-w l = sum 64 (bit_of l.w)
+abbrev pub invariant-loop-k : goal.invariant-loop-k
+invariant-loop-k l = record {
+  next : (goal.iterator-loop-k).can_next l.k-iterator;
+  finite : (goal.iterator-loop-k).is_finite l.k-iterator;
+  rest : (last : Option ℕ) (ws : List ℕ) → TakesWord (wrapped l.point l.handsets) l.k-iterator.word l.base l.least l.closest last ws
+      → TakesWord (wrapped l.point l.handsets) l.word l.base l.fn.before l.initial.closest last ws;
+}
