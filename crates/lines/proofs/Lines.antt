@@ -2,24 +2,27 @@
 --
 --     row_elements     the members of a row's words are the row's; row_few: at most 512
 --     lines_more       the lines of the first groups, one more
---     text_written     the text by its five writes
-use Prim.Native.Nat.{ℕ, ◌+◌, ◌*◌, ◌≤◌, ◌<◌, min}
+--     fields_more      a line of fields from one on
+use Prim.Native.Nat.{ℕ, ◌+◌, ◌*◌, ◌≤◌, ◌<◌}
 use native.Mathlib.Omega.{arith}
 use native.Mathlib.Numerals.{add-one}
-use mathlib.Core.Path.{◌≡◌, ap, ◌∙◌}
+use mathlib.Core.Path.{◌≡◌, sym, ap, ◌∙◌, subst}
 use mathlib.Core.List.{List, ◌++◌, append_assoc}
 use lib.Dec.{eqb}
-use lib.ListN.{length}
+use lib.ListN.{length, get_or, drop}
+use lib.Seq.{drop-cons}
 use Rattle.sets.specs.Bits.{bit_at, cell}
 use Rattle.sets.proofs.Selecting.{select_cong}
 use Rattle.rows.specs.Rows.{row_members, row_in, row_words}
 use Rattle.rows.proofs.Rows.{row_in_lem, row_words_in}
 use Rattle.rows.proofs.Listing.{row_small}
 use Rattle.scores.specs.Scored.{scores_for}
-use Rattle.text.specs.Text.{Wrote, bytes, elements_of}
-use Rattle.text.proofs.Writing.{chain}
-use Rattle.lines.specs.Lines.{head_line, group_line, list_line, totals_line, group_tally, group_reach, table_lines, table_text}
-use Rattle.lines.specs.declared.Numbers.{Numbers}
+use Rattle.std.specs.Borrow.{Bor}
+use Rattle.text.specs.Text.{Writes, decimal, elements_of}
+use Rattle.text.specs.declared.Text.{Text}
+use Rattle.text.proofs.Writing.{then}
+use Rattle.lines.specs.Lines.{group_line, group_tally, group_reach, table_lines}
+use Rattle.lines.specs.ForProofs.{fields_line}
 
 pub row_elements : (rows : List ℕ) (k : ℕ) → k < 512 → elements_of (row_words rows k) ≡ row_in rows k
 unfolding elements_of row_members
@@ -36,10 +39,13 @@ pub lines_more : (rows ts rs : List ℕ) (k : ℕ)
 unfolding table_lines
 lines_more rows ts rs k = ap (table_lines rows ts rs) (add-one k)
 
-pub text_written : {l l₁ l₂ l₃ l₄ l₅ : List ℕ} {k r₁ r₂ r₃ r₄ r₅ : ℕ} (f : Numbers) (rows ts rs cores outliers : List ℕ) → length l ≤ 9223372036854775808
-    → k ≡ min f.head.counts.groups 512 → Wrote l 0 (head_line f.head) l₁ r₁ → Wrote l₁ r₁ (table_lines rows ts rs k) l₂ r₂
-    → Wrote l₂ r₂ (list_line (bytes "cores:") (elements_of cores)) l₃ r₃ → Wrote l₃ r₃ (list_line (bytes "outliers:") (elements_of outliers)) l₄ r₄
-    → Wrote l₄ r₄ (totals_line f.totals) l₅ r₅ → Wrote l 0 (table_text f rows ts rs cores outliers) l₅ r₅
-unfolding table_text
-text_written f rows ts rs cores outliers small e p q r s t =
-    simp append_assoc (simp append_assoc at (chain small (chain small (chain small (chain small p (rw e at q)) r) s) t))
+-- a line of fields from one on
+pub fields_more : {s t u : Text} (l : List (Bor (List ℕ) × ℕ)) (i : ℕ) (d : Bor (List ℕ) × ℕ) → i < length l
+    → Writes s ((get_or l i d).0.now ++ decimal (get_or l i d).1) t → Writes t (fields_line (drop (i + 1) l)) u → Writes s (fields_line (drop i l)) u
+fields_more {s} {u = u} l i d h p q =
+    let field : Bor (List ℕ) × ℕ = get_or l i d in
+    subst (λ (x : List ℕ). Writes s x u)
+    (append_assoc field.0.now (decimal field.1) (fields_line (drop (i + 1) l))
+    ∙ ap (λ (k : ℕ). field.0.now ++ (decimal field.1 ++ fields_line (drop k l))) (add-one i)
+    ∙ ap fields_line (sym (drop-cons l i d h)))
+    (then p q)

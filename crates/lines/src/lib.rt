@@ -6,13 +6,14 @@
 
 ghost use Rattle.std.specs.Prelude.{◌≤◌, ◌<◌, ◌≡◌, ◌++◌, get_or};
 ghost use Rattle.scores.specs.Scored.{scores_for};
-ghost use Rattle.text.specs.Text.{Wrote, decimal, elements_of};
-ghost use Rattle.lines.specs.Lines.{head_line, score_text, scores_text, reach_text, group_line, list_line, totals_line, group_tally, group_reach, table_text, refused_text};
-ghost use Rattle.lines.specs.ForProofs.{four_line};
+ghost use Rattle.text.specs.Text.{Wrote, Writes, decimal, elements_of};
+ghost use Rattle.lines.specs.Lines.{newline, head_line, score_text, scores_text, reach_text, group_line, list_line, totals_line, group_tally, group_reach, table_text, refused_text};
+ghost use Rattle.lines.specs.ForProofs.{fields_line};
 
 use image::Refusal;
 use rows::Counts;
 use scores::{Score, Tally};
+use text::Text;
 use totals::Totals;
 
 // The numbers of a report's line one: the site's n and m, and the plan's two counts.
@@ -30,138 +31,113 @@ pub struct Numbers {
     pub totals: Totals,
 }
 
-// The four numbers of a line.
-#[derive(Clone, Copy)]
-struct Four {
-    a: u64,
-    b: u64,
-    c: u64,
-    d: u64,
+// Ends a line.
+fn end_line(text: &mut Text<'_>)
+    ensures { Writes text.old newline text.new }
+{
+    text.put(b'\n');
 }
 
-// Writes a word and a number.
-fn put_labelled(text: &mut [u8], at: usize, word: &[u8], n: u64) -> usize
-    ensures { Wrote text.old at (word.now ++ decimal n) text.new result }
+// Writes a label and a number.
+fn put_labelled(text: &mut Text<'_>, label: &[u8], n: u64)
+    ensures { Writes text.old (label.now ++ decimal n) text.new }
 {
-    let next = text::put_all(text, at, word);
-    text::put_decimal(text, next, n)
+    text.put_all(label);
+    text.put_decimal(n);
 }
 
-// Writes a line of four words, each with its number.
-fn put_four<'a>(
-    text: &mut [u8],
-    at: usize,
-    w: &'a [u8],
-    x: &'a [u8],
-    y: &'a [u8],
-    z: &'a [u8],
-    numbers: Four,
-) -> usize
-    ensures { Wrote text.old at (four_line w.now x.now y.now z.now numbers) text.new result }
+// Writes a line of labels, each with its number.
+fn put_fields(text: &mut Text<'_>, fields: &[(&[u8], u64)])
+    ensures { Writes text.old (fields_line fields.now) text.new }
 {
-    let p1 = put_labelled(text, at, w, numbers.a);
-    let p2 = put_labelled(text, p1, x, numbers.b);
-    let p3 = put_labelled(text, p2, y, numbers.c);
-    let p4 = put_labelled(text, p3, z, numbers.d);
-    text::put(text, p4, 10)
+    for &(label, n) in fields {
+        put_labelled(text, label, n);
+    }
+    end_line(text);
 }
 
 // Writes line one.
-fn put_head(text: &mut [u8], at: usize, head: Head) -> usize
-    ensures { Wrote text.old at (head_line head) text.new result }
+fn put_head(text: &mut Text<'_>, head: Head)
+    ensures { Writes text.old (head_line head) text.new }
 {
-    let numbers = Four {
-        a: head.handsets as u64,
-        b: head.ties as u64,
-        c: head.counts.groups as u64,
-        d: head.counts.memberships as u64,
-    };
-    put_four(
+    put_fields(
         text,
-        at,
-        b"handsets ",
-        b" ties ",
-        b" groups ",
-        b" memberships ",
-        numbers,
-    )
+        &[
+            (b"handsets ", u64::from(head.handsets)),
+            (b" ties ", u64::from(head.ties)),
+            (b" groups ", head.counts.groups as u64),
+            (b" memberships ", head.counts.memberships as u64),
+        ],
+    );
 }
 
 // Writes the last line.
-fn put_totals(text: &mut [u8], at: usize, totals: Totals) -> usize
-    ensures { Wrote text.old at (totals_line totals) text.new result }
+fn put_totals(text: &mut Text<'_>, totals: Totals)
+    ensures { Writes text.old (totals_line totals) text.new }
 {
-    let sums = Four {
-        a: totals.cores as u64,
-        b: totals.borders as u64,
-        c: totals.outliers as u64,
-        d: totals.multiple as u64,
-    };
-    put_four(
+    put_fields(
         text,
-        at,
-        b"cores ",
-        b" borders ",
-        b" outliers ",
-        b" multiple ",
-        sums,
-    )
+        &[
+            (b"cores ", totals.cores as u64),
+            (b" borders ", totals.borders as u64),
+            (b" outliers ", totals.outliers as u64),
+            (b" multiple ", totals.multiple as u64),
+        ],
+    );
 }
 
 // Writes a score: two numbers with a slash between, or a hyphen where there is none.
-fn put_score(text: &mut [u8], at: usize, score: Score) -> usize
-    ensures { Wrote text.old at (score_text score) text.new result }
+fn put_score(text: &mut Text<'_>, score: Score)
+    ensures { Writes text.old (score_text score) text.new }
 {
     match score {
         Score::Ratio(a, b) => {
-            let p1 = text::put_decimal(text, at, a);
-            put_labelled(text, p1, b"/", b)
+            text.put_decimal(a);
+            put_labelled(text, b"/", b);
         }
-        Score::Nothing => text::put(text, at, 45),
+        Score::Nothing => text.put(b'-'),
     }
 }
 
 // Writes what stands before the members in a group's line: its number and its two scores.
-fn put_scores(text: &mut [u8], at: usize, k: usize, tally: Tally) -> usize
-    ensures { Wrote text.old at (scores_text k (scores_for tally)) text.new result }
+fn put_scores(text: &mut Text<'_>, k: usize, tally: Tally)
+    ensures { Writes text.old (scores_text k (scores_for tally)) text.new }
 {
     let scores = scores::scores_of(tally);
-    let density = scores.density;
-    let conductance = scores.conductance;
-    let p1 = put_labelled(text, at, b"group ", k as u64);
-    let p2 = text::put_all(text, p1, b" density ");
-    let p3 = put_score(text, p2, density);
-    let p4 = text::put_all(text, p3, b" conductance ");
-    put_score(text, p4, conductance)
+    put_labelled(text, b"group ", k as u64);
+    text.put_all(b" density ");
+    put_score(text, scores.density);
+    text.put_all(b" conductance ");
+    put_score(text, scores.conductance);
 }
 
 // Writes a reach: its squared distance, or a hyphen where there is none.
-fn put_reach(text: &mut [u8], at: usize, reach: Option<u64>) -> usize
-    ensures { Wrote text.old at (reach_text reach) text.new result }
+fn put_reach(text: &mut Text<'_>, reach: Option<u64>)
+    ensures { Writes text.old (reach_text reach) text.new }
 {
     match reach {
-        Some(d) => text::put_decimal(text, at, d),
-        None => text::put(text, at, 45),
+        Some(d) => text.put_decimal(d),
+        None => text.put(b'-'),
     }
 }
 
-// Writes the line of group k, whose members are a set of bits.
-fn put_group(
-    text: &mut [u8],
-    at: usize,
-    k: usize,
-    tally: Tally,
-    reach: Option<u64>,
-    row: &[u64],
-) -> usize
-    ensures { Wrote text.old at (group_line k (scores_for tally) reach (elements_of row.now)) text.new result }
+// Writes a line of a word and the members of a set of bits.
+fn put_set(text: &mut Text<'_>, word: &[u8], set: &[u64])
+    ensures { Writes text.old (list_line word.now (elements_of set.now)) text.new }
 {
-    let p1 = put_scores(text, at, k, tally);
-    let p2 = text::put_all(text, p1, b" reach ");
-    let p3 = put_reach(text, p2, reach);
-    let p4 = text::put(text, p3, 58);
-    let p5 = text::put_members(text, p4, row);
-    text::put(text, p5, 10)
+    text.put_all(word);
+    text.put_members(set);
+    end_line(text);
+}
+
+// Writes the line of group k, whose members are a set of bits.
+fn put_group(text: &mut Text<'_>, k: usize, tally: Tally, reach: Option<u64>, row: &[u64])
+    ensures { Writes text.old (group_line k (scores_for tally) reach (elements_of row.now)) text.new }
+{
+    put_scores(text, k, tally);
+    text.put_all(b" reach ");
+    put_reach(text, reach);
+    put_set(text, b":", row);
 }
 
 // The tally of group k of so many members, from the table of tallies; 0 for a place past the table's end.
@@ -197,19 +173,10 @@ fn at_or_zero(table: &[u32], i: usize) -> u32
     if i < table.len() { table[i] } else { 0 }
 }
 
-// Writes a word, the members of a set of bits, and byte 10.
-fn put_set(text: &mut [u8], at: usize, word: &[u8], set: &[u64]) -> usize
-    ensures { Wrote text.old at (list_line word.now (elements_of set.now)) text.new result }
-{
-    let p1 = text::put_all(text, at, word);
-    let p2 = text::put_members(text, p1, set);
-    text::put(text, p2, 10)
-}
-
 // Writes the whole report from the numbers of its first and last line, the groups as rows, their tallies and reaches, and the sets of cores and of outliers.
 // It lists no more than 512 groups; a site has no more.
 pub fn put_report<'a>(
-    text: &mut [u8],
+    buffer: &mut [u8],
     numbers: Numbers,
     rows: &'a [u64; sets::TABLE_WORDS],
     tallies: &'a [u32; 1024],
@@ -217,27 +184,28 @@ pub fn put_report<'a>(
     cores: &'a [u64; 8],
     outliers: &'a [u64; 8],
 ) -> usize
-    ensures { Wrote text.old 0 (table_text numbers rows.now tallies.now reaches.now cores.now outliers.now) text.new result }
+    ensures { Wrote buffer.old 0 (table_text numbers rows.now tallies.now reaches.now cores.now outliers.now) buffer.new result }
 {
-    let groups = sets::smaller(numbers.head.counts.groups, 512);
-    let mut next = put_head(text, 0, numbers.head);
-    let mut k: usize = 0;
-    while k < groups {
+    let mut text = Text::new(buffer);
+    put_head(&mut text, numbers.head);
+    for k in 0..numbers.head.counts.groups.min(512) {
         let tally = group_tally(tallies, k, rows::row_size(rows, k) as usize);
         let reach = group_reach(reaches, k);
-        next = put_group(text, next, k, tally, reach, rows::row_of(rows, k));
-        k += 1;
+        put_group(&mut text, k, tally, reach, rows::row_of(rows, k));
     }
-    let p1 = put_set(text, next, b"cores:", cores);
-    let p2 = put_set(text, p1, b"outliers:", outliers);
-    put_totals(text, p2, numbers.totals)
+    put_set(&mut text, b"cores:", cores);
+    put_set(&mut text, b"outliers:", outliers);
+    put_totals(&mut text, numbers.totals);
+    text.position
 }
 
 // Writes a refusal as the program prints it: a word, the number, the place.
-pub fn put_refusal(text: &mut [u8], refusal: Refusal) -> usize
-    ensures { Wrote text.old 0 (refused_text refusal) text.new result }
+pub fn put_refusal(buffer: &mut [u8], refusal: Refusal) -> usize
+    ensures { Wrote buffer.old 0 (refused_text refusal) buffer.new result }
 {
-    let p1 = put_labelled(text, 0, b"refused ", refusal.number as u64);
-    let p2 = put_labelled(text, p1, b" ", refusal.place as u64);
-    text::put(text, p2, 10)
+    let mut text = Text::new(buffer);
+    put_labelled(&mut text, b"refused ", refusal.number as u64);
+    put_labelled(&mut text, b" ", refusal.place as u64);
+    end_line(&mut text);
+    text.position
 }

@@ -4,6 +4,7 @@
 
 use schedule::{Time, Window};
 use std::io;
+use text::Text;
 
 const WORKDAY_STARTS: [u32; 3] = [0, 4, 8];
 
@@ -43,13 +44,15 @@ fn print_members(
     );
     let asked = [year, month, day, minute, k];
     let mut line = [0u8; 4096];
-    let mut at = text::put_all(&mut line, 0, b"members");
-    at = text::put_numbers(&mut line, at, &asked);
-    at = text::put_all(&mut line, at, b":");
-    at = text::put_numbers(&mut line, at, members);
-    at = text::put_all(&mut line, at, b"\n");
-    if at <= line.len() {
-        rt.write_all(&line[0..at])?;
+    let mut text = Text::new(&mut line);
+    text.put_all(b"members");
+    text.put_numbers(&asked);
+    text.put_all(b":");
+    text.put_numbers(members);
+    text.put_all(b"\n");
+    let length = text.position;
+    if let Some(written) = line.get(..length) {
+        rt.write_all(written)?;
     }
     Ok(())
 }

@@ -4,7 +4,6 @@
 --     members_most      the members of a set, each after a space, take at most four bytes each
 use Prim.Native.Nat.{ℕ, zero, suc, ◌+◌, ◌*◌, ◌%◌, ◌/◌, ◌≤◌, ◌<◌}
 use native.Mathlib.Omega.{arith}
-use native.Mathlib.Decide.{dec_lt}
 use native.Mathlib.Numerals.{add-one}
 use mathlib.Core.Path.{sym, ap, ◌∙◌}
 use mathlib.Core.Logic.{⊎_elim}
@@ -12,11 +11,13 @@ use mathlib.Core.Bool.{Bool, true, false, cond}
 use mathlib.Core.List.{[], ◌∷◌, ◌++◌}
 use lib.Dec.{ltb}
 use lib.ListN.{length, length-append}
+use Rattle.std.proofs.lemmas.Fmt.{length-decimal-le}
 use Rattle.sets.specs.Below.{select}
 use Rattle.sets.proofs.Tests.{decide}
 use Rattle.sets.proofs.Selecting.{select_yes, select_no}
 use Rattle.text.specs.Text.{digits_of, decimal, numbers}
-use Rattle.text.proofs.Writing.{decimal_one, decimal_two, decimal_three, members_yes, members_no}
+use Rattle.text.proofs.Decimal.{decimal_is}
+use Rattle.text.proofs.Writing.{members_yes, members_no}
 
 digits_most : (k n : ℕ) → length (digits_of k n) ≤ k
 unfolding digits_of
@@ -32,12 +33,7 @@ unfolding decimal
 decimal_most n = digits_most 20 n
 
 pub decimal_short : (n : ℕ) → n < 1000 → length (decimal n) ≤ 3
-decimal_short n h = pick (dec_lt n 10) (dec_lt n 100)
-  where
-    pick : Dec (n < 10) → Dec (n < 100) → length (decimal n) ≤ 3
-    pick (yes l) q = omega (arith, ap length (decimal_one n l))
-    pick (no l) (yes q) = omega (arith, ap length (decimal_two n (omega arith) q))
-    pick (no l) (no q) = omega (arith, ap length (decimal_three n (omega arith) h))
+decimal_short n h = rw (decimal_is n (omega arith)) (length-decimal-le 3 n (omega arith) (omega arith) (omega arith))
 
 pub members_most : (n : ℕ) (f : ℕ → Bool) → n ≤ 1000 → length (numbers (select n f)) ≤ 4 * length (select n f)
 unfolding numbers select

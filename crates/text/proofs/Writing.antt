@@ -1,27 +1,27 @@
 -- How writes follow one another, and how the texts that a loop writes grow by one step.
 --
---     chain                        a write after a write is one write
---     from_start, chain_from       so from a buffer and a position that are known by an equation
---     nothing                      no bytes written: the position alone is capped
---     digits_small, digits_large   the last digit, and a digit more
---     decimal_one, decimal_two, decimal_three    a number below 10, below 100 and below 1,000
+--     chain                        a write after a write is one write; then: the same of a text
+--     still                        nothing more is written
+--     written                      what a text from the front of a buffer leaves in it
+--     numbers_append               the numbers of two lists
 --     numbers_one                  the numbers of a table, one more
+--     numbers_more                 the numbers of a list, each changed, one more
 --     members_yes, members_no      the members of a set below a bound, one bound more
-use Prim.Native.Nat.{ℕ, zero, suc, ◌+◌, ◌-◌, ◌/◌, ◌%◌, ◌≤◌, ◌<◌, min}
-use mathlib.Core.Path.{◌≡◌, refl, sym, ap, ◌∙◌, subst₂}
+use Prim.Native.Nat.{ℕ, ◌+◌, ◌≤◌, ◌<◌, min}
+use mathlib.Core.Path.{◌≡◌, refl, sym, ap, ap₂, ◌∙◌}
 use mathlib.Core.Bool.{Bool, not}
-use mathlib.Core.List.{List, [], ◌∷◌, ◌++◌, append_assoc, append-nil}
+use mathlib.Core.List.{List, [], ◌∷◌, ◌++◌, map, append_assoc, append-nil}
 use native.Mathlib.Omega.{arith}
 use native.Mathlib.Decide.{dec_lt}
-use native.Mathlib.Numerals.{sub-one, add-one}
+use native.Mathlib.Numerals.{add-one}
 use lib.ListN.{length, get_or, length-append, take}
 use lib.Seq.{sets, length-sets, take-suc}
 use lib.Dec.{T}
-use borrow.Author.Tests.{lt-ltb, le-ltb}
 use Rattle.sets.specs.Below.{select}
-use Rattle.sets.proofs.Selecting.{select_yes, select_no}
+use Rattle.sets.proofs.Selecting.{select_yes, select_no, map_append}
 use Rattle.sets.proofs.Writing.{sets_out, sets_append}
-use Rattle.text.specs.Text.{Wrote, digits_of, decimal, numbers}
+use Rattle.text.specs.Text.{Wrote, Writes, decimal, numbers}
+use Rattle.text.specs.declared.Text.{Text}
 
 -- stores from the capped position are the stores from the true one
 capped : (l : List ℕ) (p : ℕ) (ws : List ℕ) → length l ≤ 9223372036854775808 → sets l (min p 9223372036854775808) ws ≡ sets l p ws
@@ -41,47 +41,28 @@ chain {l} {l₁} {l₂} {at} {r₁} {r₂} {vs} {ws} h p q = record {
   next = omega (arith, length-append vs ws, p.next, q.next);
 }
 
--- a write from a buffer and a position that are known by an equation
-pub from_start : {l l₁ l₂ : List ℕ} {at r₁ r₂ : ℕ} {vs : List ℕ} → l₁ ≡ l → r₁ ≡ at → Wrote l₁ r₁ vs l₂ r₂ → Wrote l at vs l₂ r₂
-from_start {l₂ = l₂} {r₂ = r₂} {vs} e d w = subst₂ (λ (m : List ℕ) (k : ℕ). Wrote m k vs l₂ r₂) e d w
+-- the same of a text
+pub then : {s t u : Text} {vs ws : List ℕ} → Writes s vs t → Writes t ws u → Writes s (vs ++ ws) u
+then p q = record {
+  same_reference = q.same_reference ∙ p.same_reference;
+  short = p.short;
+  wrote = chain (omega (arith, p.short)) p.wrote q.wrote;
+}
 
-pub chain_from : {l l₁ l₂ m : List ℕ} {at r₁ r₂ k : ℕ} {vs ws : List ℕ} → length l ≤ 9223372036854775808 → m ≡ l₁ → k ≡ r₁
-    → Wrote l at vs l₁ r₁ → Wrote m k ws l₂ r₂ → Wrote l at (vs ++ ws) l₂ r₂
-chain_from h e d p q = chain h p (from_start e d q)
+-- a text that was written to, with nothing more
+pub still : {s t : Text} {vs : List ℕ} → Writes s vs t → Writes t [] t
+still {s} {t} {vs} p = record {
+  same_reference = refl;
+  short = omega (arith, p.short, ap length p.wrote.list, length-sets s.buffer.now s.position vs);
+  wrote = record { list = refl; next = omega (arith, p.wrote.next) };
+}
 
-pub nothing : (l : List ℕ) (at r : ℕ) → r ≡ min at 9223372036854775808 → Wrote l at [] l r
-nothing l at r e = record { list = refl; next = omega arith }
-
-pub digits_small : (k n : ℕ) → (k ≡ 0 → ⊥) → n < 10 → digits_of k n ≡ (48 + n) ∷ []
-unfolding digits_of
-digits_small zero n any h = absurd (any refl)
-digits_small (suc k) n any h = simp (lt-ltb _ _ h)
-
-pub digits_large : (k n : ℕ) → (k ≡ 0 → ⊥) → 10 ≤ n → digits_of k n ≡ digits_of (k - 1) (n / 10) ++ ((48 + n % 10) ∷ [])
-unfolding digits_of
-digits_large zero n any h = absurd (any refl)
-digits_large (suc k) n any h = simp (le-ltb _ _ h) (ap (λ (j : ℕ). digits_of j (n / 10) ++ ((48 + n % 10) ∷ [])) (sym (sub-one (suc k))))
-
-pub decimal_one : (n : ℕ) → n < 10 → decimal n ≡ (48 + n % 10) ∷ []
-unfolding decimal
-decimal_one n h = digits_small 20 n (λ e. omega arith) h ∙ ap (λ (d : ℕ). (48 + d) ∷ []) (let e : n ≡ n % 10 = omega arith in e)
-
-pub decimal_two : (n : ℕ) → 10 ≤ n → n < 100 → decimal n ≡ ((48 + n / 10 % 10) ∷ []) ++ ((48 + n % 10) ∷ [])
-unfolding decimal
-decimal_two n l h =
-    digits_large 20 n (λ e. omega arith) l
-    ∙ ap (λ (d : List ℕ). d ++ ((48 + n % 10) ∷ []))
-    (digits_small 19 (n / 10) (λ e. omega arith) (omega arith) ∙ ap (λ (d : ℕ). (48 + d) ∷ []) (let e : n / 10 ≡ n / 10 % 10 = omega arith in e))
-
-pub decimal_three : (n : ℕ) → 100 ≤ n → n < 1000 → decimal n ≡ (((48 + n / 100) ∷ []) ++ ((48 + n / 10 % 10) ∷ [])) ++ ((48 + n % 10) ∷ [])
-unfolding decimal
-decimal_three n l h =
-    let tens : n / 10 / 10 ≡ n / 100 = omega arith in
-    digits_large 20 n (λ e. omega arith) (omega arith)
-    ∙ ap (λ (d : List ℕ). d ++ ((48 + n % 10) ∷ []))
-    (digits_large 19 (n / 10) (λ e. omega arith) (omega arith)
-    ∙ ap (λ (d : List ℕ). d ++ ((48 + n / 10 % 10) ∷ []))
-    (digits_small 18 (n / 10 / 10) (λ e. omega arith) (omega arith) ∙ ap (λ (k : ℕ). (48 + k) ∷ []) tens))
+-- what a text from the front of a buffer leaves in it
+pub written : {t t' : Text} {l l' vs : List ℕ} → t.buffer.now ≡ l → t.position ≡ 0 → l' ≡ t'.buffer.now → Writes t vs t' → Wrote l 0 vs l' t'.position
+written {vs = vs} b p e w = record {
+  list = e ∙ w.wrote.list ∙ ap₂ (λ (m : List ℕ) (k : ℕ). sets m k vs) b p;
+  next = omega (arith, w.wrote.next);
+}
 
 one_number : (x : ℕ) → numbers (x ∷ []) ≡ 32 ∷ decimal x
 unfolding numbers
@@ -98,6 +79,10 @@ numbers_one l i h =
     ∙ ap numbers (take-suc l i 0 h)
     ∙ numbers_append (take i l) (get_or l i 0 ∷ [])
     ∙ ap (λ (x : List ℕ). numbers (take i l) ++ x) (one_number (get_or l i 0))
+
+pub numbers_more : (f : ℕ → ℕ) (l : List ℕ) (x : ℕ) → numbers (map f (l ++ (x ∷ []))) ≡ numbers (map f l) ++ (32 ∷ decimal (f x))
+numbers_more f l x =
+    ap numbers (map_append f l (x ∷ [])) ∙ numbers_append (map f l) (f x ∷ []) ∙ ap (λ (y : List ℕ). numbers (map f l) ++ y) (one_number (f x))
 
 pub members_yes : (f : ℕ → Bool) (v : ℕ) → T (f v) → numbers (select (v + 1) f) ≡ numbers (select v f) ++ (32 ∷ decimal v)
 members_yes f v t =

@@ -1,7 +1,6 @@
--- `lines::put_labelled` meets its contract: the word, then the digits.
-use native.Mathlib.Omega.{arith}
-use Rattle.text.proofs.Writing.{chain}
+-- `lines::put_labelled` meets its contract: the label, then the digits.
+use Rattle.text.proofs.Writing.{then}
 use Rattle.lines.proofs.put_labelled.Goals as goal
 
 pub returns : goal.returns
-returns c = chain (omega arith) c.put_all-next.ensures c.put_decimal.ensures
+returns c = then c.put_all.ensures c.put_decimal.ensures

@@ -1,9 +1,11 @@
 -- `lines::put_refusal` meets its contract: two labelled numbers and byte 10.
-use native.Mathlib.Omega.{arith}
-use Rattle.text.proofs.Writing.{chain}
+use borrow.Author.Rules.{rules}
+use Rattle.text.proofs.Writing.{then, written}
 use Rattle.lines.specs.Lines.{refused_text}
 use Rattle.lines.proofs.put_refusal.Goals as goal
 
 pub returns : goal.returns
 unfolding refused_text
-returns c = chain (omega arith) c.put_labelled-p1.ensures (chain (omega arith) c.put_labelled-p2.ensures c.put.ensures)
+returns c =
+    written c.new-text.ensures.bytes c.new-text.ensures.position (search rules)
+    (then c.put_labelled.ensures (then c.put_labelled-2.ensures c.end_line.ensures))
