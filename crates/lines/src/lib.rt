@@ -4,7 +4,7 @@
 // in specs/Lines. Callers cite proofs/Lengths for how long a report can be.
 #![tactic(auto)]
 
-ghost use Rattle.std.specs.Prelude.{◌≤◌, ◌<◌, ◌≡◌, ◌++◌, get_or};
+ghost use Rattle.std.specs.Prelude.{◌≤◌, ◌<◌, ◌≡◌, ◌++◌};
 ghost use Rattle.scores.specs.Scored.{scores_for};
 ghost use Rattle.text.specs.Text.{Wrote, Writes, decimal, elements_of};
 ghost use Rattle.lines.specs.Lines.{newline, head_line, score_text, scores_text, reach_text, group_line, list_line, totals_line, group_tally, group_reach, table_text, refused_text};
@@ -140,37 +140,27 @@ fn put_group(text: &mut Text<'_>, k: usize, tally: Tally, reach: Option<u64>, ro
     put_set(text, b":", row);
 }
 
-// The tally of group k of so many members, from the table of tallies; 0 for a place past the table's end.
-fn group_tally(tallies: &[u32], k: usize, size: usize) -> Tally
-    requires { (k < 512) × (size ≤ 512) }
+// The tally of group k of so many members, from the table of tallies.
+#[tactic(auto, unfolding(crate::specs::Lines::group_tally))]
+fn group_tally(tallies: &[u32; 1024], k: usize, size: usize) -> Tally
+    requires in_table { k < 512 }
+    requires few { size ≤ 512 }
     ensures { result ≡ group_tally tallies.now k size }
 {
     Tally {
         pairs: scores::pairs_of(size),
-        joined: at_or_zero(tallies, k),
-        leaving: at_or_zero(tallies, 512 + k),
+        joined: tallies[k],
+        leaving: tallies[512 + k],
     }
 }
 
-// The reach of group k, from the table of reaches; none past the table's end.
-fn group_reach(reaches: &[u64], k: usize) -> Option<u64>
+// The reach of group k, from the table of reaches.
+#[tactic(auto, unfolding(crate::specs::Lines::group_reach))]
+fn group_reach(reaches: &[u64; 512], k: usize) -> Option<u64>
+    requires { k < 512 }
     ensures { result ≡ group_reach reaches.now k }
 {
-    if reaches.len() <= k {
-        return None;
-    }
-    let entry = reaches[k];
-    if entry == 0 {
-        return None;
-    }
-    Some(entry - 1)
-}
-
-// What stands at a place of a table; 0 past its end.
-fn at_or_zero(table: &[u32], i: usize) -> u32
-    ensures { result ≡ get_or table.now i 0 }
-{
-    if i < table.len() { table[i] } else { 0 }
+    reaches[k].checked_sub(1)
 }
 
 // Writes the whole report from the numbers of its first and last line, the groups as rows, their tallies and reaches, and the sets of cores and of outliers.

@@ -1,10 +1,9 @@
 -- The handsets at the least distance so far, one handset more, one word more, all words.
 --
 --     closest_none                         before the first handset
---     closest_far, closest_same, closest_nearer     one handset more, which is farther than the nearest so far, as near, or nearer
+--     closest_same, closest_nearer         one handset more, which is as near as the nearest so far, or nearer; the check finds by itself that of one farther
 --     word_more, word_end                  the handsets of a word, one more at a time
 --     closest_word                         one word of a set more
---     closest_all                          all words of the set
 use Prim.Native.Nat.{ℕ, ◌+◌, ◌-◌, ◌*◌, ◌≤◌, ◌<◌}
 use native.Mathlib.Omega.{arith}
 use native.Mathlib.Decide.{ℕ_discrete, dec_lt}
@@ -18,7 +17,7 @@ use borrow.Author.Tests.{lt-ltb, le-ltb, le-leb, lt-leb, ne_eqb}
 use Rattle.sets.specs.Below.{bit}
 use Rattle.std.specs.Prelude.{Option, Some, None}
 use Rattle.sets.specs.Bits.{bit_of, bit_at, with_bit, ones_of}
-use Rattle.sets.proofs.Tests.{T_true, or_cases, or_left, or_right, eqb_of}
+use Rattle.sets.proofs.Tests.{T_true, or_cases, or_right, eqb_of}
 use Rattle.sets.proofs.Bits.{zeros, bit_at_zeros, bit_at_set_same, bit_at_set_other, length_with_bit, bit_of_none, word_bit}
 use Rattle.sets.proofs.Ascending.{Step, ones_end}
 use Rattle.nearest.specs.ForProofs.{IsLeast, is_away, Closest, also, Takes, in_word, TakesWord}
@@ -62,26 +61,6 @@ module _ (far : ℕ → ℕ) where
 
     kept : (u : ℕ) → T (also seen v u) → (x : ℕ) → (T (seen u) → x ≤ far u) → x ≤ far v → x ≤ far u
     kept u t x k h = ⊎_elim k (λ e. omega (arith, h, ap far (eqb→eq u v e))) (or_cases (seen u) (eqb u v) t)
-
-    pub closest_far : (d : ℕ) (ws : List ℕ) → d < far v → Closest far seen (Some d) ws → Closest far (also seen v) (Some d) ws
-    closest_far d ws h c = record {
-      size = c.size;
-      bits = λ u l. c.bits u l ∙ ap bit (pick u (ℕ_discrete u v));
-      standing = record {
-        attained = let a = c.standing.attained in (a.0, a.1, or_left (seen a.0) (eqb a.0 v) a.2, a.3);
-        none_nearer = λ u l t. kept u t d (c.standing.none_nearer u l) (omega (arith, h));
-      };
-    }
-      where
-        false_right : (b : Bool) → (b && false) ≡ false
-        false_right true = refl
-        false_right false = refl
-
-        pick : (u : ℕ) → Dec (u ≡ v) → (seen u && eqb (far u) d) ≡ (also seen v u && eqb (far u) d)
-        pick u (yes e) =
-            let z : eqb (far u) d ≡ false = ne_eqb (far u) d (λ q. omega (arith, h, q, ap far e)) in
-            rw (z, false_right (seen u), false_right (also seen v u)) refl
-        pick u (no n) = ap (λ (b : Bool). b && eqb (far u) d) (sym (also_other u n))
 
     pub closest_same : (d : ℕ) (ws : List ℕ) → far v ≡ d → Closest far seen (Some d) ws → Closest far (also seen v) (Some d) (with_bit ws v)
     closest_same d ws e c = record {
@@ -200,7 +179,3 @@ module _ (far : ℕ → ℕ) where
         → Closest far (passed (j + 1)) least' ws'
     closest_word j least ws least' ws' c taken =
         closest_cong (λ v. passed j v || in_word (j * 64) (get_or set j 0) v) (passed (j + 1)) least' ws' (λ v h. word_passed j v) (taken.each (passed j) c)
-
-    pub closest_all : (least : Option ℕ) (ws : List ℕ) → Closest far (passed 8) least ws → Closest far (λ v. eqb (bit_at set v) 1) least ws
-    closest_all least ws c =
-        closest_cong (passed 8) (λ v. eqb (bit_at set v) 1) least ws (λ v h. ap (λ (b : Bool). b && eqb (bit_at set v) 1) (lt-ltb v (8 * 64) (omega arith))) c

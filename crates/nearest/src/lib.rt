@@ -4,7 +4,7 @@
 // many groups it is in, and the handsets at the least distance so far are kept in a set.
 #![tactic(auto)]
 
-ghost use Rattle.std.specs.Prelude.{Some, ◌≤◌, ◌<◌, ◌*◌, ◌≡◌, [], ◌∷◌, eqb, length};
+ghost use Rattle.std.specs.Prelude.{Some, ◌≤◌, ◌<◌, ◌*◌, ◌≡◌, [], ◌∷◌, eqb};
 ghost use Rattle.sets.specs.Bits.{bit_at};
 ghost use Rattle.rows.specs.Rows.{rows_of};
 ghost use Rattle.community.specs.Site.{communities_of};

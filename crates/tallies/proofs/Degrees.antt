@@ -8,7 +8,7 @@
 --     sum_step, sum_end              the sum by the set bits of a word, one by one
 --     row_sum_none, row_sum_more     the sum by the words of a row
 --     summed_none, summed_more       the sums of the first rows, and of one row more
---     taken_none, taken_more         the edges inside taken out of the ends of the first groups, and of one group more
+--     taken_more                     the edges inside taken out of the ends, of one group more
 --     ends_summed                    the degrees of the handsets that pass f, summed: two for each edge with both ends among them, one for each with just one
 use Prim.Native.Nat.{ℕ, zero, suc, ◌+◌, ◌*◌, ◌-◌, ◌≤◌, ◌<◌}
 use native.Mathlib.Omega.{arith}
@@ -228,9 +228,6 @@ summed_more rows row first i ds ts₀ ts x few same e held = record {
     pick j h (no q) = get_or-set_other ts (512 + (first + i)) (512 + (first + j)) x 0 (λ p. q (omega (arith, p))) ∙ held.sums j (omega (arith, h, q))
 
 -- ---- the edges inside taken out of the ends
-pub taken_none : (ts : List ℕ) → InsideTaken 0 ts ts
-taken_none ts = record { size = refl; taken = λ k h. absurd (omega (arith, h)); others = λ j n. refl }
-
 pub taken_more : (k : ℕ) (ts₀ ts : List ℕ) → length ts₀ ≡ 1024 → k < 512 → InsideTaken k ts₀ ts
     → InsideTaken (k + 1) ts₀ (set ts (512 + k) (get_or ts (512 + k) 0 - get_or ts k 0 * 2))
 taken_more k ts₀ ts size few held = record {

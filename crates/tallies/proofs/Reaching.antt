@@ -5,7 +5,7 @@
 --     raised_inside                      of an edge inside no group it does not matter what is raised to
 --     reaches_none, reaches_more         the first edges: none, and one more
 --     reach_step                         the reaches, 64 groups more
---     progress_none, progress_chunk      the counts and the reaches: of no groups, and of 64 more; progress_first: the next groups have none yet
+--     progress_none, progress_chunk      the counts and the reaches: of no groups, and of 64 more
 --     inside_fits                        when all groups are counted, the ends among a group's members are at least twice the edges inside it
 --     groups_counted, groups_reach       of all
 --     member_listed                      the members of a group, by the list of the rows: what a caller that knows the rows to be communities cites
@@ -155,12 +155,6 @@ progress_none handsets records m limit rows all = record {
   ends = λ k h. get_or-replicate 1024 (512 + k) 0 0 (omega (arith, h)) ∙ sym (ap (λ (b : Bool). cond b (ends_in records rows m all k) 0) (le-ltb k 0 (omega arith)));
   reaches = λ k h. get_or-replicate 512 k 0 0 h ∙ sym (ap (λ (b : Bool). cond b (reach_entry (farthest m (λ e. cond (is_inside records rows all k e) (ends_proximity handsets (end_a records e) (end_b records e) limit) None))) 0) (le-ltb k 0 (omega arith)));
 }
-
--- nothing is counted yet for the groups from first on
-pub progress_first : (handsets records : List ℕ) (m limit : ℕ) (rows : List ℕ) (all first : ℕ) (ts rs : List ℕ) → first ≤ 448 → Progress handsets records m limit rows all first ts rs
-    → (i : ℕ) → i < 64 → get_or ts (first + i) 0 ≡ 0
-progress_first handsets records m limit rows all first ts rs low p i h =
-    p.joined (first + i) (omega arith) ∙ ap (λ (b : Bool). cond b (count m (is_inside records rows all (first + i))) 0) (le-ltb (first + i) first (omega arith))
 
 pub progress_chunk : (handsets records : List ℕ) (m limit : ℕ) (rows : List ℕ) (all first : ℕ) (ws ds ts ts₁ rs ts₂ rs₂ : List ℕ)
     → WordsHold (in_rows rows first (min (all - first) 64)) ws → first < all → first ≤ 448 → DegreesHold records every_edge m ds → RowsSummed rows first (min (all - first) 64) ds ts ts₁

@@ -11,10 +11,10 @@ pub loop-k-init : goal.loop-k-init
 unfolding table_lines
 loop-k-init c = still c.put_head.ensures
 
-pub group_tally-tally-requires : goal.group_tally-tally-requires
-group_tally-tally-requires c =
+pub group_tally-tally-requires-clause-few : goal.group_tally-tally-requires-clause-few
+group_tally-tally-requires-clause-few c =
     let few : c.loop-k.k < 512 = omega (arith, c.min-k-end.ensures, c.loop-k-test.true) in
-    (few, omega (arith, c.row_size.ensures, row_few c.args.rows.now c.loop-k.k few))
+    omega (arith, c.row_size.ensures, row_few c.args.rows.now c.loop-k.k few)
 
 pub loop-k-preserved : goal.loop-k-preserved
 loop-k-preserved c =
