@@ -35,7 +35,8 @@ use Rattle.community.specs.Site.{network, communities_of}
 use Rattle.community.proofs.Communities.{member_below, leader_member}
 use Rattle.community.proofs.Roles.{contains_mem, mem_contains}
 use Rattle.community.proofs.Site.{accepted_sound}
-use Rattle.rows.specs.Rows.{row_members, rows_of, MembersFound, meets, first_meeting}
+use Rattle.rows.proofs.Rows.{met_none}
+use Rattle.rows.specs.Rows.{first_met, row_members, rows_of, MembersFound, meets, first_meeting}
 use Rattle.rows.proofs.Listing.{in_row, rows_at, rows_length}
 use Rattle.graph.specs.Graph.{Groups}
 use Rattle.graph.proofs.Listing.{groups_most, grouped_rows}
@@ -129,6 +130,9 @@ module _ (far : ℕ → ℕ) (rows : List ℕ) (n : ℕ) (filled : RowsFilled ro
           let e : leb 1 (membership_count w.0 (rows_of rows n)) ≡ true = sym (once_is w.0 w.1) ∙ T_true (in_once w.0) w.2 in
           let k = some_times w.0 (rows_of rows n) (lib.Dec.leb→le 1 (membership_count w.0 (rows_of rows n)) (subst T (sym e) tt)) in
           any_make (length (rows_of rows n)) at k.0 k.1 (meets_with k.0 w.0 w.1 (close w.0 w.1 w.2 w.3) k.2)
+
+      pub not_unmet : None ≡ first_met closest (rows_of rows n) → ⊥
+      not_unmet e = lib.Dec.T_not (any (length (rows_of rows n)) at) (met_none closest (rows_of rows n) e) some_meets
 
       is_nearest : IsNearest far (Below group (length (rows_of rows n))) (first_meeting closest (rows_of rows n)) least
       unfolding first_meeting

@@ -102,7 +102,10 @@ fn nearest_of<'a>(
     let Some(least) = find_closest(point, handsets, &once, &mut closest) else {
         return Nearest::NoGroups;
     };
-    Nearest::Group(rows::first_meeting(rows, groups, &closest), least)
+    match rows::first_meeting(rows, groups, &closest) {
+        Some(group) => Nearest::Group(group, least),
+        None => Nearest::NoGroups,
+    }
 }
 
 // The nearest group of an accepted image with the header h, whose communities are the first groups of a table of rows.

@@ -11,6 +11,7 @@
 --     overlaps_row                   the words of a row overlap those of a set where the row meets it
 --     none_before, none_next         no row so far meets a set: at first, and of one row more
 --     first_found, first_unmet       the first row that meets a set; none does
+--     met_some, met_none             what was found is the first list that meets a set; where nothing was found none does
 use Prim.Native.Nat.{ℕ, zero, suc, ◌+◌, ◌-◌, ◌*◌, ◌/◌, ◌%◌, ◌^◌, ◌≤◌, ◌<◌, min, max}
 use native.Mathlib.Omega.{arith}
 use native.Mathlib.Numerals.{add-one}
@@ -18,14 +19,14 @@ use native.Mathlib.Nat.{add-zero, add-suc}
 use native.Mathlib.Decide.{dec_lt}
 use mathlib.Core.Path.{◌≡◌, refl, sym, ap, ap₂, ◌∙◌, subst}
 use mathlib.Core.Logic.{⊎_elim}
-use mathlib.Core.Bool.{Bool, true, false, ◌&&◌, ◌||◌, not}
+use mathlib.Core.Bool.{Bool, true, false, ◌&&◌, ◌||◌, not, cond}
 use mathlib.Core.List.{List, [], ◌∷◌, ◌++◌}
 use lib.Bits.{bit_and, and_lt}
 use lib.Dec.{T, eqb, leb, eqb→eq, not_T}
 use lib.ListN.{length, get_or, take, drop, length-take, length-drop, drop_of_length-le, get_or-eq_default}
 use lib.Seq.{get_or-take, get_or-drop}
 use borrow.Author.Tests.{le-leb, ne_eqb}
-use Rattle.sets.specs.Below.{any, bit, sum}
+use Rattle.sets.specs.Below.{any, bit, sum, find, first}
 use Rattle.sets.specs.Bits.{bit_of, bit_at, Words, cell}
 use Rattle.sets.specs.Rows.{table_words}
 use Rattle.sets.proofs.Tests.{T-ext, T_true, T_false, decide, any_take, any_none, any_cong, eqb_of, eqb_not, or_comm, first_is, first_none}
@@ -35,7 +36,7 @@ use Rattle.sets.proofs.Bits.{zeros, bit_at_zeros, bit_at_past, bit_at_lt, bit_of
 use Rattle.sets.proofs.Words.{word_one}
 use Rattle.community.specs.Network.{contains, membership_count}
 use Rattle.community.proofs.Roles.{contains_mem, mem_contains}
-use Rattle.rows.specs.Rows.{row_members, rows_of, row_in, row_words, MembersFound, meets, first_met}
+use Rattle.rows.specs.Rows.{row_members, rows_of, row_in, row_words, MembersFound, meets, first_meeting, first_met}
 use Rattle.rows.specs.ForProofs.{RowAdded, overlaps}
 use Rattle.rows.proofs.Listing.{in_row, row_length, rows_next, rows_at, rows_length}
 use Rattle.std.specs.Prelude.{Some, None}
@@ -348,3 +349,26 @@ module _ (set rows : List ℕ) (g : ℕ) where
       (subst T
       (ap not (any_cong g (meets_at set rows) (λ i. meets set (get_or (rows_of rows g) i [])) listed ∙ ap (λ (m : ℕ). any m (λ i. meets set (get_or (rows_of rows g) i []))) (sym (rows_length rows g))))
       n)
+
+-- the row that was found is the first that meets the set, and where none was found none does
+pub met_some : (set : List ℕ) (gs : List (List ℕ)) (k : ℕ) → Some k ≡ first_met set gs → (k ≡ first_meeting set gs) × (0 < length gs)
+unfolding first_met first_meeting first
+met_some set gs k e = pick (any (length gs) at) refl e
+  where
+    at : ℕ → Bool
+    at i = meets set (get_or gs i [])
+
+    pick : (b : Bool) → any (length gs) at ≡ b → Some k ≡ cond b (Some (find (length gs) at)) None → (k ≡ find (length gs) at) × (0 < length gs)
+    pick true q p = (cc, let r = any_take (length gs) at (subst T (sym q) tt) in omega (arith, r.1))
+    pick false q p = absurd (let z : ⊥ = cc in z)
+
+pub met_none : (set : List ℕ) (gs : List (List ℕ)) → None ≡ first_met set gs → T (not (any (length gs) (λ i. meets set (get_or gs i []))))
+unfolding first_met first
+met_none set gs e = pick (any (length gs) at) e
+  where
+    at : ℕ → Bool
+    at i = meets set (get_or gs i [])
+
+    pick : (b : Bool) → None ≡ cond b (Some (find (length gs) at)) None → T (not b)
+    pick true p = absurd (let z : ⊥ = cc in z)
+    pick false p = tt

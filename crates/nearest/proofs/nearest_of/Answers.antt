@@ -2,7 +2,8 @@
 use Rattle.std.proofs.Common.{ℕ, ◌≡◌, min, ap, ◌∙◌, arith}
 use Rattle.nearest.specs.ForProofs.{wrapped}
 use Rattle.nearest.specs.declared.Nearest.TheVariants.{Group}
-use Rattle.nearest.proofs.Rows.{none_seen, no_rows, rows_nearest}
+use Rattle.rows.proofs.Rows.{met_some}
+use Rattle.nearest.proofs.Rows.{none_seen, no_rows, rows_nearest, not_unmet}
 use Rattle.nearest.proofs.nearest_of.Goals as goal
 
 pub returns-in_default : goal.returns-in_default
@@ -12,10 +13,17 @@ returns-in_default c =
     let found = rw all at c.find_members.ensures in
     no_rows far c.args.rows.now c.args.groups (none_seen far c.args.rows.now c.args.groups c.requires _ _ found c.in_default.ensures.standing)
 
-pub returns : goal.returns
-returns c =
+pub returns-in-Some-group : goal.returns-in-Some-group
+returns-in-Some-group c =
     let far : ℕ → ℕ = wrapped c.args.point.now c.args.handsets.now in
     let all : min c.args.groups 512 ≡ c.args.groups = omega (arith, c.requires.few) in
     let found = rw all at c.find_members.ensures in
-    let first = rw all at c.first_meeting.ensures in
-    ap (λ (g : ℕ). Group g c.in-Some.least) first ∙ rows_nearest far c.args.rows.now c.args.groups c.requires _ _ found c.in-Some.least _ c.in-Some.ensures
+    let met = met_some _ _ _ (rw all at c.in-Some-group.ensures) in
+    ap (λ (g : ℕ). Group g c.in-Some.least) met.0 ∙ rows_nearest far c.args.rows.now c.args.groups c.requires _ _ found c.in-Some.least _ c.in-Some.ensures
+
+pub returns-in-None : goal.returns-in-None
+returns-in-None c =
+    let far : ℕ → ℕ = wrapped c.args.point.now c.args.handsets.now in
+    let all : min c.args.groups 512 ≡ c.args.groups = omega (arith, c.requires.few) in
+    let found = rw all at c.find_members.ensures in
+    absurd (not_unmet far c.args.rows.now c.args.groups c.requires _ _ found c.in-Some.least _ c.in-Some.ensures (rw all at c.in-None.ensures))
