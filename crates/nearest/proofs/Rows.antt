@@ -18,7 +18,7 @@ use lib.Dec.{T, eqb, leb, eqb→eq}
 use lib.IntN.{ℤ}
 use lib.ListN.{length, get_or, take, drop}
 use borrow.Author.Tests.{le-leb}
-use Rattle.std.specs.Prelude.{Some}
+use Rattle.std.specs.Prelude.{Some, None}
 use Rattle.sets.specs.Below.{any, bit, find}
 use Rattle.sets.specs.Bits.{bit_at}
 use Rattle.sets.proofs.Tests.{T_true, decide, any_make, any_take, not_any, and_make, and_left, and_right, eqb_of, find_law}

@@ -13,12 +13,12 @@ returns-in_default c =
     let found = rw all at c.find_members.ensures in
     no_rows far c.args.rows.now c.args.groups (none_seen far c.args.rows.now c.args.groups c.requires _ _ found c.in_default.ensures.standing)
 
-pub returns-in-Some-group : goal.returns-in-Some-group
-returns-in-Some-group c =
+pub returns-in-Some-first_meeting : goal.returns-in-Some-first_meeting
+returns-in-Some-first_meeting c =
     let far : ℕ → ℕ = wrapped c.args.point.now c.args.handsets.now in
     let all : min c.args.groups 512 ≡ c.args.groups = omega (arith, c.requires.few) in
     let found = rw all at c.find_members.ensures in
-    let met = met_some _ _ _ (rw all at c.in-Some-group.ensures) in
+    let met = met_some _ _ _ (rw all at c.in-Some-first_meeting.ensures) in
     ap (λ (g : ℕ). Group g c.in-Some.least) met.0 ∙ rows_nearest far c.args.rows.now c.args.groups c.requires _ _ found c.in-Some.least _ c.in-Some.ensures
 
 pub returns-in-None : goal.returns-in-None
