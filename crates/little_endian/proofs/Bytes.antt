@@ -2,7 +2,6 @@
 --
 --     le_cong, number_cong       equal bytes make equal numbers
 --     number_le                  a number whose bytes are all there
---     number_none                a number whose bytes are not all there, by a test that says so
 --     number_slice               a number in a slice of a list
 --     number_drop                a number at a place, by what stands from there on
 use Prim.Native.Nat.{ℕ, zero, suc, ◌+◌, ◌*◌, ◌≤◌, ◌<◌}
@@ -32,11 +31,6 @@ le_cong (suc w) s t a b e =
 pub number_le : (w : ℕ) (s : List ℕ) (at : ℕ) → at + w ≤ length s → number w s at ≡ le w s at
 unfolding number
 number_le w s at h = ap (λ (b : Bool). cond b (le w s at) 0) (T_true (leb (at + w) (length s)) (le→leb (at + w) (length s) h))
-
--- by a test that says that they are not
-pub number_none : (w : ℕ) (s : List ℕ) (at : ℕ) {b : Bool} (e : b ≡ leb (at + w) (length s)) → b ≡ false → number w s at ≡ 0
-unfolding number
-number_none w s at e f = ap (λ (x : Bool). cond x (le w s at) 0) (sym e ∙ f)
 
 -- the same bytes at two places of two lists that both have them
 pub number_cong : (w : ℕ) (s t : List ℕ) (a b : ℕ) → a + w ≤ length s → b + w ≤ length t

@@ -1,15 +1,13 @@
--- `near::ends_at` meets its contract: a whole record has the ends of its edge, the records from a cut-off one on begin with those of its ends that are there, and
--- past that there is none.
-use Rattle.std.proofs.Common.{◌∙◌, arith}
-use Rattle.image.proofs.Records.{ends_slice}
-use Rattle.near.proofs.Edges.{ends_rest, ends_none}
+-- `near::ends_at` meets its contract: what stands from the edge's record on begins with those of its ends that are there.
+use Rattle.std.proofs.Common.{◌≡◌, ◌*◌, ◌-◌, ◌^◌, drop, ap, ◌∙◌, arith}
+use Rattle.std.proofs.lemmas.Grind.{common_steps}
+use Rattle.fields.specs.Fields.{edge_bytes, ends_of}
+use Rattle.near.proofs.Edges.{drop_capped, ends_rest}
 use Rattle.near.proofs.ends_at.Goals as goal
 
-pub returns-then-k-whole : goal.returns-then-k-whole
-returns-then-k-whole c = c.read_ends.ensures ∙ ends_slice c.args.edges.now c.args.k (omega (arith, c.if-k-whole.true))
-
-pub returns-then-whole-k : goal.returns-then-whole-k
-returns-then-whole-k c = ends_none c.args.edges.now c.args.k c.if-whole-k.true
-
 pub returns : goal.returns
-returns c = c.read_ends-2.ensures ∙ ends_rest c.args.edges.now c.args.k
+returns c =
+    let rest : c.unwrap_or.result.now ≡ drop c.saturating_mul-at.result c.args.edges.now = grind (arith, common_steps) in
+    c.read_ends.ensures
+    ∙ ap ends_of (rest ∙ drop_capped c.args.edges.now (edge_bytes * c.args.k) (2 ^ 64 - 1) c.saturating_mul-at.result (omega arith) (omega (arith, c.saturating_mul-at.ensures)))
+    ∙ ends_rest c.args.edges.now c.args.k

@@ -3,7 +3,7 @@ use Rattle.std.proofs.Common.{◌≡◌, ℕ, ◌+◌, ◌-◌, ◌%◌, ◌^◌
 use Rattle.sets.specs.Below.{sum}
 use Rattle.sets.proofs.Tests.{T_true, T-ext, and_make, and_left, and_right}
 use Rattle.fields.specs.Fields.{coordinate_count, coordinate_of}
-use Rattle.image.specs.Image.{gap_squared, distance_between}
+use Rattle.image.specs.Image.{distance_between}
 use Rattle.near.specs.Near.{proximity_of, proximity_answer}
 use Rattle.near.proofs.proximity_of.Invariants.{Left}
 use Rattle.near.proofs.proximity_of.Goals as goal
@@ -12,14 +12,14 @@ left_none : (limit : ℕ) → Left 0 limit true limit
 left_none limit = record { answer = sym (T_true (leb 0 limit) (le→leb 0 limit (omega arith))); rest = λ t. omega arith }
 
 -- d is the square that the code has, x the definition's
-left-more : (total limit room d x next : ℕ) (fits : Bool) → Left total limit fits room → d ≡ x → d < 2 ^ 64 → next < 2 ^ 64 → (next + d) % 2 ^ 64 ≡ room
-    → Left (x + total) limit (fits && leb d room) next
-left-more total limit room d x next fits l h hd hn e = record {
+left-more : (total limit room d x : ℕ) (fits : Bool) → Left total limit fits room → d ≡ x → d < 2 ^ 64 → room < 2 ^ 64
+    → Left (x + total) limit (fits && leb d room) ((room + (2 ^ 64 - d)) % 2 ^ 64)
+left-more total limit room d x fits l h hd hr = record {
   answer = T-ext (fits && leb d room) (leb (x + total) limit)
       (λ t. le→leb (x + total) limit (omega (arith, l.rest (and_left fits (leb d room) t), leb→le d room (and_right fits (leb d room) t))))
       (λ t. let f : T fits = subst T (sym l.answer) (le→leb total limit (omega (arith, leb→le (x + total) limit t))) in
       and_make fits (leb d room) f (le→leb d room (omega (arith, l.rest f, leb→le (x + total) limit t))));
-  rest = λ t. omega (arith, l.rest (and_left fits (leb d room) t), leb→le d room (and_right fits (leb d room) t), e);
+  rest = λ t. omega (arith, l.rest (and_left fits (leb d room) t), leb→le d room (and_right fits (leb d room) t));
 }
 
 left_near : (a b : List ℕ) (limit room : ℕ) (fits : Bool) → Left (distance_between a b) limit fits room → fits ≡ true → Some (limit - room) ≡ proximity_of a b limit
@@ -34,20 +34,25 @@ left_far a b limit room fits l e = ap (λ (t : Bool). cond t (Some (distance_bet
 
 pub loop-i-init : goal.loop-i-init
 unfolding sum
-loop-i-init c = (omega arith, left_none _)
+loop-i-init c = left_none _
 
 pub loop-i-preserved : goal.loop-i-preserved
 unfolding coordinate_of sum
-loop-i-preserved c = (omega arith, rw (add-one c.loop-i.i) (left-more _ _ c.loop-i.room _ _ _ c.loop-i.fits c.loop-i.invariant.1 c.squared_gap_at-d.ensures c.squared_gap_at-d.type_inv c.wrapping_sub_u64-room.type_inv c.wrapping_sub_u64-room.ensures.value))
+loop-i-preserved c =
+    rw (add-one c.loop-i.i)
+    (left-more _ _ c.loop-i.room _ _ c.loop-i.fits c.loop-i.invariant c.squared_gap_at-square.ensures c.squared_gap_at-square.type_inv (omega arith))
 
 pub returns-then-fits : goal.returns-then-fits
 unfolding distance_between
 returns-then-fits c =
-    ap proximity_answer (left_near _ _ _ _ _ (let it : (Left (distance_between c.args.a.now c.args.b.now) c.args.limit c.loop-i.fits c.loop-i.room) = let e : c.loop-i.i ≡ coordinate_count = omega (arith, c.loop-i.invariant.0, c.loop-i-test.false) in
-    subst (λ (n : ℕ). Left (sum n (gap_squared (coordinate_of c.args.a.now) (coordinate_of c.args.b.now))) c.args.limit c.loop-i.fits c.loop-i.room) e c.loop-i.invariant.1 in it) c.if-fits.true)
+    let e : c.loop-i.i ≡ coordinate_count = omega arith in
+    ap proximity_answer (left_near _ _ _ _ _ (rw e at c.loop-i.invariant) c.if-fits.true)
 
 pub returns-else-fits : goal.returns-else-fits
 unfolding distance_between
 returns-else-fits c =
-    ap proximity_answer (left_far _ _ _ _ _ (let it : (Left (distance_between c.args.a.now c.args.b.now) c.args.limit c.loop-i.fits c.loop-i.room) = let e : c.loop-i.i ≡ coordinate_count = omega (arith, c.loop-i.invariant.0, c.loop-i-test.false) in
-    subst (λ (n : ℕ). Left (sum n (gap_squared (coordinate_of c.args.a.now) (coordinate_of c.args.b.now))) c.args.limit c.loop-i.fits c.loop-i.room) e c.loop-i.invariant.1 in it) c.if-fits.false)
+    let e : c.loop-i.i ≡ coordinate_count = omega arith in
+    ap proximity_answer (left_far _ _ _ _ _ (rw e at c.loop-i.invariant) c.if-fits.false)
+
+pub overflow_sub-result : goal.overflow_sub-result
+overflow_sub-result c = omega (arith, c.loop-i.invariant.rest (subst T (sym c.if-fits.true) tt))
