@@ -40,7 +40,7 @@ pub fn lengths_fit(x: Parameters, coordinates: usize, ends: usize) -> bool
 fn word(x: i32) -> u64
     ensures { result ≡ word32 x }
 {
-    (points::raise(x) as u64 + 2147483648) % 4294967296
+    points::raise(x).wrapping_add(fields::RAISE) as u64
 }
 
 // Writes the counts of handsets and edges, where their records begin, and the length of the image: the first half of the header.
@@ -72,11 +72,9 @@ fn put_coordinates(s: &mut [u8], coordinates: &[i32])
     requires { header_bytes + coordinate_bytes * length coordinates.now ≤ length s.old }
     ensures { s.new ≡ sets s.old header_bytes (handset_table coordinates.now) }
 {
-    let mut i: usize = 0;
-    while i < coordinates.len() {
+    for (i, x) in coordinates.iter().enumerate() {
         let at = fields::HEADER_BYTES + fields::COORDINATE_BYTES * i;
-        little_endian::write(s, at, fields::COORDINATE_BYTES, word(coordinates[i]));
-        i += 1;
+        little_endian::write(s, at, fields::COORDINATE_BYTES, word(*x));
     }
 }
 
@@ -85,11 +83,9 @@ fn put_ends(s: &mut [u8], from: u32, ends: &[u16])
     requires { from + end_bytes * length ends.now ≤ length s.old }
     ensures { s.new ≡ sets s.old from (edge_table ends.now) }
 {
-    let mut i: usize = 0;
-    while i < ends.len() {
+    for (i, v) in ends.iter().enumerate() {
         let at = from as usize + fields::END_BYTES * i;
-        little_endian::write(s, at, fields::END_BYTES, ends[i] as u64);
-        i += 1;
+        little_endian::write(s, at, fields::END_BYTES, *v as u64);
     }
 }
 

@@ -13,7 +13,7 @@ ghost use Rattle.points.specs.Points.{point_in_limits, distance_from};
 pub fn raise(x: i32) -> u32
     ensures { result ≡ raised x }
 {
-    (x as i64 + 2147483648) as u32
+    (x as i64 + fields::RAISE as i64) as u32
 }
 
 // Question 17: whether every coordinate of a point is within the limits.
@@ -36,12 +36,10 @@ pub fn distance_to(point: &[u32; fields::COORDINATES], handsets: &[u8], v: u16) 
     ensures { result ≡ distance_from point.now (handset_record handsets.now v) % 2 ^ 64 }
 {
     let at = fields::HANDSET_BYTES * (v as usize);
-    let mut total: u64 = 0;
-    let mut i: usize = 0;
-    while i < fields::COORDINATES {
+    let mut total = 0_u64;
+    for (i, x) in point.iter().enumerate() {
         let coordinate = fields::coordinate(handsets, at + fields::COORDINATE_BYTES * i);
-        total = std::num::wrapping_add_u64(total, fields::squared_gap(point[i], coordinate));
-        i += 1;
+        total = total.wrapping_add(fields::squared_gap(*x, coordinate));
     }
     total
 }

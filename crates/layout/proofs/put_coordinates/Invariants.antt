@@ -1,5 +1,5 @@
--- `layout::put_coordinates` meets its contract. After i steps the first i coordinates are written. The measure is the count of those left.
-use Prim.Native.Nat.{◌+◌, ◌*◌, ◌-◌, ◌≤◌}
+-- `layout::put_coordinates` meets its contract. After i steps the first i coordinates are written.
+use Prim.Native.Nat.{◌+◌, ◌*◌, ◌≤◌}
 use mathlib.Core.Path.{◌≡◌}
 use mathlib.Core.List.{map}
 use lib.ListN.{length, take}
@@ -10,7 +10,4 @@ use Rattle.layout.specs.Layout.{word32}
 use Rattle.layout.proofs.put_coordinates.Given as goal
 
 abbrev pub invariant-loop-i : goal.invariant-loop-i
-invariant-loop-i l = (l.i ≤ length l.coordinates) × (header_bytes + coordinate_bytes * length l.coordinates ≤ length l.initial.s) × (l.s ≡ sets l.initial.s header_bytes (table_bytes coordinate_bytes (take l.i (map word32 l.coordinates))))
-
-abbrev pub decreases-loop-i : goal.decreases-loop-i
-decreases-loop-i l = length l.coordinates - l.i
+invariant-loop-i l = (header_bytes + coordinate_bytes * length l.coordinates ≤ length l.initial.s) × (l.s ≡ sets l.initial.s header_bytes (table_bytes coordinate_bytes (take l.i (map word32 l.coordinates))))

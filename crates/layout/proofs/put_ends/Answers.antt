@@ -6,9 +6,9 @@ use Rattle.fields.specs.Fields.{end_bytes}
 use Rattle.layout.proofs.put_ends.Goals as goal
 
 pub loop-i-init : goal.loop-i-init
-loop-i-init c = (omega arith, c.requires, table_none end_bytes c.args.s.now c.args.from c.args.ends.now)
+loop-i-init c = (c.requires, table_none end_bytes c.args.s.now c.args.from c.args.ends.now)
 
 pub loop-i-preserved : goal.loop-i-preserved
 loop-i-preserved c =
     rw (add-one c.loop-i.i)
-    (omega arith, c.loop-i.invariant.1, table_more end_bytes c.args.s.now c.args.from c.args.ends.now c.loop-i.i _ _ _ c.loop-i.invariant.1 (omega arith) refl c.loop-i.invariant.2 c.write.ensures)
+    (c.loop-i.invariant.0, table_more end_bytes c.args.s.now c.args.from c.args.ends.now c.loop-i.i _ _ _ c.loop-i.invariant.0 (omega arith) refl c.loop-i.invariant.1 c.write.ensures)

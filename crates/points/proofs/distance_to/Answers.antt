@@ -15,24 +15,24 @@ coordinate_at records v i h =
     ap shifted (sym (number_slice coordinate_bytes records (handset_bytes * v) handset_bytes (coordinate_bytes * i) (omega arith) (omega arith)))
 
 -- one square more
-wrap-more : (total r d x y : ℕ) → total ≡ x % 2 ^ 64 → d ≡ y → r ≡ (total + d) % 2 ^ 64 → r ≡ (y + x) % 2 ^ 64
-wrap-more total r d x y p q e = omega arith
+wrap-more : (total d x y : ℕ) → total ≡ x % 2 ^ 64 → d ≡ y → (total + d) % 2 ^ 64 ≡ (y + x) % 2 ^ 64
+wrap-more total d x y p q = omega arith
 
 pub loop-i-init : goal.loop-i-init
 unfolding sum
-loop-i-init c = (omega arith, refl)
+loop-i-init c = refl
 
 pub loop-i-preserved : goal.loop-i-preserved
 unfolding sum
-loop-i-preserved c = (
-  omega arith,
-  rw (add-one c.loop-i.i) (wrap-more c.loop-i.total c.wrapping_add_u64-total.result c.squared_gap.result _ _ c.loop-i.invariant.1 (let it : c.squared_gap.result ≡ (squares c.args.point.now c.args.handsets.now c.args.v) c.loop-i.i = let x : ℕ = get_or c.args.point.now c.loop-i.i 0 in
-      c.squared_gap.ensures
-      ∙ ap (λ (y : ℕ). gap x y * gap x y) (c.coordinate-coordinate.ensures ∙ coordinate_at c.args.handsets.now c.args.v c.loop-i.i (omega (arith, c.loop-i-test.true))) in it) c.wrapping_add_u64-total.ensures.value),
-)
+loop-i-preserved c =
+    let square : c.squared_gap-total.result ≡ squares c.args.point.now c.args.handsets.now c.args.v c.loop-i.i =
+    c.squared_gap-total.ensures
+    ∙ ap (λ (y : ℕ). let x : ℕ = get_or c.args.point.now c.loop-i.i 0 in gap x y * gap x y)
+    (c.coordinate-coordinate.ensures ∙ coordinate_at c.args.handsets.now c.args.v c.loop-i.i (omega arith)) in
+    rw (add-one c.loop-i.i) (wrap-more c.loop-i.total _ _ _ c.loop-i.invariant square)
 
 pub returns : goal.returns
 unfolding distance_from
 returns c =
-    let e : c.loop-i.i ≡ coordinate_count = omega (arith, c.loop-i.invariant.0, c.loop-i-test.false) in
-    c.loop-i.invariant.1 ∙ ap (λ (n : ℕ). sum n (squares c.args.point.now c.args.handsets.now c.args.v) % 2 ^ 64) e
+    let e : c.loop-i.i ≡ coordinate_count = omega arith in
+    c.loop-i.invariant ∙ ap (λ (n : ℕ). sum n (squares c.args.point.now c.args.handsets.now c.args.v) % 2 ^ 64) e

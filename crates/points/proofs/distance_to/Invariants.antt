@@ -1,8 +1,7 @@
--- `points::distance_to` meets its contract. At i the total is the sum of the first i squares, as 64 bits hold it. The measure is what is left of the
--- coordinates.
-use Rattle.std.proofs.Common.{◌≡◌, ℕ, ◌-◌, ◌%◌, ◌^◌, ◌≤◌, List, get_or}
+-- `points::distance_to` meets its contract. At i the total is the sum of the first i squares, as 64 bits hold it.
+use Rattle.std.proofs.Common.{◌≡◌, ℕ, ◌%◌, ◌^◌, List, get_or}
 use Rattle.sets.specs.Below.{sum}
-use Rattle.fields.specs.Fields.{coordinate_count, coordinate_of}
+use Rattle.fields.specs.Fields.{coordinate_of}
 use Rattle.image.specs.Image.{handset_record, gap_squared}
 use Rattle.points.proofs.distance_to.Given as goal
 
@@ -11,7 +10,4 @@ abbrev pub squares : List ℕ → List ℕ → ℕ → ℕ → ℕ
 squares point handsets v = gap_squared (λ i. get_or point i 0) (coordinate_of (handset_record handsets v))
 
 abbrev pub invariant-loop-i : goal.invariant-loop-i
-invariant-loop-i l = (l.i ≤ coordinate_count) × (l.total ≡ sum l.i (squares l.point l.handsets l.v) % 2 ^ 64)
-
-abbrev pub decreases-loop-i : goal.decreases-loop-i
-decreases-loop-i l = coordinate_count - l.i
+invariant-loop-i l = l.total ≡ sum l.i (squares l.point l.handsets l.v) % 2 ^ 64
