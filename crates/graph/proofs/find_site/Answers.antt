@@ -9,4 +9,4 @@ pub find_groups-requires : goal.find_groups-requires
 find_groups-requires c = drawn_after c.open_neighbours-opened.ensures
 
 pub returns : goal.returns
-returns c = site_found c.open_neighbours-opened.ensures (omega arith) c.find_groups.ensures (holds_after c.open_neighbours-opened.ensures) (λ x e. refl)
+returns c = site_found c.open_neighbours-opened.ensures (omega arith, omega arith) c.find_groups.ensures (holds_after c.open_neighbours-opened.ensures) (λ x e. refl)

@@ -1,6 +1,5 @@
 -- `graph::open_neighbours` meets its contract: the edges dropped are just those whose ends are not near, so the table of all edges becomes that of the
 -- neighbour relation.
-use native.Mathlib.Omega.{arith}
 use mathlib.Core.Path.{refl}
 use Rattle.graph.proofs.GraphLaws.{told_yes, read_yes, neighbours_kept}
 use Rattle.graph.proofs.open_neighbours.Goals as goal
@@ -15,6 +14,6 @@ pub returns : goal.returns
 returns c =
     let a = told_yes c.open_rows-opened.ensures c.in-Ok.h c.in-Ok.is in
     let o = c.of_image-records.ensures in
-    read_yes c.open_rows-opened.ensures c.in-Ok.h c.in-Ok.is (omega arith, omega arith)
+    read_yes c.open_rows-opened.ensures c.in-Ok.h c.in-Ok.is
     (neighbours_kept c.args.image.now c.in-Ok.h a.0 a.1 (c.open_rows-opened.ensures.held.table c.in-Ok.h c.in-Ok.is)
     (rw (o.handsets, o.edges, o.header) at c.drop_far.ensures.kept) (rw (o.handsets, o.edges, o.header) at c.drop_far.ensures.dropped) c.drop_far.ensures.counted)

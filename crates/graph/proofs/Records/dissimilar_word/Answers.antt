@@ -15,7 +15,7 @@ loop-k-init c = ((tt, tt), filtering_start _ _ (cc), (cc))
 pub overflow_add-base : goal.overflow_add-base
 overflow_add-base c =
     let s = ones_step _ _ _ c.in-Some.ensures.steps in
-    omega (arith, c.requires.1 _ (word_in_at _ _ _ (filtering_bit _ _ s c.loop-k.invariant.1)), c.args.self.now.edges_most)
+    omega (arith, c.requires.1 _ (word_in_at _ _ _ (filtering_bit _ _ s c.loop-k.invariant.1)), c.args.self.now.few_edges)
 
 pub is_similar-similar-requires : goal.is_similar-similar-requires
 is_similar-similar-requires c =

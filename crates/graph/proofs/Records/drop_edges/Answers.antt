@@ -6,7 +6,7 @@ use Rattle.graph.proofs.Records.drop_edges.Goals as goal
 pub overflow_add-base : goal.overflow_add-base
 overflow_add-base c =
     let s = ones_step _ _ _ c.in-Some.ensures.steps in
-    omega (arith, c.requires.1 _ (dropping_bit _ _ _ _ s c.loop-k.invariant.1), c.args.self.now.edges_most)
+    omega (arith, c.requires.1 _ (dropping_bit _ _ _ _ s c.loop-k.invariant.1), c.args.self.now.few_edges)
 
 pub ends_at-e-requires : goal.ends_at-e-requires
 ends_at-e-requires c = let s = ones_step _ _ _ c.in-Some.ensures.steps in c.requires.1 _ (dropping_bit _ _ _ _ s c.loop-k.invariant.1)

@@ -27,7 +27,7 @@ pub loop-j-preserved : goal.loop-j-preserved
 loop-j-preserved c =
     let m : ℕ = c.args.self.now.h.m in
     let b : ℕ = 64 * c.loop-j.j in
-    let low : c.loop-j.j < 64 = omega (arith, c.args.self.now.edges_most) in
+    let low : c.loop-j.j < 64 = omega arith in
     let f : ℕ → Bool = passes_near c.args.self.now.handsets.now c.args.self.now.edges.now c.args.self.now.h.limit in (
       filled_more c.loop-j.near c.near_word-word.result (λ k. ltb k m && f k) c.loop-j.j low (passing b m _ _ f c.min-count.ensures c.near_word-word.ensures) c.loop-j.invariant.0,
       dropped_word _ c.loop-j.j (λ k. ltb k m && not (f k)) (failing_lt b m _ _ f c.min-count.ensures c.near_word-word.ensures (omega arith))

@@ -7,7 +7,7 @@ use lib.ListN.{get_or}
 use Rattle.sets.specs.Bits.{bit_at}
 use Rattle.sets.proofs.Tests.{and_left}
 use Rattle.graph.specs.ForProofs.{both_within}
-use Rattle.graph.proofs.Words.{partly_start, partly_word, partly_other, partly_on}
+use Rattle.graph.proofs.Words.{partly_start, partly_word, partly_other, partly_on, partly_end}
 use Rattle.graph.proofs.Edges.{word_passes, dropped_start, dropped_word}
 use Rattle.graph.proofs.Records.drop_outside.Goals as goal
 
@@ -41,3 +41,6 @@ loop-j-preserved c =
           (partly_other c.args.near.now f c.loop-j.j low c.loop-j.invariant.0 c.within_word-inside.ensures) c.loop-j.invariant.1 c.drop_edges.ensures.dropped,
       c.drop_edges.ensures.counted,
     )
+
+pub returns-clause-kept : goal.returns-clause-kept
+returns-clause-kept c = partly_end c.args.near.now (both_within c.args.within.now c.args.self.now.edges.now) c.args.self.now.h.m c.loop-j.j (omega arith) c.requires.1 c.loop-j.invariant.0

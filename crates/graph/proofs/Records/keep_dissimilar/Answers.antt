@@ -1,15 +1,16 @@
 use Prim.Native.Nat.{ℕ, ◌*◌, ◌<◌, ◌^◌}
 use native.Mathlib.Omega.{arith}
-use mathlib.Core.Path.{refl}
+use mathlib.Core.Path.{refl, ◌∙◌}
 use mathlib.Core.Bool.{Bool, not}
 use lib.Dec.{eqb, eqb→eq}
 use lib.ListN.{get_or}
 use Rattle.sets.specs.Below.{sum}
 use Rattle.sets.specs.Bits.{bit_at}
 use Rattle.sets.proofs.Bits.{bit_at_lt}
+use Rattle.limits.specs.Limits.{edges_most}
 use Rattle.graph.specs.ForProofs.{enough_at}
-use Rattle.graph.proofs.Words.{partly_start, partly_word, partly_on}
-use Rattle.graph.proofs.Counts.{bits_most, partly_sum}
+use Rattle.graph.proofs.Words.{partly_start, partly_word, partly_on, partly_end}
+use Rattle.graph.proofs.Counts.{bits_most, partly_sum, sum_set}
 use Rattle.graph.proofs.Edges.{word_passes}
 use Rattle.graph.proofs.Records.keep_dissimilar.Goals as goal
 
@@ -34,3 +35,11 @@ loop-j-preserved c =
       partly_on c.args.set.now f c.loop-j.j c.dissimilar_word.result low c.loop-j.invariant.0 c.dissimilar_word.ensures.sifted,
       omega (arith, c.loop-j.invariant.1, c.dissimilar_word.ensures.counted, partly_sum c.args.set.now f c.loop-j.j low fits c.loop-j.invariant.0),
     )
+
+pub returns : goal.returns
+returns c = record {
+  kept =
+      partly_end c.args.set.now (λ k. not (enough_at c.args.table.now c.args.sizes.now c.args.self.now.h.p c.args.self.now.h.q c.args.self.now.edges.now k)) c.args.self.now.h.m c.loop-j.j
+      (omega arith) c.requires.1 c.loop-j.invariant.0;
+  counted = c.loop-j.invariant.1 ∙ sum_set c.args.set.now c.args.self.now.h.m (c.loop-j.j * 64) edges_most (omega arith) (omega arith) c.requires.1;
+}

@@ -9,9 +9,9 @@ invariant_of-result c =
     let r = header_is c.args.image.now c.args.h c.requires.0 c.requires.1 in
     let l = handset_slice_length c.args.image.now c.args.h c.requires.0 c.requires.1 in
     record {
-      handsets_most = omega (arith, l, r.n_is, r.fits.n_limit);
-      edges_most = r.fits.m_limit;
-      whole = λ k h. edges_ready c.args.image.now c.args.h c.requires.0 c.requires.1 _ k (omega (arith, l)) h;
+      few_handsets = omega (arith, l, r.n_is, r.fits.n_limit);
+      few_edges = r.fits.m_limit;
+      whole_edges = λ k h. edges_ready c.args.image.now c.args.h c.requires.0 c.requires.1 _ k (omega (arith, l)) h;
     }
 
 pub returns-clause-handsets : goal.returns-clause-handsets
