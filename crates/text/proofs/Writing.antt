@@ -1,5 +1,7 @@
 -- How writes follow one another, and how the texts that a loop writes grow by one step.
 --
+--     from_start, chain_from       so from a buffer and a position that are known by an equation
+--     copied                       bytes copied as far as the buffer reaches
 --     chain                        a write after a write is one write; then: the same of a text
 --     still                        nothing more is written
 --     written                      what a text from the front of a buffer leaves in it
@@ -7,15 +9,16 @@
 --     numbers_one                  the numbers of a table, one more
 --     numbers_more                 the numbers of a list, each changed, one more
 --     members_yes, members_no      the members of a set below a bound, one bound more
-use Prim.Native.Nat.{ℕ, ◌+◌, ◌≤◌, ◌<◌, min}
-use mathlib.Core.Path.{◌≡◌, refl, sym, ap, ap₂, ◌∙◌}
+use Prim.Native.Nat.{ℕ, ◌+◌, ◌-◌, ◌≤◌, ◌<◌, min}
+use mathlib.Core.Path.{◌≡◌, refl, sym, ap, ap₂, ◌∙◌, subst₂}
 use mathlib.Core.Bool.{Bool, not}
 use mathlib.Core.List.{List, [], ◌∷◌, ◌++◌, map, append_assoc, append-nil}
 use native.Mathlib.Omega.{arith}
 use native.Mathlib.Decide.{dec_lt}
 use native.Mathlib.Numerals.{add-one}
-use lib.ListN.{length, get_or, length-append, take}
-use lib.Seq.{sets, length-sets, take-suc}
+use lib.ListN.{length, get_or, length-append, take, drop, drop_of_length-le}
+use lib.Seq.{sets, sets-eq, length-sets, take-suc, drop-drop}
+use Rattle.std.proofs.lemmas.List.{take-append-drop, length-take-le}
 use lib.Dec.{T}
 use Rattle.sets.specs.Below.{select}
 use Rattle.sets.proofs.Selecting.{select_yes, select_no, map_append}
@@ -40,6 +43,37 @@ chain {l} {l₁} {l₂} {at} {r₁} {r₂} {vs} {ws} h p q = record {
       ∙ sym (sets_append l at vs ws);
   next = omega (arith, length-append vs ws, p.next, q.next);
 }
+
+-- a write from a buffer and a position that are known by an equation
+pub from_start : {l l₁ l₂ : List ℕ} {at r₁ r₂ : ℕ} {vs : List ℕ} → l₁ ≡ l → r₁ ≡ at → Wrote l₁ r₁ vs l₂ r₂ → Wrote l at vs l₂ r₂
+from_start {l₂ = l₂} {r₂ = r₂} {vs} e d w = subst₂ (λ (m : List ℕ) (k : ℕ). Wrote m k vs l₂ r₂) e d w
+
+pub chain_from : {l l₁ l₂ m : List ℕ} {at r₁ r₂ k : ℕ} {vs ws : List ℕ} → length l ≤ 9223372036854775808 → m ≡ l₁ → k ≡ r₁
+    → Wrote l at vs l₁ r₁ → Wrote m k ws l₂ r₂ → Wrote l at (vs ++ ws) l₂ r₂
+chain_from h e d p q = chain h p (from_start e d q)
+
+-- bytes copied as far as the buffer reaches are the bytes stored
+pub copied : (l vs : List ℕ) (p i n k : ℕ) → i ≡ min p (length l) → n ≡ min (length vs) (length l - i) → k ≡ n
+    → sets l p vs ≡ take i l ++ (take n vs ++ drop k (drop i l))
+copied l vs p i n k e d same =
+    from (dec_lt p (length l))
+    ∙ ap (sets l i) (sym (take-append-drop n vs))
+    ∙ sets_append l i (take n vs) (drop n vs)
+    ∙ rest (dec_lt n (length vs))
+    ∙ sets-eq (take n vs) l i (omega (arith, long))
+    ∙ append_assoc (take i l) (take n vs) (drop (i + length (take n vs)) l)
+    ∙ ap (λ (x : List ℕ). take i l ++ (take n vs ++ x)) (ap (λ (j : ℕ). drop (i + j) l) (long ∙ sym same) ∙ sym (drop-drop k i l))
+  where
+    long : length (take n vs) ≡ n
+    long = length-take-le n vs (omega arith)
+
+    from : Dec (p < length l) → sets l p vs ≡ sets l i vs
+    from (yes h) = ap (λ (k : ℕ). sets l k vs) (omega arith)
+    from (no h) = sets_out l p vs (omega arith) ∙ sym (sets_out l i vs (omega arith))
+
+    rest : Dec (n < length vs) → sets (sets l i (take n vs)) (i + length (take n vs)) (drop n vs) ≡ sets l i (take n vs)
+    rest (yes h) = sets_out (sets l i (take n vs)) (i + length (take n vs)) (drop n vs) (omega (arith, long, length-sets l i (take n vs)))
+    rest (no h) = ap (sets (sets l i (take n vs)) (i + length (take n vs))) (drop_of_length-le vs {i = n} (omega arith))
 
 -- the same of a text
 pub then : {s t u : Text} {vs ws : List ℕ} → Writes s vs t → Writes t ws u → Writes s (vs ++ ws) u
