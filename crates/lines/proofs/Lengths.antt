@@ -18,8 +18,7 @@ use Rattle.community.specs.Tables.{member_table}
 use Rattle.rows.specs.Rows.{row_members, rows_of, row_in}
 use Rattle.rows.proofs.Rows.{row_in_lem}
 use Rattle.rows.proofs.Listing.{members_length}
-use Rattle.scores.specs.declared.Score.{Score}
-use Rattle.scores.specs.declared.Score.TheVariants.{Ratio, Nothing}
+use Rattle.scores.specs.declared.Ratio.{Ratio}
 use Rattle.scores.specs.declared.Scores.{Scores}
 use Rattle.scores.specs.Scored.{scores_for}
 use Rattle.text.specs.Text.{bytes, decimal, numbers, elements_of}
@@ -61,10 +60,16 @@ totals_most t =
       labelled_most (bytes " multiple ") t.multiple newline,
     )
 
-score_most : (c : Score) → length (score_text c) ≤ 41
+score_most : (c : Option Ratio) → length (score_text c) ≤ 41
 unfolding score_text
-score_most (Ratio a b) = omega (arith, length-append (decimal a) (bytes "/" ++ decimal b), length-append (bytes "/") (decimal b), decimal_most a, decimal_most b)
-score_most Nothing = omega arith
+score_most (Some q) = omega (
+  arith,
+  length-append (decimal q.numerator) (bytes "/" ++ decimal q.denominator),
+  length-append (bytes "/") (decimal q.denominator),
+  decimal_most q.numerator,
+  decimal_most q.denominator,
+)
+score_most None = omega arith
 
 reach_most : (r : Option ℕ) → length (reach_text r) ≤ 20
 unfolding reach_text

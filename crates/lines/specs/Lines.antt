@@ -17,8 +17,7 @@
 use Rattle.std.specs.Prelude.{ℕ, zero, suc, ◌+◌, min, List, [], ◌++◌, length, get_or, None, Option, Some}
 use Rattle.image.specs.declared.Refusal.{Refusal}
 use Rattle.rows.specs.Rows.{row_in}
-use Rattle.scores.specs.declared.Score.{Score}
-use Rattle.scores.specs.declared.Score.TheVariants.{Ratio, Nothing}
+use Rattle.scores.specs.declared.Ratio.{Ratio}
 use Rattle.scores.specs.declared.Scores.{Scores}
 use Rattle.scores.specs.declared.Tally.{Tally}
 use Rattle.scores.specs.Scored.{pairs_of, scores_for}
@@ -37,9 +36,9 @@ head_line h =
     bytes "handsets " ++ (decimal h.handsets ++ (bytes " ties " ++ (decimal h.ties
     ++ (bytes " groups " ++ (decimal h.counts.groups ++ (bytes " memberships " ++ (decimal h.counts.memberships ++ newline)))))))
 
-unfoldable pub score_text : Score → List ℕ
-score_text (Ratio a b) = decimal a ++ (bytes "/" ++ decimal b)
-score_text Nothing = bytes "-"
+unfoldable pub score_text : Option Ratio → List ℕ
+score_text (Some q) = decimal q.numerator ++ (bytes "/" ++ decimal q.denominator)
+score_text None = bytes "-"
 
 unfoldable pub scores_text : ℕ → Scores → List ℕ
 scores_text k c = bytes "group " ++ (decimal k ++ (bytes " density " ++ (score_text c.density ++ (bytes " conductance " ++ score_text c.conductance))))

@@ -12,7 +12,7 @@ ghost use Rattle.lines.specs.ForProofs.{fields_line};
 
 use image::Refusal;
 use rows::Counts;
-use scores::{Score, Tally};
+use scores::{Ratio, Tally};
 use text::Text;
 use totals::Totals;
 
@@ -87,15 +87,15 @@ fn put_totals(text: &mut Text<'_>, totals: Totals)
 }
 
 // Writes a score: two numbers with a slash between, or a hyphen where there is none.
-fn put_score(text: &mut Text<'_>, score: Score)
+fn put_score(text: &mut Text<'_>, score: Option<Ratio>)
     ensures { Writes text.old (score_text score) text.new }
 {
     match score {
-        Score::Ratio(a, b) => {
-            text.put_decimal(a);
-            put_labelled(text, b"/", b);
+        Some(ratio) => {
+            text.put_decimal(ratio.numerator);
+            put_labelled(text, b"/", ratio.denominator);
         }
-        Score::Nothing => text.put(b'-'),
+        None => text.put(b'-'),
     }
 }
 

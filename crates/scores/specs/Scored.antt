@@ -9,13 +9,12 @@
 --     scored_of s l           the same with the scores for the tally
 --
 -- The laws are in proofs/Tallying.
-use Rattle.std.specs.Prelude.{ℕ, ◌+◌, ◌*◌, ◌-◌, Bool, true, ◌||◌, cond, List, leb, eqb, length, get_or, Err, Ok, Result}
+use Rattle.std.specs.Prelude.{ℕ, ◌+◌, ◌*◌, ◌-◌, Bool, true, ◌||◌, cond, List, leb, eqb, length, get_or, Err, None, Ok, Option, Result, Some}
 use Rattle.sets.specs.Below.{any, find}
 use Rattle.image.specs.Questions.{open_of, when_opened}
 use Rattle.community.specs.Scores.{count_pairs, pairs, every_edge, joined_pairs, leaving}
 use Rattle.scores.specs.declared.Tally.{Tally}
-use Rattle.scores.specs.declared.Score.{Score}
-use Rattle.scores.specs.declared.Score.TheVariants.{Ratio, Nothing}
+use Rattle.scores.specs.declared.Ratio.{Ratio}
 use Rattle.image.specs.declared.Refusal.{Refusal}
 use Rattle.scores.specs.declared.Scores.{Scores}
 
@@ -29,8 +28,8 @@ unfoldable pub tally_of : List ℕ → List ℕ → Tally
 tally_of s l = tally_by s every_edge l
 
 -- a score that is not reduced; none for a zero divisor
-unfoldable pub score : ℕ → ℕ → Score
-score a b = cond (eqb b 0) Nothing (Ratio a b)
+unfoldable pub score : ℕ → ℕ → Option Ratio
+score a b = cond (eqb b 0) None (Some (record { numerator = a; denominator = b }))
 
 unfoldable pub scores_for : Tally → Scores
 unfolding score

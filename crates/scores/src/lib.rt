@@ -15,17 +15,18 @@ ghost use Rattle.scores.specs.ForProofs.{tally_at, GoodEntries, joined_sum, leav
 
 use image::Refusal;
 
-// A quotient that is not reduced, or no score where its divisor is 0.
+// A quotient that is not reduced.
 #[derive(Clone, Copy)]
-pub enum Score {
-    Ratio(u64, u64),
-    Nothing,
+pub struct Ratio {
+    pub numerator: u64,
+    pub denominator: u64,
 }
 
+// None is no score: the divisor is 0.
 #[derive(Clone, Copy)]
 pub struct Scores {
-    pub density: Score,
-    pub conductance: Score,
+    pub density: Option<Ratio>,
+    pub conductance: Option<Ratio>,
 }
 
 // s, t and o of a list: all pairs of places, those whose handsets are adjacent, and the edges with just one end in the list.
@@ -136,13 +137,16 @@ pub fn tally_list(image: &[u8], list: &[u16]) -> Result<Tally, Refusal>
 }
 
 // A quotient, or no score where the divisor is 0.
-fn score_of(a: u64, b: u64) -> Score
+fn score_of(a: u64, b: u64) -> Option<Ratio>
     ensures { result ≡ score a b }
 {
     if b == 0 {
-        Score::Nothing
+        None
     } else {
-        Score::Ratio(a, b)
+        Some(Ratio {
+            numerator: a,
+            denominator: b,
+        })
     }
 }
 

@@ -3,10 +3,10 @@ use Rattle.text.proofs.Writing.{then}
 use Rattle.lines.specs.Lines.{score_text}
 use Rattle.lines.proofs.put_score.Goals as goal
 
-pub returns-in-Ratio : goal.returns-in-Ratio
+pub returns-in-Some : goal.returns-in-Some
 unfolding score_text
-returns-in-Ratio c = rw c.in-Ratio.is (then c.put_decimal.ensures c.put_labelled.ensures)
+returns-in-Some c = rw c.in-Some.is (then c.put_decimal.ensures c.put_labelled.ensures)
 
-pub returns-in-Nothing : goal.returns-in-Nothing
+pub returns-in-None : goal.returns-in-None
 unfolding score_text
-returns-in-Nothing c = rw c.in-Nothing.is c.put.ensures
+returns-in-None c = rw c.in-None.is c.put.ensures
