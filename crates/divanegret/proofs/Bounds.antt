@@ -44,9 +44,9 @@ use Rattle.lookup.specs.Lookup.{start_of, placed, between, members_of, looked_of
 use Rattle.schedule.specs.Schedule.{date_fits, minutes_fit, is_working, plan_at, choice_of, in_plan, scheduled_of}
 use Rattle.schedule.specs.declared.Time.{Time}
 use Rattle.schedule.specs.declared.Window.{Window}
-use Rattle.schedule.specs.declared.Choice.TheVariants as C
+use Rattle.schedule.specs.declared.Day.{Day}
+use Rattle.schedule.specs.declared.Day.TheVariants.{Workday, Restday}
 use Rattle.schedule.specs.declared.Scheduled.{Scheduled}
-use Rattle.schedule.specs.declared.Scheduled.TheVariants as S
 use Rattle.points.specs.Points.{point_in_limits}
 use Rattle.points.proofs.Distances.{gap_most, distance_most}
 use Rattle.nearest.specs.Nearest.{nearest_of}
@@ -267,16 +267,14 @@ looked_small starts table k = go (placed starts (length table) k)
 
 -- ---- a group's members at a time
 
-abbrev pub ScheduledSmall : Scheduled → Type 0
-ScheduledSmall (S.Workday k) = k < entry_limit
-ScheduledSmall (S.Restday k) = k < entry_limit
-ScheduledSmall (S.Refused r) = Small r
+abbrev pub ScheduledSmall : Result Scheduled Refusal → Type 0
+ScheduledSmall (Ok s) = s.count < entry_limit
+ScheduledSmall (Err r) = Small r
 
 -- in either plan, since both have the lookup's answer with the plan's name
-in_plan_lem : (plan : ℕ → Scheduled) → ((k : ℕ) → k < entry_limit → ScheduledSmall (plan k)) → (l : Result ℕ Refusal) (room : ℕ) → room < entry_limit → LookedSmall room l
-    → ScheduledSmall (in_plan plan l)
-in_plan_lem plan named (Ok k) room few small = named k (omega arith)
-in_plan_lem plan named (Err r) room few small = small
+in_plan_lem : (day : Day) (l : Result ℕ Refusal) (room : ℕ) → room < entry_limit → LookedSmall room l → ScheduledSmall (in_plan day l)
+in_plan_lem day (Ok k) room few small = omega arith
+in_plan_lem day (Err r) room few small = small
 
 pub scheduled_small : (t : Time) (w : Window) (k : ℕ) (starts table starts' table' : List ℕ) → length table < entry_limit → length table' < entry_limit
     → ScheduledSmall (scheduled_of (choice_of t w) (looked_of starts table k) (looked_of starts' table' k))
@@ -285,9 +283,9 @@ scheduled_small t w k starts table starts' table' few few' = go (date_fits t) (m
   where
     go : (a b c : Bool)
         → ScheduledSmall
-        (scheduled_of (cond a (cond b (cond c C.Workday C.Restday) (C.Neither (refusal 19))) (C.Neither (refusal 18))) (looked_of starts table k) (looked_of starts' table' k))
-    go true true true = in_plan_lem S.Workday (λ k h. h) (looked_of starts table k) (length table) few (looked_small starts table k)
-    go true true false = in_plan_lem S.Restday (λ k h. h) (looked_of starts' table' k) (length table') few' (looked_small starts' table' k)
+        (scheduled_of (cond a (cond b (Ok (cond c Workday Restday)) (Err (refusal 19))) (Err (refusal 18))) (looked_of starts table k) (looked_of starts' table' k))
+    go true true true = in_plan_lem Workday (looked_of starts table k) (length table) few (looked_small starts table k)
+    go true true false = in_plan_lem Restday (looked_of starts' table' k) (length table') few' (looked_small starts' table' k)
     go true false c = own_small 19 (omega arith) (omega arith)
     go false b c = own_small 18 (omega arith) (omega arith)
 

@@ -25,9 +25,10 @@ use Rattle.scores.specs.Answers.{tally_answer}
 use Rattle.lookup.specs.Lookup.{looked_of}
 use Rattle.lookup.specs.Answers.{look_answer}
 use Rattle.schedule.specs.Schedule.{choice_of, scheduled_of}
-use Rattle.schedule.specs.Answers.{scheduled_answer}
+use Rattle.schedule.specs.Answers.{table_number, scheduled_answer}
 use Rattle.schedule.specs.declared.Scheduled.{Scheduled}
-use Rattle.schedule.specs.declared.Scheduled.TheVariants as S
+use Rattle.schedule.specs.declared.Day.{Day}
+use Rattle.schedule.specs.declared.Day.TheVariants.{Workday, Restday}
 use Rattle.nearest.specs.Nearest.{nearest_of, nearest_answer}
 use Rattle.nearest.specs.declared.Nearest.{Nearest}
 use Rattle.nearest.specs.declared.Nearest.TheVariants as N
@@ -149,10 +150,13 @@ scheduled_of_lem k x y e h =
     let u : k / 2 ≡ y = omega arith in
     success (values_2 (low32 (k % 2) x (omega arith) (omega arith)) (ap pos u))
 
-scheduled_taken : (x : Scheduled) → ScheduledSmall x → taken_by scheduled_macros (scheduled_code x) ≡ whole (scheduled_answer x)
-scheduled_taken (S.Workday k) small = scheduled_of_lem _ 0 k (omega arith) (omega arith)
-scheduled_taken (S.Restday k) small = scheduled_of_lem _ 1 k (omega arith) (omega arith)
-scheduled_taken (S.Refused r) small = refusal_taken scheduled_macros r small
+scheduled_taken : (x : Result Scheduled Refusal) → ScheduledSmall x → taken_by scheduled_macros (scheduled_code x) ≡ whole (scheduled_answer x)
+scheduled_taken (Ok s) small = told s.day
+  where
+    told : (d : Day) → taken_by scheduled_macros (pos (table_number d + 2 * min s.count 4611686018427387903)) ≡ whole (given (table_number d ∷ s.count ∷ []))
+    told Workday = scheduled_of_lem _ 0 s.count (omega arith) (omega arith)
+    told Restday = scheduled_of_lem _ 1 s.count (omega arith) (omega arith)
+scheduled_taken (Err r) small = refusal_taken scheduled_macros r small
 
 -- whether there is a group, its number and its distance
 nearest_of_lem : (k x y z : ℕ) → k ≡ x + 2 * y + 65536 * z → x < 2 → y < 32768 → taken_by nearest_macros (pos k) ≡ whole (given (x ∷ y ∷ z ∷ []))

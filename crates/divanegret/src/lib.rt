@@ -16,6 +16,7 @@ ghost use Rattle.codes.specs.Codes.{open_code, plan_code, role_code, tally_code,
 ghost use Rattle.table_codes.specs.Codes.{count_code, scheduled_code};
 
 use layout::Parameters;
+use lookup::Plan;
 use schedule::{Time, Window};
 
 // The report of an image, in the text buffer.
@@ -63,7 +64,8 @@ pub extern "C" fn dvg_scores(image: &[u8], list: &[u16]) -> i64
 pub extern "C" fn dvg_members(starts: &[u32], members: &[u16], k: usize) -> i64
     ensures { result ≡ count_code (looked_of starts.now members.now k) }
 {
-    table_codes::count_code(lookup::find_group(starts, members, k))
+    let plan = Plan { starts, members };
+    table_codes::count_code(plan.find_group(k))
 }
 
 // The count of members of group k in the plan for a time.
@@ -93,15 +95,15 @@ pub extern "C" fn dvg_members_at(
         opening: opening,
         closing: closing,
     };
-    table_codes::scheduled_code(schedule::find_group_at(
-        time,
-        window,
-        k,
-        workday_starts,
-        workday_members,
-        restday_starts,
-        restday_members,
-    ))
+    let workday = Plan {
+        starts: workday_starts,
+        members: workday_members,
+    };
+    let restday = Plan {
+        starts: restday_starts,
+        members: restday_members,
+    };
+    table_codes::scheduled_code(schedule::find_group_at(time, window, k, workday, restday))
 }
 
 // The group nearest to a point.

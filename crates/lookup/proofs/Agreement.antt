@@ -3,7 +3,8 @@
 --     yes, no          the three answers where the question gets a yes, and where it gets a no
 --     agree            the lookup and its companion agree
 --     members_slice    where the question gets a yes, the part is the slice of the table from start k up to start k+1
-use Rattle.std.specs.Prelude.{Err, Ok}
+use Rattle.std.specs.Prelude.{Err, MatchOption, None, Ok, Option, Result, Some, ⊤}
+use Rattle.std.specs.declared.ops.Range.{Range}
 use Prim.Native.Nat.{ℕ, zero, suc, ◌+◌, ◌-◌, ◌≤◌, ◌<◌}
 use native.Mathlib.Omega.{arith}
 use mathlib.Core.Path.{◌≡◌, refl, sym, ap, ◌∙◌}
@@ -13,34 +14,34 @@ use lib.ListN.{length, take, drop, length-take, length-drop}
 use lib.Seq.{slice}
 use borrow.Author.Tests.{lt-ltb, le-ltb, le-leb, lt-leb}
 use Rattle.image.specs.Answers.{refusal}
+use Rattle.image.specs.declared.Refusal.{Refusal}
 use Rattle.lookup.specs.Lookup.{start_of, placed, between, members_of, looked_of, Agree}
 use Rattle.lookup.specs.ForProofs.{span_of}
-use Rattle.lookup.specs.declared.Span.{Span}
 
 module _ (s : List ℕ) (size k : ℕ) where
   pub placed_yes : k + 1 < length s → start_of s k ≤ start_of s (k + 1) → start_of s (k + 1) ≤ size → placed s size k ≡ true
   unfolding placed
   placed_yes a b c = simp (lt-ltb _ _ a, le-leb _ _ b, le-leb _ _ c)
 
-  pub placed_short : length s ≤ k + 1 → placed s size k ≡ false
-  unfolding placed
-  placed_short a = simp (le-ltb _ _ a)
-
-  pub placed_falling : k + 1 < length s → start_of s (k + 1) < start_of s k → placed s size k ≡ false
-  unfolding placed
-  placed_falling a b = simp (lt-ltb _ _ a, lt-leb _ _ b)
-
-  pub placed_beyond : k + 1 < length s → start_of s k ≤ start_of s (k + 1) → size < start_of s (k + 1) → placed s size k ≡ false
-  unfolding placed
-  placed_beyond a b c = simp (lt-ltb _ _ a, le-leb _ _ b, lt-leb _ _ c)
-
-  pub span_yes : placed s size k ≡ true → span_of s size k ≡ record { found = true; first = start_of s k; past = start_of s (k + 1) }
+  pub span_yes : placed s size k ≡ true → span_of s size k ≡ Some (record { start = start_of s k; end = start_of s (k + 1) })
   unfolding span_of
   span_yes e = simp e
 
-  pub span_no : placed s size k ≡ false → span_of s size k ≡ record { found = false; first = 0; past = 0 }
+  pub span_no : placed s size k ≡ false → span_of s size k ≡ None
   unfolding span_of
   span_no e = simp e
+
+  pub span_short : length s ≤ k + 1 → span_of s size k ≡ None
+  unfolding placed
+  span_short a = span_no (simp (le-ltb _ _ a))
+
+  pub span_falling : k + 1 < length s → start_of s (k + 1) < start_of s k → span_of s size k ≡ None
+  unfolding placed
+  span_falling a b = span_no (simp (lt-ltb _ _ a, lt-leb _ _ b))
+
+  pub span_beyond : k + 1 < length s → start_of s k ≤ start_of s (k + 1) → size < start_of s (k + 1) → span_of s size k ≡ None
+  unfolding placed
+  span_beyond a b c = span_no (simp (lt-ltb _ _ a, le-leb _ _ b, lt-leb _ _ c))
 
 module _ (starts table : List ℕ) (k : ℕ) where
   pub members_yes : placed starts (length table) k ≡ true → members_of starts table k ≡ between (start_of starts k) (start_of starts (k + 1)) table
@@ -59,22 +60,31 @@ module _ (starts table : List ℕ) (k : ℕ) where
   unfolding looked_of
   looked_no e = simp e
 
-  -- the part, and the companion's answer, from the two places that both are made of
-  pub members_span : members_of starts table k ≡ between (span_of starts (length table) k).first (span_of starts (length table) k).past table
-  members_span = go (placed starts (length table) k) refl
-    where
-      go : (b : Bool) → placed starts (length table) k ≡ b → members_of starts table k ≡ between (span_of starts (length table) k).first (span_of starts (length table) k).past table
-      go true e = rw (span_yes starts (length table) k e) (members_yes e)
-      go false e = rw (span_no starts (length table) k e) (members_no e)
+  -- the part, and the companion's answer, from the span that both are made of
+  abbrev in_span : Option (Range ℕ) → List ℕ
+  in_span (Some r) = between r.start r.end table
+  in_span None = []
 
-  pub looked_span : (r : Span) → r ≡ span_of starts (length table) k → r.past ≤ length table
-      → looked_of starts table k ≡ cond r.found (Ok (r.past - r.first)) (Err (refusal 14))
+  abbrev counted : Option (Range ℕ) → Result ℕ Refusal
+  counted (Some r) = Ok (r.end - r.start)
+  counted None = Err (refusal 14)
+
+  pub members_span : members_of starts table k ≡ in_span (span_of starts (length table) k)
+  unfolding members_of span_of
+  members_span = go (placed starts (length table) k)
+    where
+      go : (b : Bool) → cond b (between (start_of starts k) (start_of starts (k + 1)) table) [] ≡ in_span (cond b (Some (record { start = start_of starts k; end = start_of starts (k + 1) })) None)
+      go true = refl
+      go false = refl
+
+  pub looked_span : (r : Option (Range ℕ)) → r ≡ span_of starts (length table) k → MatchOption r ⊤ (λ s. (s.start ≤ s.end) × (s.end ≤ length table))
+      → looked_of starts table k ≡ counted r
   looked_span r d h = go (placed starts (length table) k) refl
     where
-      go : (b : Bool) → placed starts (length table) k ≡ b → looked_of starts table k ≡ cond r.found (Ok (r.past - r.first)) (Err (refusal 14))
+      go : (b : Bool) → placed starts (length table) k ≡ b → looked_of starts table k ≡ counted r
       go true e =
           let s = d ∙ span_yes starts (length table) k e in
-          let inside : start_of starts (k + 1) ≤ length table = rw s at h in
+          let inside : start_of starts (k + 1) ≤ length table = (rw s at h).1 in
           rw s (looked_yes e ∙ ap Ok (ap length (members_yes e) ∙ simp (length-take, length-drop) (omega arith)))
       go false e = rw (d ∙ span_no starts (length table) k e) (looked_no e)
 

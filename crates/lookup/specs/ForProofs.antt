@@ -1,14 +1,14 @@
 -- These definitions only serve the proofs; a caller need not believe them.
 -- What the lookup works out before it takes the part, for the contracts inside the crate.
 --
---     span_of starts size k     question 14's answer with the part's two places; both 0 where it is a no
-use Rattle.std.specs.Prelude.{ℕ, ◌+◌, true, false, cond, List}
+--     span_of starts size k     the places of the part, where question 14 gets a yes
+use Rattle.std.specs.Prelude.{ℕ, ◌+◌, cond, List, None, Option, Some}
+use Rattle.std.specs.declared.ops.Range.{Range}
 use Rattle.lookup.specs.Lookup.{start_of, placed}
-use Rattle.lookup.specs.declared.Span.{Span}
 
-unfoldable pub span_of : List ℕ → ℕ → ℕ → Span
+unfoldable pub span_of : List ℕ → ℕ → ℕ → Option (Range ℕ)
 unfolding placed
 span_of starts size k =
     cond (placed starts size k)
-    (record { found = true; first = start_of starts k; past = start_of starts (k + 1) })
-    (record { found = false; first = 0; past = 0 })
+    (Some (record { start = start_of starts k; end = start_of starts (k + 1) }))
+    None

@@ -1,29 +1,32 @@
 -- Two answers of the companion with the same number, place and values are the same answer: a refusal has no values, and which plan and the count are values.
+use Rattle.std.specs.Prelude.{Err, Ok, Result, cond}
 use Prim.Native.Nat.{ℕ}
-use native.Mathlib.Omega.{arith}
-use mathlib.Core.Path.{◌≡◌, sym, ap}
+use lib.Dec.{eqb}
+use mathlib.Core.Path.{◌≡◌, refl, sym, ap, ◌∙◌}
+use mathlib.Core.List.{List, [], ◌∷◌}
 use lib.ListN.{get_or}
 use Rattle.image.specs.Answers.{Answer}
 use Rattle.image.proofs.Answers.{given_refused, refused_same}
-use Rattle.schedule.specs.Answers.{scheduled_answer, OneAnswer}
+use Rattle.schedule.specs.Answers.{table_number, scheduled_answer, OneAnswer}
+use Rattle.schedule.specs.declared.Day.{Day}
+use Rattle.schedule.specs.declared.Day.TheVariants.{Workday, Restday}
 use Rattle.schedule.specs.declared.Scheduled.{Scheduled}
-use Rattle.schedule.specs.declared.Scheduled.TheVariants.{Workday, Restday, Refused}
+use Rattle.image.specs.declared.Refusal.{Refusal}
 
--- the value at place i of an answer
-value : ℕ → Answer → ℕ
-value i a = get_or a.values i 0
+-- the plan and the count that a list of values stands for
+read : List ℕ → Scheduled
+read l = record { day = cond (eqb (get_or l 0 0) 0) Workday Restday; count = get_or l 1 0 }
 
-pub scheduled_same : (a b : Scheduled) → scheduled_answer a ≡ scheduled_answer b → a ≡ b
-unfolding value
-scheduled_same (Workday n) (Workday m) e = ap (λ (a : Answer). Workday (value 1 a)) e
-scheduled_same (Workday n) (Restday m) e = let z : ◌≡◌ {A = ℕ} 0 1 = ap (value 0) e in absurd (omega arith)
-scheduled_same (Workday n) (Refused r) e = given_refused _ _ r e
-scheduled_same (Restday n) (Workday m) e = let z : ◌≡◌ {A = ℕ} 1 0 = ap (value 0) e in absurd (omega arith)
-scheduled_same (Restday n) (Restday m) e = ap (λ (a : Answer). Restday (value 1 a)) e
-scheduled_same (Restday n) (Refused r) e = given_refused _ _ r e
-scheduled_same (Refused r) (Workday n) e = given_refused _ _ r (sym e)
-scheduled_same (Refused r) (Restday n) e = given_refused _ _ r (sym e)
-scheduled_same (Refused r) (Refused q) e = ap Refused (refused_same r q e)
+read_lem : (d : Day) (n : ℕ) → read (table_number d ∷ n ∷ []) ≡ record { day = d; count = n }
+unfolding read
+read_lem Workday n = refl
+read_lem Restday n = refl
+
+pub scheduled_same : (a b : Result Scheduled Refusal) → scheduled_answer a ≡ scheduled_answer b → a ≡ b
+scheduled_same (Ok s) (Ok t) e = ap Ok (sym (read_lem s.day s.count) ∙ ap (λ (a : Answer). read a.values) e ∙ read_lem t.day t.count)
+scheduled_same (Ok s) (Err r) e = given_refused _ _ r e
+scheduled_same (Err r) (Ok s) e = given_refused _ _ r (sym e)
+scheduled_same (Err r) (Err q) e = ap Err (refused_same r q e)
 
 pub one_answer : OneAnswer
 one_answer = record { scheduled = scheduled_same }

@@ -10,6 +10,7 @@ ghost use Rattle.schedule.specs.Schedule.{minutes_fit, is_working, choice_of, pa
 ghost use Rattle.schedule.specs.Answers.{scheduled_answer};
 
 use image::Refusal;
+use lookup::Plan;
 
 // The minutes of a day.
 const DAY_MINUTES: u32 = 1440;
@@ -30,20 +31,18 @@ pub struct Window {
     pub closing: u32,
 }
 
-// Which plan a time asks for: neither where it is refused. The calls' contracts go by it.
-#[derive(Clone, Copy)]
-pub enum Choice {
+// The plan that a time asks for.
+#[derive(Clone, Copy, PartialEq, Eq)]
+pub enum Day {
     Workday,
     Restday,
-    Neither(Refusal),
 }
 
-// What the companion answers: the plan, with the count of the group's members in it, or the refusal.
+// What the companion finds: the plan, and the count of the group's members in it.
 #[derive(Clone, Copy)]
-pub enum Scheduled {
-    Workday(usize),
-    Restday(usize),
-    Refused(Refusal),
+pub struct Scheduled {
+    pub day: Day,
+    pub count: usize,
 }
 
 // Question 19.
@@ -62,27 +61,26 @@ fn is_working(t: Time, w: Window) -> bool
 }
 
 // Questions 18 and 19, and the plan.
-fn choose(t: Time, w: Window) -> Choice
+fn choose(t: Time, w: Window) -> Result<Day, Refusal>
     ensures { result ≡ choice_of t w }
 {
-    let dated = dates::exists(t.year, t.month, t.day);
-    let timed = minutes_fit(t, w);
-    if !dated {
-        return Choice::Neither(Refusal {
+    if !dates::exists(t.year, t.month, t.day) {
+        return Err(Refusal {
             number: 18,
             place: 0,
         });
     }
-    if !timed {
-        return Choice::Neither(Refusal {
+    if !minutes_fit(t, w) {
+        return Err(Refusal {
             number: 19,
             place: 0,
         });
     }
-    if is_working(t, w) {
-        return Choice::Workday;
-    }
-    Choice::Restday
+    Ok(if is_working(t, w) {
+        Day::Workday
+    } else {
+        Day::Restday
+    })
 }
 
 // The members of group k at a time: a part of the chosen plan's member table itself, not a copy. Empty where 18, 19 or 14 applies.
@@ -90,18 +88,15 @@ pub fn members_at<'a>(
     t: Time,
     w: Window,
     k: usize,
-    workday_starts: &'a [u32],
-    workday_members: &'a [u16],
-    restday_starts: &'a [u32],
-    restday_members: &'a [u16],
+    workday: Plan<'a>,
+    restday: Plan<'a>,
 ) -> &'a [u16]
-    ensures { result.now ≡ part_of (choice_of t w) (members_of workday_starts.now workday_members.now k) (members_of restday_starts.now restday_members.now k) }
+    ensures { result.now ≡ part_of (choice_of t w) (members_of workday.entry.starts.now workday.entry.members.now k) (members_of restday.entry.starts.now restday.entry.members.now k) }
 {
-    let c = choose(t, w);
-    match c {
-        Choice::Workday => lookup::members(workday_starts, workday_members, k),
-        Choice::Restday => lookup::members(restday_starts, restday_members, k),
-        Choice::Neither(_) => &restday_members[0..0],
+    match choose(t, w) {
+        Ok(Day::Workday) => workday.members(k),
+        Ok(Day::Restday) => restday.members(k),
+        Err(_) => &restday.members[0..0],
     }
 }
 
@@ -110,29 +105,15 @@ pub fn find_group_at(
     t: Time,
     w: Window,
     k: usize,
-    workday_starts: &[u32],
-    workday_members: &[u16],
-    restday_starts: &[u32],
-    restday_members: &[u16],
-) -> Scheduled
-    ensures { scheduled_answer result ≡ scheduled_answer (scheduled_of (choice_of t w) (looked_of workday_starts.now workday_members.now k) (looked_of restday_starts.now restday_members.now k)) }
+    workday: Plan,
+    restday: Plan,
+) -> Result<Scheduled, Refusal>
+    ensures { scheduled_answer result ≡ scheduled_answer (scheduled_of (choice_of t w) (looked_of workday.entry.starts.now workday.entry.members.now k) (looked_of restday.entry.starts.now restday.entry.members.now k)) }
 {
-    let c = choose(t, w);
-    match c {
-        Choice::Workday => {
-            let looked = lookup::find_group(workday_starts, workday_members, k);
-            match looked {
-                Ok(count) => Scheduled::Workday(count),
-                Err(r) => Scheduled::Refused(r),
-            }
-        }
-        Choice::Restday => {
-            let looked = lookup::find_group(restday_starts, restday_members, k);
-            match looked {
-                Ok(count) => Scheduled::Restday(count),
-                Err(r) => Scheduled::Refused(r),
-            }
-        }
-        Choice::Neither(r) => Scheduled::Refused(r),
-    }
+    let day = choose(t, w)?;
+    let count = match day {
+        Day::Workday => workday.find_group(k)?,
+        Day::Restday => restday.find_group(k)?,
+    };
+    Ok(Scheduled { day, count })
 }

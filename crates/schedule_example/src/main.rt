@@ -2,6 +2,7 @@
 // a line each. The plans are those of site S, with mu 4 for working hours, from 8:00 to 17:00, and with mu 3 for the rest.
 #![tactic(auto)]
 
+use lookup::Plan;
 use schedule::{Time, Window};
 use std::io;
 use text::Text;
@@ -37,10 +38,14 @@ fn print_members(
         time,
         window,
         k as usize,
-        &WORKDAY_STARTS,
-        &WORKDAY_MEMBERS,
-        &RESTDAY_STARTS,
-        &RESTDAY_MEMBERS,
+        Plan {
+            starts: &WORKDAY_STARTS,
+            members: &WORKDAY_MEMBERS,
+        },
+        Plan {
+            starts: &RESTDAY_STARTS,
+            members: &RESTDAY_MEMBERS,
+        },
     );
     let asked = [year, month, day, minute, k];
     let mut line = [0u8; 4096];

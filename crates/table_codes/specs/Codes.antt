@@ -9,13 +9,12 @@ use Rattle.std.specs.Prelude.{ℕ, ◌+◌, ◌*◌, min, ℤ, pos, Err, Ok, Res
 use Rattle.refusals.specs.Refusals.{refusal_code}
 use Rattle.schedule.specs.declared.Scheduled.{Scheduled}
 use Rattle.image.specs.declared.Refusal.{Refusal}
-use Rattle.schedule.specs.declared.Scheduled.TheVariants as S
+use Rattle.schedule.specs.Answers.{table_number}
 
 abbrev pub count_code : Result ℕ Refusal → ℤ
 count_code (Ok n) = pos (min n 9223372036854775807)
 count_code (Err r) = refusal_code r
 
-abbrev pub scheduled_code : Scheduled → ℤ
-scheduled_code (S.Workday n) = pos (2 * min n 4611686018427387903)
-scheduled_code (S.Restday n) = pos (1 + 2 * min n 4611686018427387903)
-scheduled_code (S.Refused r) = refusal_code r
+abbrev pub scheduled_code : Result Scheduled Refusal → ℤ
+scheduled_code (Ok s) = pos (table_number s.day + 2 * min s.count 4611686018427387903)
+scheduled_code (Err r) = refusal_code r

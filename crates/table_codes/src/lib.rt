@@ -7,7 +7,7 @@ ghost use Rattle.std.specs.Prelude.{◌≡◌};
 ghost use Rattle.table_codes.specs.Codes.{count_code, scheduled_code};
 
 use image::Refusal;
-use schedule::Scheduled;
+use schedule::{Day, Scheduled};
 
 // A count or a length, or the refusal: of the members of a group, and of an image that was written.
 pub fn count_code(counted: Result<usize, Refusal>) -> i64
@@ -20,14 +20,16 @@ pub fn count_code(counted: Result<usize, Refusal>) -> i64
 }
 
 // The plan and the count of the group's members in it, or the refusal.
-pub fn scheduled_code(scheduled: Scheduled) -> i64
+pub fn scheduled_code(scheduled: Result<Scheduled, Refusal>) -> i64
     ensures { result ≡ scheduled_code scheduled }
 {
-    match scheduled {
-        Scheduled::Workday(count) => (2
-            * refusals::at_most(count as u64, 4611686018427387903)) as i64,
-        Scheduled::Restday(count) => (1
-            + 2 * refusals::at_most(count as u64, 4611686018427387903)) as i64,
-        Scheduled::Refused(r) => refusals::refusal_code(r),
-    }
+    let found = match scheduled {
+        Ok(found) => found,
+        Err(r) => return refusals::refusal_code(r),
+    };
+    let table = match found.day {
+        Day::Workday => 0,
+        Day::Restday => 1,
+    };
+    (table + 2 * refusals::at_most(found.count as u64, 4611686018427387903)) as i64
 }

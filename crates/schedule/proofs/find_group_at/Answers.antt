@@ -1,31 +1,38 @@
 -- `schedule::find_group_at` meets its contract: each case of the choice has the answer of the lookup's companion in its plan.
-use mathlib.Core.Path.{sym, ap, ◌∙◌}
+use Rattle.std.proofs.lemmas.Result.{err_from_is_err_and}
 use Rattle.lookup.proofs.Answers.{looked_same}
+use Rattle.lookup.specs.Lookup.{looked_of}
 use Rattle.schedule.specs.Schedule.{scheduled_of}
-use Rattle.schedule.specs.Answers.{scheduled_answer}
-use Rattle.schedule.proofs.Agreement.{in_workday, in_restday}
 use Rattle.schedule.proofs.find_group_at.Goals as goal
 
-pub returns-in-Ok : goal.returns-in-Ok
-returns-in-Ok c =
-    (ap scheduled_answer
-    (in_workday _ (sym c.choose-c.ensures ∙ c.in-Workday.is) (sym c.in-Ok.is ∙ looked_same _ _ c.find_group-looked.ensures)))
-
-pub returns-in-Err : goal.returns-in-Err
-returns-in-Err c =
-    (ap scheduled_answer
-    (in_workday _ (sym c.choose-c.ensures ∙ c.in-Workday.is) (sym c.in-Err.is ∙ looked_same _ _ c.find_group-looked.ensures)))
-
-pub returns-in-Ok-looked : goal.returns-in-Ok-looked
-returns-in-Ok-looked c =
-    (ap scheduled_answer
-    (in_restday _ (sym c.choose-c.ensures ∙ c.in-Restday.is) (sym c.in-Ok-looked.is ∙ looked_same _ _ c.find_group-looked-in-Restday.ensures)))
-
-pub returns-in-Err-looked : goal.returns-in-Err-looked
-returns-in-Err-looked c =
-    (ap scheduled_answer
-    (in_restday _ (sym c.choose-c.ensures ∙ c.in-Restday.is) (sym c.in-Err-looked.is ∙ looked_same _ _ c.find_group-looked-in-Restday.ensures)))
-
-pub returns-in-Neither : goal.returns-in-Neither
+pub returns-in_err-day : goal.returns-in_err-day
 unfolding scheduled_of
-returns-in-Neither c = rw (← c.choose-c.ensures, c.in-Neither.is)
+returns-in_err-day c =
+    let p = err_from_is_err_and c.from_residual.result c.from_residual.ensures.1 in
+    rw (p.1, p.2, ← c.choose.ensures, c.in_err-day.was)
+
+pub returns-in_err-count-in-Workday : goal.returns-in_err-count-in-Workday
+unfolding scheduled_of
+returns-in_err-count-in-Workday c =
+    let p = err_from_is_err_and c.from_residual-in_err-count-in-Workday.result c.from_residual-in_err-count-in-Workday.ensures.1 in
+    let found = looked_same c.find_group.result (looked_of c.args.workday.starts.now c.args.workday.members.now c.args.k) c.find_group.ensures in
+    rw (p.1, p.2, ← c.choose.ensures, c.in_ok-day.was, c.in-Workday.is, ← found, c.in_err-count-in-Workday.was)
+
+pub returns-in_err-count-in-Restday : goal.returns-in_err-count-in-Restday
+unfolding scheduled_of
+returns-in_err-count-in-Restday c =
+    let p = err_from_is_err_and c.from_residual-in_err-count-in-Restday.result c.from_residual-in_err-count-in-Restday.ensures.1 in
+    let found = looked_same c.find_group-in-Restday.result (looked_of c.args.restday.starts.now c.args.restday.members.now c.args.k) c.find_group-in-Restday.ensures in
+    rw (p.1, p.2, ← c.choose.ensures, c.in_ok-day.was, c.in-Restday.is, ← found, c.in_err-count-in-Restday.was)
+
+pub returns-in_ok-count-in-Workday : goal.returns-in_ok-count-in-Workday
+unfolding scheduled_of
+returns-in_ok-count-in-Workday c =
+    let found = looked_same c.find_group.result (looked_of c.args.workday.starts.now c.args.workday.members.now c.args.k) c.find_group.ensures in
+    rw (← c.choose.ensures, c.in_ok-day.was, c.in-Workday.is, ← found, c.in_ok-count-in-Workday.was)
+
+pub returns-in_ok-count-in-Restday : goal.returns-in_ok-count-in-Restday
+unfolding scheduled_of
+returns-in_ok-count-in-Restday c =
+    let found = looked_same c.find_group-in-Restday.result (looked_of c.args.restday.starts.now c.args.restday.members.now c.args.k) c.find_group-in-Restday.ensures in
+    rw (← c.choose.ensures, c.in_ok-day.was, c.in-Restday.is, ← found, c.in_ok-count-in-Restday.was)

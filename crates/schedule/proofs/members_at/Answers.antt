@@ -2,14 +2,14 @@
 use Rattle.schedule.specs.Schedule.{part_of}
 use Rattle.schedule.proofs.members_at.Goals as goal
 
-pub returns-in-Workday : goal.returns-in-Workday
+pub returns-in-Ok-Workday : goal.returns-in-Ok-Workday
 unfolding part_of
-returns-in-Workday c = rw (← c.choose-c.ensures, c.in-Workday.is) c.members.ensures
+returns-in-Ok-Workday c = rw (← c.choose.ensures, c.in-Ok-Workday.is, c.in-Ok-Workday.field-0-is) c.members.ensures
 
-pub returns-in-Restday : goal.returns-in-Restday
+pub returns-in-Ok-Restday : goal.returns-in-Ok-Restday
 unfolding part_of
-returns-in-Restday c = rw (← c.choose-c.ensures, c.in-Restday.is) c.members-in-Restday.ensures
+returns-in-Ok-Restday c = rw (← c.choose.ensures, c.in-Ok-Restday.is, c.in-Ok-Restday.field-0-is) c.members-in-Ok-Restday.ensures
 
-pub returns-in-Neither : goal.returns-in-Neither
+pub returns-in-Err : goal.returns-in-Err
 unfolding part_of
-returns-in-Neither c = rw (← c.choose-c.ensures, c.in-Neither.is)
+returns-in-Err c = rw (← c.choose.ensures, c.in-Err.is)
