@@ -9,17 +9,16 @@
 --     report_code r      a report: the text's length, or the refusal's number made negative
 --
 -- Where a number might be larger than its share of the code, it is cut off at the end of that share. No call's answer is that large: divanegret/specs/Lossless.
-use Rattle.std.specs.Prelude.{ℕ, ◌+◌, ◌*◌, min, ℤ, pos, neg_ℤ, Err, Ok, Result}
+use Rattle.std.specs.Prelude.{ℕ, ◌+◌, ◌*◌, min, ℤ, pos, neg_ℤ, Err, None, Ok, Result, Some}
 use Rattle.refusals.specs.Refusals.{refusal_code}
 use Rattle.community.specs.declared.Role.{Role}
 use Rattle.community.specs.declared.Role.TheVariants.{Core, Border, Outlier}
-use Rattle.nearest.specs.declared.Nearest.{Nearest}
+use Rattle.nearest.specs.Nearest.{Nearest}
 use Rattle.rows.specs.declared.Counts.{Counts}
 use Rattle.image.specs.declared.Header.{Header}
 use Rattle.image.specs.declared.Refusal.{Refusal}
 use Rattle.community.specs.declared.Standing.{Standing}
 use Rattle.scores.specs.declared.Tally.{Tally}
-use Rattle.nearest.specs.declared.Nearest.TheVariants as N
 
 abbrev pub open_code : Result Header Refusal → ℤ
 open_code (Ok h) = pos (h.n + 65536 * h.m)
@@ -43,9 +42,9 @@ tally_code (Ok x) = pos (min x.leaving 65535 + 65536 * min x.joined 1048575 + 68
 tally_code (Err r) = refusal_code r
 
 abbrev pub nearest_code : Nearest → ℤ
-nearest_code (N.Group k d) = pos (1 + 2 * min k 32767 + 65536 * min d 140737488355327)
-nearest_code N.NoGroups = pos 0
-nearest_code (N.Refused r) = refusal_code r
+nearest_code (Ok (Some g)) = pos (1 + 2 * min g.group 32767 + 65536 * min g.squared_distance 140737488355327)
+nearest_code (Ok None) = pos 0
+nearest_code (Err r) = refusal_code r
 
 abbrev pub report_code : Result ℕ Refusal → ℤ
 report_code (Ok n) = pos (min n 9223372036854775807)

@@ -9,7 +9,7 @@ ghost use Rattle.codes.specs.Codes.{open_code, plan_code, kind_code, role_code, 
 
 use community::{Role, Standing};
 use image::{Header, Refusal};
-use nearest::Nearest;
+use nearest::NearestGroup;
 use rows::Counts;
 use scores::Tally;
 
@@ -75,16 +75,16 @@ pub fn tally_code(t: Result<Tally, Refusal>) -> i64
 }
 
 // The nearest group and its squared distance, 0 where there are no groups, or the refusal.
-pub fn nearest_code(nearest: Nearest) -> i64
+pub fn nearest_code(nearest: Result<Option<NearestGroup>, Refusal>) -> i64
     ensures { result ≡ nearest_code nearest }
 {
     match nearest {
-        Nearest::Group(k, d) => {
-            (1 + 2 * refusals::at_most(k as u64, 32767)
-                + 65536 * refusals::at_most(d, 140737488355327)) as i64
+        Ok(Some(found)) => {
+            (1 + 2 * refusals::at_most(found.group as u64, 32767)
+                + 65536 * refusals::at_most(found.squared_distance, 140737488355327)) as i64
         }
-        Nearest::NoGroups => 0,
-        Nearest::Refused(r) => refusals::refusal_code(r),
+        Ok(None) => 0,
+        Err(r) => refusals::refusal_code(r),
     }
 }
 

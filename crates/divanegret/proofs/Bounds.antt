@@ -7,7 +7,7 @@
 --     refused_small                  a refusal of an image is small
 --     open_small, plan_small, role_small, tally_small, looked_small, scheduled_small, nearest_small, report_small, encoded_small
 --                                    those of each call are
-use Rattle.std.specs.Prelude.{Err, Ok, Result}
+use Rattle.std.specs.Prelude.{Err, None, Ok, Result, Some}
 use Prim.Native.Nat.{ℕ, zero, suc, ◌+◌, ◌*◌, ◌-◌, ◌≤◌, ◌<◌}
 use native.Mathlib.Omega.{arith}
 use native.Mathlib.Decide.{dec_le}
@@ -49,9 +49,7 @@ use Rattle.schedule.specs.declared.Day.TheVariants.{Workday, Restday}
 use Rattle.schedule.specs.declared.Scheduled.{Scheduled}
 use Rattle.points.specs.Points.{point_in_limits}
 use Rattle.points.proofs.Distances.{gap_most, distance_most}
-use Rattle.nearest.specs.Nearest.{nearest_of}
-use Rattle.nearest.specs.declared.Nearest.{Nearest}
-use Rattle.nearest.specs.declared.Nearest.TheVariants as N
+use Rattle.nearest.specs.Nearest.{Nearest, nearest_of}
 use Rattle.nearest.proofs.Meaning.{nearest_means}
 use Rattle.reporting.specs.Report.{report_text, written_of, report_of}
 use Rattle.layout.specs.Layout.{header_for, handset_table, edge_table, lengths_fit}
@@ -292,27 +290,27 @@ scheduled_small t w k starts table starts' table' few few' = go (date_fits t) (m
 -- ---- the nearest group
 
 abbrev pub NearestSmall : Nearest → Type 0
-NearestSmall (N.Group k d) = (k < 512) × (d ≤ coordinate_count * gap_most)
-NearestSmall N.NoGroups = 0 ≤ 512
-NearestSmall (N.Refused r) = Small r
+NearestSmall (Ok (Some g)) = (g.group < 512) × (g.squared_distance ≤ coordinate_count * gap_most)
+NearestSmall (Ok None) = 0 ≤ 512
+NearestSmall (Err r) = Small r
 
 pub nearest_small : (s : List ℕ) (p : List ℤ) → length p ≡ coordinate_count → NearestSmall (nearest_of s p)
 unfolding nearest_of communities_of
-nearest_small s p long = when_either s _ _ NearestSmall (λ ok. subst NearestSmall (when_accepted s _ N.Refused ok) (told ok)) (refused_small s)
+nearest_small s p long = when_either s _ _ NearestSmall (λ ok. subst NearestSmall (when_accepted s _ Err ok) (told ok)) (refused_small s)
   where
     inside : Accepted s → T (point_in_limits p) → NearestSmall (nearest_of s p)
     inside ok t = of (nearest_of s p) refl
       where
         of : (a : Nearest) → nearest_of s p ≡ a → NearestSmall a
-        of (N.Group k d) e =
-            let n = (nearest_means.group s p (nearest_of s p) ok t refl k d).0 e in
+        of (Ok (Some g)) e =
+            let n = (nearest_means.group s p (nearest_of s p) ok t refl g.group g.squared_distance).0 e in
             let v = n.stands.0 in
             let m = n.stands.1 in (
               omega (arith, m.0, communities_at_most s ok),
-              omega (arith, n.stands.2, distance_most s ok p long t v (member_below (network s) k v m.0 m.1)),
+              omega (arith, n.stands.2, distance_most s ok p long t v (member_below (network s) g.group v m.0 m.1)),
             )
-        of N.NoGroups e = omega arith
-        of (N.Refused r) e = absurd (nearest_means.not_refused s p (nearest_of s p) ok t refl r e)
+        of (Ok None) e = omega arith
+        of (Err r) e = absurd (nearest_means.not_refused s p (nearest_of s p) ok t refl r e)
 
     told : Accepted s → NearestSmall (nearest_of s p)
     told ok =

@@ -2,7 +2,7 @@
 -- each share of the code gives back its number.
 --
 --     lossless     the theorem of specs/Lossless
-use Rattle.std.specs.Prelude.{Err, Ok, Result}
+use Rattle.std.specs.Prelude.{Err, None, Ok, Result, Some}
 use Prim.Native.Nat.{ℕ, zero, suc, ◌+◌, ◌*◌, ◌-◌, ◌%◌, ◌/◌, ◌≤◌, ◌<◌, min}
 use native.Mathlib.Omega.{arith}
 use mathlib.Core.Path.{◌≡◌, refl, ap, ap₂, ◌∙◌}
@@ -29,9 +29,7 @@ use Rattle.schedule.specs.Answers.{table_number, scheduled_answer}
 use Rattle.schedule.specs.declared.Scheduled.{Scheduled}
 use Rattle.schedule.specs.declared.Day.{Day}
 use Rattle.schedule.specs.declared.Day.TheVariants.{Workday, Restday}
-use Rattle.nearest.specs.Nearest.{nearest_of, nearest_answer}
-use Rattle.nearest.specs.declared.Nearest.{Nearest}
-use Rattle.nearest.specs.declared.Nearest.TheVariants as N
+use Rattle.nearest.specs.Nearest.{Nearest, nearest_of, nearest_answer}
 use Rattle.reporting.specs.Report.{report_of, report_answer}
 use Rattle.layout.specs.ForProofs.{image_most}
 use Rattle.writer.specs.Writer.{encoded_of, encoded_answer}
@@ -168,9 +166,9 @@ nearest_of_lem k x y z e h l =
     success (values_3 (low32 (k % 2) x (omega arith) (omega arith)) (low32 (k / 2 % 32768) y m (omega arith)) (ap pos u))
 
 nearest_taken : (x : Nearest) → NearestSmall x → taken_by nearest_macros (nearest_code x) ≡ whole (nearest_answer x)
-nearest_taken (N.Group k d) small = nearest_of_lem _ 1 k d (omega (arith, small.0, small.1)) (omega arith) (omega (arith, small.0))
-nearest_taken N.NoGroups small = nearest_of_lem 0 0 0 0 (omega arith) (omega arith) (omega arith)
-nearest_taken (N.Refused r) small = refusal_taken nearest_macros r small
+nearest_taken (Ok (Some g)) small = nearest_of_lem _ 1 g.group g.squared_distance (omega (arith, small.0, small.1)) (omega arith) (omega (arith, small.0))
+nearest_taken (Ok None) small = nearest_of_lem 0 0 0 0 (omega arith) (omega arith) (omega arith)
+nearest_taken (Err r) small = refusal_taken nearest_macros r small
 
 report_taken : (x : Result ℕ Refusal) (room : ℕ) → room < 9223372036854775808 → ReportSmall room x → taken_by itself (report_code x) ≡ whole (number_only (report_answer x))
 report_taken (Ok k) room h small = count_taken k room h small

@@ -1,5 +1,6 @@
 -- The theorems of specs/Meaning. The answer over all groups is right of their members (proofs/Right), two that are nearest are the same, and each community
 -- has a member.
+use Rattle.std.specs.Prelude.{Err, None, Ok}
 use Prim.Native.Nat.{ℕ, ◌<◌}
 use native.Mathlib.Omega.{arith}
 use mathlib.Core.Path.{◌≡◌, refl, sym, ap, ◌∙◌, subst}
@@ -15,10 +16,8 @@ use Rattle.community.specs.Site.{network, communities_of}
 use Rattle.community.proofs.Site.{accepted_sound}
 use Rattle.community.proofs.Communities.{leader, leader_member}
 use Rattle.points.specs.Points.{point_in_limits, distance_to}
-use Rattle.nearest.specs.Nearest.{nearest_among, nearest_in}
+use Rattle.nearest.specs.Nearest.{Nearest, group_found, nearest_among, nearest_in}
 use Rattle.nearest.specs.Meaning.{NearestCall, Member, IsNearest, NearestMeans}
-use Rattle.nearest.specs.declared.Nearest.{Nearest}
-use Rattle.nearest.specs.declared.Nearest.TheVariants.{Group, NoGroups, Refused}
 use Rattle.nearest.proofs.Right.{Right, groups_right, nearest_is}
 use Rattle.nearest.proofs.Rows.{some_member}
 use Rattle.nearest.proofs.Answers.{nearest_same, refused_answer, past_answer, inside_answer}
@@ -39,13 +38,13 @@ module _ (s : List ℕ) (p : List ℤ) (a : Nearest) (ok : Accepted s) (inside :
       subst (Right (distance_to s p) (Member (communities_of s))) (sym answer_is)
       (groups_right (distance_to s p) (λ k. get_or (communities_of s) k []) (length (communities_of s)) (some_member s ok))
 
-  group_law : (k d : ℕ) → (a ≡ Group k d) ↔ IsNearest (distance_to s p) (Member (communities_of s)) k d
+  group_law : (k d : ℕ) → (a ≡ group_found k d) ↔ IsNearest (distance_to s p) (Member (communities_of s)) k d
   group_law k d = (
     (λ e. subst (Right (distance_to s p) (Member (communities_of s))) e answer_right),
     (λ n. nearest_is (distance_to s p) (Member (communities_of s)) a k d answer_right n),
   )
 
-  no_groups_law : (a ≡ NoGroups) ↔ (communities_of s ≡ [])
+  no_groups_law : (a ≡ Ok None) ↔ (communities_of s ≡ [])
   unfolding communities_of nearest_in nearest_among
   no_groups_law = (
     (λ e. empty_list (communities_of s) (λ h.
@@ -53,7 +52,7 @@ module _ (s : List ℕ) (p : List ℤ) (a : Nearest) (ok : Accepted s) (inside :
     (λ e. answer_is ∙ ap (nearest_in (distance_to s p)) e),
   )
 
-  not_refused_law : (r : Refusal) → a ≡ Refused r → ⊥
+  not_refused_law : (r : Refusal) → a ≡ Err r → ⊥
   not_refused_law r e = subst (Right (distance_to s p) (Member (communities_of s))) e answer_right
 
 pub nearest_means : NearestMeans

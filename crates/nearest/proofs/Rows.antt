@@ -7,6 +7,7 @@
 --     rows_filled      so that each row of the communities has
 --     rows_found       what the crate graph finds are the rows of the communities
 --     site_answer_lem      the answer over the rows of an accepted image is the call's
+use Rattle.std.specs.Prelude.{None, Ok}
 use Prim.Native.Nat.{ℕ, zero, suc, ◌+◌, ◌*◌, ◌-◌, ◌≤◌, ◌<◌, min}
 use native.Mathlib.Omega.{arith}
 use native.Mathlib.Decide.{dec_lt}
@@ -43,11 +44,9 @@ use Rattle.graph.proofs.Listing.{groups_most, grouped_rows}
 use Rattle.image.proofs.Acceptance.{accepted_fits}
 use Rattle.points.specs.Points.{point_in_limits, distance_to}
 use Rattle.points.proofs.Distances.{distance_exact}
-use Rattle.nearest.specs.Nearest.{least_of, nearest_among, nearest_in, nearest_of, closer}
+use Rattle.nearest.specs.Nearest.{Nearest, group_found, least_of, nearest_among, nearest_in, nearest_of, closer}
 use Rattle.nearest.specs.Meaning.{IsNearest}
 use Rattle.nearest.specs.ForProofs.{wrapped, Closest, RowsFilled, PointHeld}
-use Rattle.nearest.specs.declared.Nearest.{Nearest}
-use Rattle.nearest.specs.declared.Nearest.TheVariants.{Group, NoGroups}
 use Rattle.nearest.proofs.Answers.{inside_answer}
 use Rattle.nearest.proofs.Right.{Below, groups_right, nearest_is}
 
@@ -152,7 +151,7 @@ module _ (far : ℕ → ℕ) (rows : List ℕ) (n : ℕ) (filled : RowsFilled ro
                 ⊎_elim (λ q. absurd (not_any k at j l.2 (lib.Dec.ltb→lt j k q) t)) (λ q. lib.Dec.nltb→le j k q) (decide (lib.Dec.ltb j k));
           }
 
-      pub rows_nearest : Group (first_meeting closest (rows_of rows n)) least ≡ nearest_in far (rows_of rows n)
+      pub rows_nearest : group_found (first_meeting closest (rows_of rows n)) least ≡ nearest_in far (rows_of rows n)
       unfolding nearest_in
       rows_nearest =
           sym (nearest_is far (Below group (length (rows_of rows n))) _ (first_meeting closest (rows_of rows n)) least
@@ -160,7 +159,7 @@ module _ (far : ℕ → ℕ) (rows : List ℕ) (n : ℕ) (filled : RowsFilled ro
           (λ k h. let q : k < n = omega (arith, h, rows_length rows n) in subst (λ (x : List ℕ). 0 < length x) (sym (rows_at rows n k q)) (filled.some k q)))
           is_nearest)
 
-pub no_rows : (far : ℕ → ℕ) (rows : List ℕ) (n : ℕ) → n ≡ 0 → NoGroups ≡ nearest_in far (rows_of rows n)
+pub no_rows : (far : ℕ → ℕ) (rows : List ℕ) (n : ℕ) → n ≡ 0 → Ok None ≡ nearest_in far (rows_of rows n)
 unfolding nearest_in nearest_among rows_of
 no_rows far rows n e = ap (λ (k : ℕ). nearest_in far (rows_of rows k)) (sym e)
 

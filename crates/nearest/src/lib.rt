@@ -13,12 +13,11 @@ ghost use Rattle.nearest.specs.ForProofs.{wrapped, Closest, Takes, TakesWord, Ro
 
 use image::{Header, Refusal};
 
-// What a call for the nearest group answers: its number and the squared distance of its nearest member, that there are no groups, or the refusal.
+// The nearest group: its number, and the squared distance of its nearest member.
 #[derive(Clone, Copy)]
-pub enum Nearest {
-    Group(usize, u64),
-    NoGroups,
-    Refused(Refusal),
+pub struct NearestGroup {
+    pub group: usize,
+    pub squared_distance: u64,
 }
 
 // Measures handset v, and gives the least squared distance so far. The set `closest` has the handsets at that distance: v is added where it is as near as the
@@ -91,7 +90,7 @@ fn nearest_of<'a>(
     handsets: &'a [u8],
     rows: &'a sets::Table,
     groups: usize,
-) -> Nearest
+) -> Result<Option<NearestGroup>, Refusal>
     requires { RowsFilled rows.now groups }
     ensures { result ≡ nearest_in (wrapped point.now handsets.now) (rows_of rows.now groups) }
 {
@@ -100,11 +99,14 @@ fn nearest_of<'a>(
     rows::find_members(rows, groups, &mut once, &mut twice);
     let mut closest = [0; sets::ROW_WORDS];
     let Some(least) = find_closest(point, handsets, &once, &mut closest) else {
-        return Nearest::NoGroups;
+        return Ok(None);
     };
     match rows::first_meeting(rows, groups, &closest) {
-        Some(group) => Nearest::Group(group, least),
-        None => Nearest::NoGroups,
+        Some(group) => Ok(Some(NearestGroup {
+            group,
+            squared_distance: least,
+        })),
+        None => Ok(None),
     }
 }
 
@@ -117,7 +119,7 @@ fn nearest_site<'a>(
     x: i32,
     y: i32,
     z: i32,
-) -> Nearest
+) -> Result<Option<NearestGroup>, Refusal>
     requires { (PointHeld image.now h (x ∷ y ∷ z ∷ [])) × ((groups ≤ 512) × (rows_of rows.now groups ≡ communities_of image.now)) }
     ensures { result ≡ nearest_of image.now (x ∷ y ∷ z ∷ []) }
 {
@@ -128,8 +130,8 @@ fn nearest_site<'a>(
 }
 
 // The group that stands nearest to the point x, y, z, and the squared distance of its nearest member; of groups at the same distance the lowest. A refused
-// image ends the call with its refusal, a point out of the limits with 17.
-pub fn nearest_group(image: &[u8], x: i32, y: i32, z: i32) -> Nearest
+// image ends the call with its refusal, a point out of the limits with 17. None is that there are no groups.
+pub fn nearest_group(image: &[u8], x: i32, y: i32, z: i32) -> Result<Option<NearestGroup>, Refusal>
     ensures { nearest_answer result ≡ nearest_answer (nearest_of image.now (x ∷ y ∷ z ∷ [])) }
 {
     let mut table = [0; sets::TABLE_WORDS];
@@ -137,12 +139,12 @@ pub fn nearest_group(image: &[u8], x: i32, y: i32, z: i32) -> Nearest
     let found = graph::find_rows(image, &mut table, &mut cores);
     let opened = found.opened;
     let Ok(h) = opened else {
-        return Nearest::Refused(refusals::refusal_of(opened));
+        return Err(refusals::refusal_of(opened));
     };
     if points::in_limits(x, y, z) {
         return nearest_site(image, h, &table, found.groups, x, y, z);
     }
-    Nearest::Refused(Refusal {
+    Err(Refusal {
         number: 17,
         place: 0,
     })

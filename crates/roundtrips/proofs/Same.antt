@@ -37,7 +37,6 @@ use Rattle.scores.proofs.Answers.{tally_same, scored_same}
 use Rattle.totals.specs.Totals.{totals}
 use Rattle.points.specs.Points.{point_in_limits, distance_from, distance_to}
 use Rattle.nearest.specs.Nearest.{nearest_in, nearest_of}
-use Rattle.nearest.specs.declared.Nearest.TheVariants as N
 use Rattle.nearest.proofs.Answers.{nearest_same}
 use Rattle.text.specs.Text.{bytes}
 use Rattle.lines.specs.Lines.{head_line, list_line, totals_line, group_line}
@@ -157,7 +156,7 @@ module _ (s t : List ℕ) (same : SameRecords s t) (ok : Accepted s) (fine : Acc
   nearest_is p =
       let far : List ℕ → ℕ → ℕ = λ records v. distance_from (map raised p) (handset_record records v) in
       by_header _ _ _
-      (λ i. cond (point_in_limits p) (nearest_in (far (same.handsets i)) (communities (network_is s t same i))) (N.Refused (refusal 17)))
+      (λ i. cond (point_in_limits p) (nearest_in (far (same.handsets i)) (communities (network_is s t same i))) (Err (refusal 17)))
 
   pub same_outcome : SameOutcome s t
   same_outcome = record {

@@ -24,8 +24,7 @@ use Rattle.image.specs.declared.Refusal.{Refusal}
 use Rattle.planner.specs.Plan.{PlanCall, known_of, known_answer}
 use Rattle.scores.specs.Scored.{tallied_of, scored_of}
 use Rattle.scores.specs.Answers.{tally_answer, score_answer}
-use Rattle.nearest.specs.Nearest.{nearest_of, nearest_answer}
-use Rattle.nearest.specs.declared.Nearest.{Nearest}
+use Rattle.nearest.specs.Nearest.{Nearest, nearest_of, nearest_answer}
 use Rattle.reporting.specs.Report.{ReportCall}
 use Rattle.layout.specs.Layout.{header_for, image_of, lengths_fit, Signed32}
 use Rattle.layout.specs.declared.Parameters.{Parameters}

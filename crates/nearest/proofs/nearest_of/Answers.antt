@@ -1,7 +1,7 @@
 -- `nearest::nearest_of` meets its contract: with no handset in a row there is no group, and else the first row that meets the closest handsets is the nearest group.
 use Rattle.std.proofs.Common.{ℕ, ◌≡◌, min, ap, ◌∙◌, arith}
 use Rattle.nearest.specs.ForProofs.{wrapped}
-use Rattle.nearest.specs.declared.Nearest.TheVariants.{Group}
+use Rattle.nearest.specs.Nearest.{group_found}
 use Rattle.rows.proofs.Rows.{met_some}
 use Rattle.nearest.proofs.Rows.{none_seen, no_rows, rows_nearest, not_unmet}
 use Rattle.nearest.proofs.nearest_of.Goals as goal
@@ -19,7 +19,7 @@ returns-in-Some-first_meeting c =
     let all : min c.args.groups 512 ≡ c.args.groups = omega (arith, c.requires.few) in
     let found = rw all at c.find_members.ensures in
     let met = met_some _ _ _ (rw all at c.in-Some-first_meeting.ensures) in
-    ap (λ (g : ℕ). Group g c.in-Some.least) met.0 ∙ rows_nearest far c.args.rows.now c.args.groups c.requires _ _ found c.in-Some.least _ c.in-Some.ensures
+    ap (λ (g : ℕ). group_found g c.in-Some.least) met.0 ∙ rows_nearest far c.args.rows.now c.args.groups c.requires _ _ found c.in-Some.least _ c.in-Some.ensures
 
 pub returns-in-None : goal.returns-in-None
 returns-in-None c =
