@@ -11,21 +11,19 @@
 --     header_fits, tables_clear, header_length, handsets_length, edges_length     what an image whose header is accepted keeps to: both tables of records are whole
 --     accepted_fits, length_is, handsets_fit, edges_fit, ends_below, coordinate_limits     what an accepted image keeps to: its header, its length, its two tables,
 --                         its edges' ends, its coordinates
---     header_short, header_other, header_on     how questions 1 and 2 go, with the header in hand
 --     header_no           where one of questions 1 to 6 gets a no, that is the answer; header_yes: where all get a yes, what that says of the image
 --     header_passed       and then the answer is that of questions 7 to 10
 use Rattle.std.specs.Prelude.{Err, Ok, Result}
 use Prim.Native.Nat.{ℕ, ◌+◌, ◌*◌, ◌-◌, ◌≤◌, ◌<◌}
 use native.Mathlib.Omega.{arith}
 use mathlib.Core.Path.{◌≡◌, refl, sym, ap, ◌∙◌, subst}
-use borrow.Author.Tests.{lt-leb, ne_eqb}
 use mathlib.Core.Logic.{◌⊎◌}
 use mathlib.Core.Bool.{Bool, true, false, ◌&&◌, not}
 use mathlib.Core.List.{List}
-use lib.Dec.{T, leb, ltb, eqb, leb→le, le→leb, ltb→lt, eqb→eq}
+use lib.Dec.{T, leb, ltb, eqb, leb→le, ltb→lt, eqb→eq}
 use lib.ListN.{length, take, drop, length-take, length-drop}
 use Rattle.sets.specs.Below.{any}
-use Rattle.sets.proofs.Tests.{and_left, and_right, or_cases, any_none, none_any, eqb_of}
+use Rattle.sets.proofs.Tests.{and_left, and_right, or_cases, any_none, none_any}
 use Rattle.fields.specs.Fields.{coordinate_count, handset_bytes, edge_bytes, coordinate_limit, in_limits, header_bytes, coordinate_of}
 use Rattle.limits.specs.Limits.{limit_most, counts_fit, thresholds_fit, out_of_limits}
 use Rattle.image.specs.Image.{header_of, handset_count, edge_count, handset_records, edge_records, handset_record, end_a, end_b}
@@ -183,24 +181,6 @@ pub refuse : (b : Bool) (k p : ℕ) (next : Result Header Refusal) → b ≡ fal
 unfolding ask
 refuse true k p next e = let z : ◌≡◌ {A = ℕ} 0 1 = cc in absurd (omega arith)
 refuse false k p next e = refl
-
-pub header_short : (s : List ℕ) (next : Result Header Refusal) → length s < 32 → ask_image s next ≡ Err (record { number = 1; place = 0 })
-unfolding ask_image
-header_short s next l = refuse (leb 32 (length s)) _ _ _ (lt-leb 32 (length s) l)
-
-module _ (s : List ℕ) (l : 32 ≤ length s) where
-  pub header_other : (next : Result Header Refusal) → ((header_of s).len ≡ length s → ⊥) → ask_image s next ≡ Err (record { number = 2; place = 0 })
-  unfolding ask_image
-  header_other next d =
-      go_on (leb 32 (length s)) _ _ _ (le→leb 32 (length s) l)
-      ∙ refuse (eqb (header_of s).len (length s)) _ _ _ (ne_eqb (header_of s).len (length s) d)
-
-  pub header_on : (h : Header) → h ≡ header_of s → h.len ≡ length s → ask_image s (Ok (header_of s)) ≡ ask_header h (Ok h)
-  unfolding ask_image
-  header_on h e d =
-      go_on (leb 32 (length s)) _ _ _ (le→leb 32 (length s) l)
-      ∙ go_on (eqb (header_of s).len (length s)) _ _ _ (eqb_of (header_of s).len (length s) (ap (λ (x : Header). x.len) (sym e) ∙ d))
-      ∙ ap (λ (x : Header). ask_header x (Ok x)) (sym e)
 
 stop : {r : Refusal} (b : Bool) (k p : ℕ) (x y : Result Header Refusal) → (x ≡ Err r → y ≡ Err r) → ask b k p x ≡ Err r → ask b k p y ≡ Err r
 unfolding ask

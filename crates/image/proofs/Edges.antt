@@ -4,18 +4,20 @@
 --     selves_none, selves_more     each handset with itself: none, and one more; selves_new: it is not there before
 --     linked_none, linked_more     the table of no edge, and of one edge more
 --     second_new                   where the first cell of an edge is not set, the second is not either
---     end_told, fault_end, fault_linked     what an edge's fault is: an end that is no handset, or ends that are linked before it
+--     fault_a, fault_b, fault_cell  what an edge's fault is: an end that is no handset, or a first cell that is set
 --     added_no, added_yes          what adding the edges tells, where an edge is at fault and where none is
-use Prim.Native.Nat.{ℕ, ◌+◌, ◌*◌, ◌<◌}
+use Prim.Native.Nat.{ℕ, ◌+◌, ◌*◌, ◌<◌, ◌≤◌}
 use native.Mathlib.Omega.{arith}
 use native.Mathlib.Numerals.{add-one}
 use native.Mathlib.Decide.{ℕ_discrete}
 use mathlib.Core.Path.{◌≡◌, refl, sym, ap, ap₂, ◌∙◌, subst}
 use mathlib.Core.Logic.{◌⊎◌, inl, inr, ⊎_elim}
 use mathlib.Core.Bool.{Bool, true, false, ◌&&◌, ◌||◌, not, or-false}
+use Rattle.std.proofs.Math.Bool.{and-false}
 use mathlib.Core.List.{List}
 use lib.Dec.{T, ltb, eqb, ltb→lt, lt→ltb, eqb→eq, eqb_refl, T_not, not_T}
 use lib.ListN.{length}
+use Rattle.std.specs.Prelude.{Some, None}
 use Rattle.sets.specs.Below.{any, bit}
 use Rattle.sets.specs.Bits.{bit_at, cell, with_bit}
 use Rattle.sets.proofs.Tests.{and_make, and_left, and_right, or_left, or_right, or_cases, or_comm, T_true, T_false, T-ext, any_cong, eqb_of, eqb_not, passed_none, passed_other}
@@ -26,8 +28,8 @@ use Rattle.image.specs.Questions.{bad_end, is_loop, repeats_earlier}
 use Rattle.sets.specs.Rows.{Table, Counted}
 use Rattle.image.specs.Rows.{Cleared}
 use Rattle.image.specs.ForProofs.{linked, faulty, Added}
-use Rattle.image.proofs.Rows.{cleared_bit, table_cong}
-use Rattle.image.proofs.Scanning.{scan_found, scan_ended}
+use Rattle.image.proofs.Rows.{cleared_bit, table_cong, table_has}
+use Rattle.image.proofs.Scanning.{first_found, first_ended}
 
 -- ---- the ends of an edge, either way round
 pub joins_cases : (records : List ℕ) (u v k : ℕ) → T (joins records u v k)
@@ -177,31 +179,49 @@ module _ (n : ℕ) (edges : List ℕ) (k : ℕ) where
       bit_at_set_other rows (u * 512 + v) (v * 512 + u) (λ e. other (omega arith))
       ∙ t.bits v u hv hu ∙ ap bit (linked_comm v u) ∙ sym (t.bits u v hu hv) ∙ z
 
-  -- what an edge's fault is
-  pub end_told : (u v : ℕ) (x : Bool) → u ≡ end_a edges k → v ≡ end_b edges k → not (ltb u n && ltb v n) ≡ x → bad_end edges n k ≡ x
-  unfolding bad_end
-  end_told u v x p q e = ap₂ (λ (a b : ℕ). not (ltb a n && ltb b n)) (sym p) (sym q) ∙ e
-
-  pub fault_end : bad_end edges n k ≡ true → faulty edges n k ≡ true
-  unfolding faulty
-  fault_end e = ap (λ (b : Bool). b || (is_loop edges k || repeats_earlier edges k)) e
-
-  pub fault_linked : bad_end edges n k ≡ false → end_a edges k < n → faulty edges n k ≡ linked n edges k (end_a edges k) (end_b edges k)
+  -- what an edge's fault is where its ends are handsets
+  fault_linked : bad_end edges n k ≡ false → end_a edges k < n → faulty edges n k ≡ linked n edges k (end_a edges k) (end_b edges k)
   unfolding faulty
   fault_linked e h = ap (λ (b : Bool). b || (is_loop edges k || repeats_earlier edges k)) e ∙ sym (linked_fault h)
 
+-- ---- an edge with the ends u and v, after k edges
+module _ (n : ℕ) (edges : List ℕ) (k : ℕ) {rows : List ℕ} (t : Table rows (linked n edges k)) (u v : ℕ) (eu : u ≡ end_a edges k) (ev : v ≡ end_b edges k) where
+  -- an end that is no handset is a fault
+  pub fault_a : n ≤ u → faulty edges n k ≡ true
+  unfolding faulty bad_end
+  fault_a h = rw (← eu, T_false (ltb u n) (not_T (ltb u n) (λ x. omega (arith, ltb→lt u n x))))
+
+  pub fault_b : n ≤ v → faulty edges n k ≡ true
+  unfolding faulty bad_end
+  fault_b h = rw (← ev, T_false (ltb v n) (not_T (ltb v n) (λ x. omega (arith, ltb→lt v n x))), and-false)
+
+  module _ (n_limit : n ≤ 512) (hu : u < n) (hv : v < n) where
+    no_bad_end : bad_end edges n k ≡ false
+    unfolding bad_end
+    no_bad_end = rw (← eu, ← ev, T_true (ltb u n) (lt→ltb u n hu), T_true (ltb v n) (lt→ltb v n hv))
+
+    -- and else the edge is at fault where its first cell is set
+    pub fault_cell : faulty edges n k ≡ eqb (cell rows u v) 1
+    fault_cell =
+        fault_linked n edges k no_bad_end (omega (arith, eu, hu))
+        ∙ sym (table_has (linked n edges k) t u v (omega arith) (omega arith) ∙ ap₂ (linked n edges k) eu ev)
+
+    -- the rows with both its cells set
+    pub table_more : length rows ≡ 4096 → Table (with_bit (with_bit rows (u * 512 + v)) (v * 512 + u)) (linked n edges (k + 1))
+    table_more long = rw (eu, ev) (linked_more n edges k (omega arith) (omega arith) long t)
+
 -- ---- what adding the edges tells
 module _ (edges : List ℕ) (n m k : ℕ) (none : T (not (any k (faulty edges n)))) where
-  pub added_no : (rows sizes : List ℕ) → k < m → faulty edges n k ≡ true → Added edges n m k rows sizes
+  pub added_no : (rows sizes : List ℕ) → k < m → faulty edges n k ≡ true → Added edges n m (Some k) rows sizes
   added_no rows sizes h e = record {
-    first = scan_found m (faulty edges n) k h none e;
-    table = λ l. absurd (omega arith);
-    counted = λ l. absurd (omega arith);
+    first = first_found m (faulty edges n) k h none e;
+    table = λ l. absurd cc;
+    counted = λ l. absurd cc;
   }
 
-  pub added_yes : {rows sizes : List ℕ} → k ≡ m → Table rows (linked n edges k) → Counted rows sizes → Added edges n m k rows sizes
+  pub added_yes : {rows sizes : List ℕ} → k ≡ m → Table rows (linked n edges k) → Counted rows sizes → Added edges n m None rows sizes
   added_yes {rows} {sizes} e t c = record {
-    first = scan_ended m (faulty edges n) k e none;
+    first = first_ended m (faulty edges n) k e none;
     table = λ l. subst (λ (j : ℕ). Table rows (linked n edges j)) e t;
     counted = λ l. c;
   }

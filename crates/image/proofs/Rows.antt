@@ -1,6 +1,6 @@
 -- Tables of rows of bits, and the sizes of the rows. A bit more in a row is one more in its size, and changes no other row.
 --
---     cleared_room, _bit, _counted  a cleared table has room and no bit, and its sizes are those of its rows
+--     cleared_bit, cleared_counted  a cleared table has no bit, and its sizes are those of its rows
 --     counted_add                   the sizes with a bit more
 --     row_most                      no size is above 512
 --     zero_is                       a bit that the test for it tells to be 0
@@ -12,7 +12,7 @@ use mathlib.Core.Path.{◌≡◌, refl, sym, ap, ◌∙◌, subst}
 use mathlib.Core.Bool.{Bool, true, false, not}
 use mathlib.Core.List.{List}
 use lib.Dec.{T, eqb, T_not}
-use lib.ListN.{length, get_or, set, length-replicate, get_or-replicate}
+use lib.ListN.{get_or, set, get_or-replicate}
 use lib.Seq.{get_or-set_same, get_or-set_other}
 use Rattle.sets.specs.Below.{bit, sum}
 use Rattle.sets.specs.Bits.{bit_at, cell, with_bit}
@@ -21,9 +21,6 @@ use Rattle.sets.proofs.Counting.{sum_cong, sum_le, sum_zero, sum_const}
 use Rattle.sets.proofs.Bits.{bit_at_lt, bit_at_zeros, bit_at_set_same, bit_at_set_other, sum_drop}
 use Rattle.sets.specs.Rows.{Table, Counted}
 use Rattle.image.specs.Rows.{Room, Cleared}
-
-pub cleared_room : {rows sizes : List ℕ} → Cleared rows sizes → Room rows sizes
-cleared_room e = (ap length e.0 ∙ length-replicate {A = ℕ} 4096 0, ap length e.1 ∙ length-replicate {A = ℕ} 512 0)
 
 pub cleared_bit : {rows sizes : List ℕ} → Cleared rows sizes → (i : ℕ) → bit_at rows i ≡ 0
 cleared_bit e i = ap (λ (ws : List ℕ). bit_at ws i) e.0 ∙ bit_at_zeros 4096 i

@@ -6,16 +6,16 @@
 // (a record is the slice of its table that it is read from).
 #![tactic(auto)]
 
-ghost use Rattle.std.specs.Prelude.{◌≡◌, ◌&&◌, ◌+◌, ◌*◌, ◌≤◌, ◌<◌, ltb, eqb, length, take, drop, Ok, Err};
-ghost use Rattle.sets.specs.Below.{find};
+ghost use Rattle.std.specs.Prelude.{◌≡◌, ℕ, ◌&&◌, ◌+◌, ◌*◌, ◌≤◌, ◌<◌, true, false, ltb, eqb, length, take, drop, Ok, MatchResult};
 ghost use Rattle.sets.specs.Bits.{cell, with_bit};
-ghost use Rattle.sets.specs.Rows.{table_words, Table, Counted};
+ghost use Rattle.sets.specs.Rows.{Table, Counted};
 ghost use Rattle.fields.specs.Fields.{handset_bytes, edge_bytes};
-ghost use Rattle.image.specs.Image.{header_of, end_a, end_b};
-ghost use Rattle.image.specs.Questions.{tables_fit, ask, ask_edges, ask_records, ask_header, ask_image, open_of};
+ghost use Rattle.limits.specs.Limits.{out_of_limits};
+ghost use Rattle.image.specs.Image.{header_of, handset_record, end_a, end_b};
+ghost use Rattle.image.specs.Questions.{tables_fit, bad_end, is_loop, ask_edges, ask_records, ask_header, ask_image, open_of};
 ghost use Rattle.image.specs.Answers.{open_answer};
-ghost use Rattle.image.specs.Rows.{Room, Cleared, related, Held, Reading};
-ghost use Rattle.image.specs.ForProofs.{bad_record, Stand, linked, Added};
+ghost use Rattle.image.specs.Rows.{Cleared, related, Held, Reading};
+ghost use Rattle.image.specs.ForProofs.{NoneBad, FirstBad, linked, Added};
 
 // The header's numbers as they stand: `limit` is G, a blank `mu` is still 0 (`fields::core_size`), and `width` is that of a handset's record.
 #[derive(Clone, Copy)]
@@ -62,43 +62,60 @@ fn tables_fit(h: Header) -> bool
     ensures { result ≡ tables_fit h }
 {
     let front = fields::HEADER_BYTES as u64;
-    let a = h.handsets as u64;
-    let b = h.edges as u64;
-    let len = h.len as u64;
-    let a_end = a + (fields::HANDSET_BYTES as u64) * (h.n as u64);
-    let b_end = b + (fields::EDGE_BYTES as u64) * (h.m as u64);
-    (front <= a)
-        & ((front <= b) & ((a_end <= len) & ((b_end <= len) & ((a_end <= b) | (b_end <= a)))))
-}
-
-// The answer of a no.
-fn refused(number: u32, place: usize) -> Result<Header, Refusal>
-    ensures { result ≡ Err (record { number = number; place = place }) }
-{
-    Err(Refusal { number, place })
+    let a = u64::from(h.handsets);
+    let b = u64::from(h.edges);
+    let len = u64::from(h.len);
+    let a_end = a + (fields::HANDSET_BYTES as u64) * u64::from(h.n);
+    let b_end = b + (fields::EDGE_BYTES as u64) * u64::from(h.m);
+    front <= a && front <= b && a_end <= len && b_end <= len && (a_end <= b || b_end <= a)
 }
 
 // A question: a yes goes on, a no is the refusal with its number and place.
-fn put_question(
-    yes: bool,
-    number: u32,
-    place: usize,
-    next: Result<Header, Refusal>,
-) -> Result<Header, Refusal>
-    ensures { result ≡ ask yes number place next }
+fn ask(yes: bool, number: u32, place: usize) -> Result<(), Refusal>
+    ensures { MatchResult result (λ u. yes ≡ true) (λ r. (yes ≡ false) × (r ≡ record { number = number; place = place })) }
 {
-    if yes { next } else { refused(number, place) }
+    if yes {
+        Ok(())
+    } else {
+        Err(Refusal { number, place })
+    }
+}
+
+// A question to each of `count` records: its no is at the first bad one.
+fn ask_each<F: Fn(usize) -> bool>(count: usize, number: u32, is_bad: F) -> Result<(), Refusal>
+    requires { (k : ℕ) → k < count → F.pre is_bad k }
+    ensures { MatchResult result (λ u. NoneBad (F.post is_bad) count) (λ r. FirstBad (F.post is_bad) count number r) }
+{
+    for k in 0..count {
+        ask(!is_bad(k), number, k)?;
+    }
+    Ok(())
 }
 
 // Questions 3 to 6, of the header alone.
 fn ask_header(h: Header) -> Result<Header, Refusal>
     ensures { result ≡ ask_header h (Ok h) }
 {
-    let q6 = put_question(tables_fit(h), 6, 0, Ok(h));
-    let thresholds = limits::thresholds_fit(h.limit, h.p as u64, h.q as u64, h.mu as u64);
-    let q5 = put_question(thresholds, 5, 0, q6);
-    let q4 = put_question(limits::width_fits(h.width), 4, 0, q5);
-    put_question(limits::counts_fit(h.n as u64, h.m as u64), 3, 0, q4)
+    ask(limits::counts_fit(u64::from(h.n), u64::from(h.m)), 3, 0)?;
+    ask(limits::width_fits(h.width), 4, 0)?;
+    let mu = u64::from(h.mu);
+    ask(
+        limits::thresholds_fit(h.limit, u64::from(h.p), u64::from(h.q), mu),
+        5,
+        0,
+    )?;
+    ask(tables_fit(h), 6, 0)?;
+    Ok(h)
+}
+
+// Whether question 7 fails for handset v, whose record is there.
+fn is_out_of_limits(records: &[u8], v: usize) -> bool
+    requires { handset_bytes * (v + 1) ≤ length records.now }
+    ensures { result ≡ out_of_limits (handset_record records.now v) }
+{
+    let at = fields::HANDSET_BYTES * v;
+    let past = at + fields::HANDSET_BYTES;
+    limits::out_of_limits(&records[at..past])
 }
 
 // The ends of edge k, whose record is there.
@@ -111,91 +128,66 @@ fn ends_at(records: &[u8], k: usize) -> fields::Ends
     fields::read_ends(&records[at..past])
 }
 
-// Whether question 7, 8 or 9 fails for record k.
-fn is_bad_record(question: u32, records: &[u8], n: usize, k: usize) -> bool
-    requires { Stand question records.now (k + 1) }
-    ensures { result ≡ bad_record question records.now n k }
+// Whether question 8 fails for edge k, whose record is there: an end is no handset.
+fn has_bad_end(records: &[u8], n: usize, k: usize) -> bool
+    requires { edge_bytes * (k + 1) ≤ length records.now }
+    ensures { result ≡ bad_end records.now n k }
 {
-    if question == 7 {
-        let at = fields::HANDSET_BYTES * k;
-        let past = at + fields::HANDSET_BYTES;
-        return limits::out_of_limits(&records[at..past]);
-    }
     let e = ends_at(records, k);
-    if question == 8 {
-        return !((e.a < n) & (e.b < n));
-    }
+    e.a >= n || e.b >= n
+}
+
+// Whether question 9 fails for edge k, whose record is there: its ends are the same.
+fn is_loop(records: &[u8], k: usize) -> bool
+    requires { edge_bytes * (k + 1) ≤ length records.now }
+    ensures { result ≡ is_loop records.now k }
+{
+    let e = ends_at(records, k);
     e.a == e.b
 }
 
-// The first of the first `count` records for which the question fails, or `count` where there is none.
-fn first_bad(question: u32, records: &[u8], count: usize, n: usize) -> usize
-    requires { Stand question records.now count }
-    ensures { result ≡ find count (bad_record question records.now n) }
-{
-    let mut k: usize = 0;
-    while k < count {
-        if is_bad_record(question, records, n, k) {
-            return k;
-        }
-        k += 1;
-    }
-    k
-}
-
-// Whether v is in row u.
-fn row_has(rows: &[u64], u: usize, v: usize) -> bool
-    requires { (u < 512) × (v < 512) × (length rows.now ≡ table_words) }
-    ensures { result ≡ eqb (cell rows.now u v) 1 }
-{
-    let i = u * 512 + v;
-    (rows[i / 64] >> (i % 64)) % 2 == 1
-}
-
 // Adds v to row u, which does not have it.
-fn add(rows: &mut [u64], sizes: &mut [u32], u: usize, v: usize)
-    requires { (u < 512) × (v < 512) × (Room rows.old sizes.old) × (Counted rows.old sizes.old) × (cell rows.old u v ≡ 0) }
+fn add(rows: &mut sets::Table, sizes: &mut [u32; 512], u: usize, v: usize)
+    requires { (u < 512) × (v < 512) × (Counted rows.old sizes.old) × (cell rows.old u v ≡ 0) }
     ensures added { rows.new ≡ with_bit rows.old (u * 512 + v) }
     ensures counted { Counted rows.new sizes.new }
 {
-    sizes[u] = sizes[u] + 1;
-    let i = u * 512 + v;
-    rows[i / 64] = rows[i / 64] | (1u64 << (i % 64));
+    sizes[u] += 1;
+    sets::mark(rows, u * 512 + v);
 }
 
 // Adds each of the first n handsets to its own row of a cleared table.
-fn add_selves(rows: &mut [u64], sizes: &mut [u32], n: usize)
+fn add_selves(rows: &mut sets::Table, sizes: &mut [u32; 512], n: usize)
     requires { (n ≤ 512) × (Cleared rows.old sizes.old) }
     ensures added { Table rows.new (λ u v. ltb u n && eqb u v) }
     ensures counted { Counted rows.new sizes.new }
 {
-    let mut u: usize = 0;
-    while u < n {
+    for u in 0..n {
         add(rows, sizes, u, u);
-        u += 1;
     }
 }
 
-// Adds the ends of each edge to each other's rows, up to the first edge at fault for question 8, 9 or 10, whose number it gives, or m where there is
-// none. A row that has an end already says that the edge is a loop or a repeat.
-fn add_edges(records: &[u8], m: usize, n: usize, rows: &mut [u64], sizes: &mut [u32]) -> usize
-    requires { (n ≤ 512) × (edge_bytes * m ≤ length records.now) × (Room rows.old sizes.old) × (Table rows.old (λ u v. ltb u n && eqb u v)) × (Counted rows.old sizes.old) }
+// Adds the ends of each edge to each other's rows, up to the first edge at fault for question 8, 9 or 10, whose number it gives. A row that has an end
+// already says that the edge is a loop or a repeat.
+fn add_edges(
+    records: &[u8],
+    m: usize,
+    n: usize,
+    rows: &mut sets::Table,
+    sizes: &mut [u32; 512],
+) -> Option<usize>
+    requires { (n ≤ 512) × (edge_bytes * m ≤ length records.now) × (Table rows.old (λ u v. ltb u n && eqb u v)) × (Counted rows.old sizes.old) }
     ensures { Added records.now n m result rows.new sizes.new }
 {
-    let mut k: usize = 0;
-    while k < m {
+    for k in 0..m {
         let e = ends_at(records, k);
-        if !((e.a < n) & (e.b < n)) {
-            return k;
-        }
-        if row_has(rows, e.a, e.b) {
-            return k;
+        if e.a >= n || e.b >= n || sets::has(rows, e.a * 512 + e.b) {
+            return Some(k);
         }
         add(rows, sizes, e.a, e.b);
         add(rows, sizes, e.b, e.a);
-        k += 1;
     }
-    k
+    None
 }
 
 // Questions 8 to 10, each to every edge before the next. Where no edge is at fault, one pass says so; where an edge is, but none for 8 or 9, it is the
@@ -203,28 +195,25 @@ fn add_edges(records: &[u8], m: usize, n: usize, rows: &mut [u64], sizes: &mut [
 fn ask_edges(
     records: &[u8],
     h: Header,
-    rows: &mut [u64],
-    sizes: &mut [u32],
+    rows: &mut sets::Table,
+    sizes: &mut [u32; 512],
 ) -> Result<Header, Refusal>
     requires { (h.n ≤ 512) × (edge_bytes * h.m ≤ length records.now) × (Cleared rows.old sizes.old) }
     ensures answer { result ≡ ask_edges records.now h }
     ensures held { Held (linked h.n records.now h.m) result rows.new sizes.new }
 {
-    let m = h.m as usize;
-    add_selves(rows, sizes, h.n as usize);
-    let fault = add_edges(records, m, h.n as usize, rows, sizes);
-    if m <= fault {
+    let n = usize::from(h.n);
+    let m = usize::from(h.m);
+    add_selves(rows, sizes, n);
+    let Some(fault) = add_edges(records, m, n, rows, sizes) else {
         return Ok(h);
-    }
-    let bad = first_bad(8, records, m, h.n as usize);
-    if bad < m {
-        return refused(8, bad);
-    }
-    let own = first_bad(9, records, m, h.n as usize);
-    if own < m {
-        return refused(9, own);
-    }
-    refused(10, fault)
+    };
+    ask_each(m, 8, |k| has_bad_end(records, n, k))?;
+    ask_each(m, 9, |k| is_loop(records, k))?;
+    Err(Refusal {
+        number: 10,
+        place: fault,
+    })
 }
 
 // Questions 7 to 10, of the two tables of records.
@@ -232,17 +221,14 @@ fn ask_records(
     handsets: &[u8],
     edges: &[u8],
     h: Header,
-    rows: &mut [u64],
-    sizes: &mut [u32],
+    rows: &mut sets::Table,
+    sizes: &mut [u32; 512],
 ) -> Result<Header, Refusal>
     requires { (h.n ≤ 512) × (handset_bytes * h.n ≤ length handsets.now) × (edge_bytes * h.m ≤ length edges.now) × (Cleared rows.old sizes.old) }
     ensures answer { result ≡ ask_records handsets.now edges.now h }
     ensures held { Held (linked h.n edges.now h.m) result rows.new sizes.new }
 {
-    let far = first_bad(7, handsets, h.n as usize, h.n as usize);
-    if far < h.n as usize {
-        return refused(7, far);
-    }
+    ask_each(usize::from(h.n), 7, |v| is_out_of_limits(handsets, v))?;
     ask_edges(edges, h, rows, sizes)
 }
 
@@ -250,17 +236,17 @@ fn ask_records(
 fn ask_tables(
     image: &[u8],
     h: Header,
-    rows: &mut [u64],
-    sizes: &mut [u32],
+    rows: &mut sets::Table,
+    sizes: &mut [u32; 512],
 ) -> Result<Header, Refusal>
     requires { (h.n ≤ 512) × (h.handsets + handset_bytes * h.n ≤ length image.now) × (h.edges + edge_bytes * h.m ≤ length image.now) × (Cleared rows.old sizes.old) }
     ensures answer { result ≡ ask_records (take (handset_bytes * h.n) (drop h.handsets image.now)) (take (edge_bytes * h.m) (drop h.edges image.now)) h }
     ensures held { Held (linked h.n (take (edge_bytes * h.m) (drop h.edges image.now)) h.m) result rows.new sizes.new }
 {
     let a = h.handsets as usize;
-    let a_end = a + fields::HANDSET_BYTES * (h.n as usize);
+    let a_end = a + fields::HANDSET_BYTES * usize::from(h.n);
     let b = h.edges as usize;
-    let b_end = b + fields::EDGE_BYTES * (h.m as usize);
+    let b_end = b + fields::EDGE_BYTES * usize::from(h.m);
     ask_records(&image[a..a_end], &image[b..b_end], h, rows, sizes)
 }
 
@@ -268,26 +254,23 @@ fn ask_tables(
 fn open_header(image: &[u8]) -> Result<Header, Refusal>
     ensures { result ≡ ask_image image.now (Ok (header_of image.now)) }
 {
-    if image.len() < fields::HEADER_BYTES {
-        return refused(1, 0);
-    }
+    ask(image.len() >= fields::HEADER_BYTES, 1, 0)?;
     let h = read_header(image);
-    if h.len as usize != image.len() {
-        return refused(2, 0);
-    }
+    ask(h.len as usize == image.len(), 2, 0)?;
     ask_header(h)
 }
 
 // Puts questions 1 to 10 to an image, in order, and stops at the first no. After a yes the cleared table that is lent has the rows of all edges.
-fn read_image(image: &[u8], rows: &mut [u64], sizes: &mut [u32]) -> Result<Header, Refusal>
+fn read_image(
+    image: &[u8],
+    rows: &mut sets::Table,
+    sizes: &mut [u32; 512],
+) -> Result<Header, Refusal>
     requires { Cleared rows.old sizes.old }
     ensures answer { result ≡ open_of image.now }
     ensures held { Held (related image.now) result rows.new sizes.new }
 {
-    let checked = open_header(image);
-    let Ok(h) = checked else {
-        return checked;
-    };
+    let h = open_header(image)?;
     ask_tables(image, h, rows, sizes)
 }
 
@@ -303,11 +286,10 @@ pub fn open_rows(
     *rows = [0u64; sets::TABLE_WORDS];
     *sizes = [0u32; 512];
     let answer = read_image(image, rows, sizes);
-    let Err(_) = answer else {
-        return answer;
-    };
-    *rows = [0u64; sets::TABLE_WORDS];
-    *sizes = [0u32; 512];
+    if answer.is_err() {
+        *rows = [0u64; sets::TABLE_WORDS];
+        *sizes = [0u32; 512];
+    }
     answer
 }
 

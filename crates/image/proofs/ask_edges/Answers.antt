@@ -1,39 +1,35 @@
--- `image::ask_edges` meets its contract. Where the pass comes to the end, no edge is at fault, and the table has them all. Where it does not, a scan for
--- question 8 or 9 that stops before the end is the refusal, and else the first fault is the first repeat.
+-- `image::ask_edges` meets its contract. Where the pass comes to the end, no edge is at fault, and the table has them all. Where it does not, the first no to
+-- question 8 or 9 is the refusal, and else the first fault is the first repeat.
+use Rattle.std.proofs.Common.{rules}
+use native.Mathlib.Omega.{arith}
 use mathlib.Core.Path.{sym, ◌∙◌}
-use Rattle.image.specs.Questions.{ask_edges}
-use Rattle.image.proofs.Scanning.{end_found, loop_found, each_no, each_yes, each_passed}
-use Rattle.image.proofs.Faults.{edges_yes, edges_repeat, held_no, held_yes}
+use Rattle.std.proofs.lemmas.Result.{err_from_is_err_and}
+use Rattle.image.specs.Questions.{bad_end, ask_edges}
+use Rattle.image.proofs.Scanning.{each_no, each_yes}
+use Rattle.image.proofs.Faults.{edges_yes, edges_repeat}
 use Rattle.image.proofs.ask_edges.Goals as goal
 
-pub returns-then-m-fault : goal.returns-then-m-fault
-returns-then-m-fault c =
-    record {
-      answer = sym (edges_yes c.args.records.now c.args.h c.add_edges-fault.result c.add_edges-fault.ensures.first c.if-m-fault.true);
-      held = held_yes c.add_edges-fault.ensures c.if-m-fault.true;
-    }
+pub returns-in_default-clause-answer : goal.returns-in_default-clause-answer
+returns-in_default-clause-answer c = sym (edges_yes c.args.records.now c.args.h (rw (c.from-m.ensures, c.from-n.ensures) at c.in_default.ensures.first))
 
-pub returns-then-bad-m : goal.returns-then-bad-m
+pub returns-in_err-ask_each-clause-answer : goal.returns-in_err-ask_each-clause-answer
 unfolding ask_edges
-returns-then-bad-m c =
-    record {
-      answer = c.refused.ensures ∙ sym (each_no _ _ _ (end_found c.args.records.now c.args.h.n c.args.h.m c.first_bad-bad.result c.first_bad-bad.ensures) 8 _ c.if-bad-m.true);
-      held = held_no _ c.refused.ensures;
-    }
+returns-in_err-ask_each-clause-answer c =
+    let p = err_from_is_err_and c.from_residual.result c.from_residual.ensures.1 in
+    let e = c.in_err-ask_each.ensures in
+    rw (p.1, p.2) (sym (each_no _ _ _ _ _ e.0 (rw c.from-m.ensures at e.1) (search rules) (λ k h. let q = e.3 k h in search rules)))
 
-pub returns-then-own-m : goal.returns-then-own-m
+pub returns-in_err-ask_each-2-clause-answer : goal.returns-in_err-ask_each-2-clause-answer
 unfolding ask_edges
-returns-then-own-m c =
-    record {
-      answer = c.refused-then-own-m.ensures ∙ sym ((each_yes _ _ _ (end_found c.args.records.now c.args.h.n c.args.h.m c.first_bad-bad.result c.first_bad-bad.ensures) 8 _ c.if-bad-m.false) ∙ each_no _ _ _ (loop_found c.args.records.now c.args.h.n c.args.h.m c.first_bad-own.result c.first_bad-own.ensures) 9 _ c.if-own-m.true);
-      held = held_no _ c.refused-then-own-m.ensures;
-    }
+returns-in_err-ask_each-2-clause-answer c =
+    let p = err_from_is_err_and c.from_residual-in_err-ask_each-2.result c.from_residual-in_err-ask_each-2.ensures.1 in
+    let e = c.in_err-ask_each-2.ensures in
+    rw (p.1, p.2)
+    (sym (each_yes c.args.h.m (bad_end c.args.records.now c.args.h.n) 8 _ (λ k h. let q = c.in_ok-ask_each.ensures k (omega (arith, h, c.from-m.ensures)) in search rules)
+    ∙ each_no _ _ _ _ _ e.0 (rw c.from-m.ensures at e.1) (search rules) (λ k h. let q = e.3 k h in search rules)))
 
-pub returns : goal.returns
-returns c =
-    record {
-      answer = c.refused-2.ensures
-          ∙ sym (edges_repeat c.args.records.now c.args.h c.add_edges-fault.result c.add_edges-fault.ensures.first c.if-m-fault.false
-          (each_passed _ _ _ (end_found c.args.records.now c.args.h.n c.args.h.m c.first_bad-bad.result c.first_bad-bad.ensures) c.if-bad-m.false) (each_passed _ _ _ (loop_found c.args.records.now c.args.h.n c.args.h.m c.first_bad-own.result c.first_bad-own.ensures) c.if-own-m.false));
-      held = held_no _ c.refused-2.ensures;
-    }
+pub returns-clause-answer : goal.returns-clause-answer
+returns-clause-answer c =
+    sym (edges_repeat c.args.records.now c.args.h c.in-Some.fault (rw (c.from-m.ensures, c.from-n.ensures) at c.in-Some.ensures.first)
+    (λ k h. let q = c.in_ok-ask_each.ensures k (omega (arith, h, c.from-m.ensures)) in search rules)
+    (λ k h. let q = c.in_ok-ask_each-2.ensures k (omega (arith, h, c.from-m.ensures)) in search rules))

@@ -1,19 +1,25 @@
--- `image::ask_header` meets its contract: each question is asked of what the questions after it answer.
-use Rattle.std.specs.Prelude.{Ok, Result}
-use mathlib.Core.Path.{ap, ap₂, ◌∙◌}
-use mathlib.Core.Bool.{Bool}
+-- `image::ask_header` meets its contract: the first no is the answer, and after four times yes it is the header.
+use Rattle.std.proofs.Common.{rules}
+use Rattle.std.proofs.lemmas.Result.{err_from_is_err_and}
 use Rattle.image.specs.Questions.{ask, ask_header}
-use Rattle.image.specs.declared.Header.{Header}
-use Rattle.image.specs.declared.Refusal.{Refusal}
 use Rattle.image.proofs.ask_header.Goals as goal
 
+pub returns-in_err-ask : goal.returns-in_err-ask
+unfolding ask_header ask
+returns-in_err-ask c = let p = err_from_is_err_and c.from_residual.result c.from_residual.ensures.1 in rw (p.1, p.2, c.in_err-ask.ensures.1) (search rules)
+
+pub returns-in_err-ask-2 : goal.returns-in_err-ask-2
+unfolding ask_header ask
+returns-in_err-ask-2 c = let p = err_from_is_err_and c.from_residual-in_err-ask-2.result c.from_residual-in_err-ask-2.ensures.1 in rw (p.1, p.2, c.in_err-ask-2.ensures.1) (search rules)
+
+pub returns-in_err-ask-3 : goal.returns-in_err-ask-3
+unfolding ask_header ask
+returns-in_err-ask-3 c = let p = err_from_is_err_and c.from_residual-in_err-ask-3.result c.from_residual-in_err-ask-3.ensures.1 in rw (p.1, p.2, c.in_err-ask-3.ensures.1) (search rules)
+
+pub returns-in_err-ask-4 : goal.returns-in_err-ask-4
+unfolding ask_header ask
+returns-in_err-ask-4 c = let p = err_from_is_err_and c.from_residual-in_err-ask-4.result c.from_residual-in_err-ask-4.ensures.1 in rw (p.1, p.2, c.in_err-ask-4.ensures.1) (search rules)
+
 pub returns : goal.returns
-unfolding ask_header
-returns c =
-    c.put_question.ensures
-    ∙ ap₂ (λ (b : Bool) (x : Result Header Refusal). ask b 3 0 x) c.counts_fit.ensures
-    (c.put_question-q4.ensures
-    ∙ ap₂ (λ (b : Bool) (x : Result Header Refusal). ask b 4 0 x) c.width_fits.ensures
-    (c.put_question-q5.ensures
-    ∙ ap₂ (λ (b : Bool) (x : Result Header Refusal). ask b 5 0 x) c.thresholds_fit-thresholds.ensures
-    (c.put_question-q6.ensures ∙ ap (λ (b : Bool). ask b 6 0 (Ok c.args.h)) c.tables_fit.ensures)))
+unfolding ask_header ask
+returns c = search rules

@@ -1,16 +1,17 @@
--- `image::open_header` meets its contract. Questions 1 and 2 are the two tests, and then the header is what questions 3 to 6 are put to.
-use mathlib.Core.Path.{sym, ap, ◌∙◌}
-use Rattle.image.specs.declared.Header.{Header}
-use Rattle.image.proofs.Acceptance.{header_short, header_other, header_on}
+-- `image::open_header` meets its contract: the first no is the answer, and after a yes to 1 and 2 it is what questions 3 to 6 are put to.
+use Rattle.std.proofs.Common.{rules}
+use Rattle.std.proofs.lemmas.Result.{err_from_is_err_and}
+use Rattle.image.specs.Questions.{ask, ask_image}
 use Rattle.image.proofs.open_header.Goals as goal
 
-pub returns-then-image-lt-HEADER_BYTES : goal.returns-then-image-lt-HEADER_BYTES
-returns-then-image-lt-HEADER_BYTES c = c.refused.ensures ∙ sym (header_short c.args.image.now _ c.if-image-lt-HEADER_BYTES.true)
+pub returns-in_err-ask : goal.returns-in_err-ask
+unfolding ask_image ask
+returns-in_err-ask c = let p = err_from_is_err_and c.from_residual.result c.from_residual.ensures.1 in rw (p.1, p.2, c.in_err-ask.ensures.1) (search rules)
 
-pub returns-then-h-image : goal.returns-then-h-image
-returns-then-h-image c = c.refused-then-h-image.ensures ∙ sym (header_other c.args.image.now c.if-image-lt-HEADER_BYTES.false _ (λ e. c.if-h-image.true (ap (λ (x : Header). x.len) c.read_header-h.ensures ∙ e)))
+pub returns-in_err-ask-2 : goal.returns-in_err-ask-2
+unfolding ask_image ask
+returns-in_err-ask-2 c = let p = err_from_is_err_and c.from_residual-in_err-ask-2.result c.from_residual-in_err-ask-2.ensures.1 in rw (p.1, p.2, c.in_err-ask-2.ensures.1) (search rules)
 
 pub returns : goal.returns
-returns c =
-    c.ask_header.ensures
-    ∙ sym (header_on c.args.image.now c.if-image-lt-HEADER_BYTES.false c.read_header-h.result c.read_header-h.ensures c.if-h-image.false)
+unfolding ask_image ask
+returns c = search rules
