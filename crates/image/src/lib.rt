@@ -13,7 +13,7 @@ ghost use Rattle.fields.specs.Fields.{handset_bytes, edge_bytes};
 ghost use Rattle.limits.specs.Limits.{out_of_limits};
 ghost use Rattle.image.specs.Image.{header_of, handset_record, end_a, end_b};
 ghost use Rattle.image.specs.Questions.{tables_fit, bad_end, is_loop, ask_edges, ask_records, ask_header, ask_image, open_of};
-ghost use Rattle.image.specs.Answers.{open_answer};
+ghost use Rattle.image.specs.Answers.{open_answer, number_of, refusal};
 ghost use Rattle.image.specs.Rows.{Cleared, related, Held, Reading};
 ghost use Rattle.image.specs.ForProofs.{NoneBad, FirstBad, linked, Added};
 
@@ -32,11 +32,55 @@ pub struct Header {
     pub width: u16,
 }
 
-// The paper's number and place.
+// The questions that a call may answer with a no, each by what it asks about; its number is the one that C gets.
+#[derive(Clone, Copy, PartialEq, Eq)]
+pub enum Question {
+    Header = 1,
+    Length = 2,
+    Counts = 3,
+    Width = 4,
+    Thresholds = 5,
+    Tables = 6,
+    Coordinates = 7,
+    Ends = 8,
+    Loops = 9,
+    Repeats = 10,
+    StartTable = 11,
+    MemberTable = 12,
+    Handset = 13,
+    Group = 14,
+    Input = 15,
+    Text = 16,
+    Point = 17,
+    Date = 18,
+    Minutes = 19,
+    Buffer = 20,
+}
+
+// The number of the question that got a no, and a place. A number and not the question: where nothing is refused it is 0 (`refusals::refusal_of`).
 #[derive(Clone, Copy)]
 pub struct Refusal {
     pub number: u32,
     pub place: usize,
+}
+
+impl Question {
+    // The refusal of a no at a place.
+    pub fn refused_at(self, place: usize) -> Refusal
+        ensures { result ≡ record { number = number_of self; place = place } }
+    {
+        Refusal {
+            number: self as u32,
+            place,
+        }
+    }
+
+    // The refusal of a no that names no place.
+    pub fn refused(self) -> Refusal
+        ensures { result ≡ refusal (number_of self) }
+    {
+        self.refused_at(0)
+    }
 }
 
 // The header's numbers as they stand; 0 for one that is not there.
@@ -71,23 +115,23 @@ fn tables_fit(h: Header) -> bool
 }
 
 // A question: a yes goes on, a no is the refusal with its number and place.
-fn ask(yes: bool, number: u32, place: usize) -> Result<(), Refusal>
-    ensures { MatchResult result (λ u. yes ≡ true) (λ r. (yes ≡ false) × (r ≡ record { number = number; place = place })) }
+fn ask(yes: bool, question: Question, place: usize) -> Result<(), Refusal>
+    ensures { MatchResult result (λ u. yes ≡ true) (λ r. (yes ≡ false) × (r ≡ record { number = number_of question; place = place })) }
 {
     if yes {
         Ok(())
     } else {
-        Err(Refusal { number, place })
+        Err(question.refused_at(place))
     }
 }
 
 // A question to each of `count` records: its no is at the first bad one.
-fn ask_each<F: Fn(usize) -> bool>(count: usize, number: u32, is_bad: F) -> Result<(), Refusal>
+fn ask_each<F: Fn(usize) -> bool>(count: usize, question: Question, is_bad: F) -> Result<(), Refusal>
     requires { (k : ℕ) → k < count → F.pre is_bad k }
-    ensures { MatchResult result (λ u. NoneBad (F.post is_bad) count) (λ r. FirstBad (F.post is_bad) count number r) }
+    ensures { MatchResult result (λ u. NoneBad (F.post is_bad) count) (λ r. FirstBad (F.post is_bad) count (number_of question) r) }
 {
     for k in 0..count {
-        ask(!is_bad(k), number, k)?;
+        ask(!is_bad(k), question, k)?;
     }
     Ok(())
 }
@@ -96,15 +140,15 @@ fn ask_each<F: Fn(usize) -> bool>(count: usize, number: u32, is_bad: F) -> Resul
 fn ask_header(h: Header) -> Result<Header, Refusal>
     ensures { result ≡ ask_header h (Ok h) }
 {
-    ask(limits::counts_fit(u64::from(h.n), u64::from(h.m)), 3, 0)?;
-    ask(limits::width_fits(h.width), 4, 0)?;
+    ask(limits::counts_fit(u64::from(h.n), u64::from(h.m)), Question::Counts, 0)?;
+    ask(limits::width_fits(h.width), Question::Width, 0)?;
     let mu = u64::from(h.mu);
     ask(
         limits::thresholds_fit(h.limit, u64::from(h.p), u64::from(h.q), mu),
-        5,
+        Question::Thresholds,
         0,
     )?;
-    ask(tables_fit(h), 6, 0)?;
+    ask(tables_fit(h), Question::Tables, 0)?;
     Ok(h)
 }
 
@@ -208,12 +252,9 @@ fn ask_edges(
     let Some(fault) = add_edges(records, m, n, rows, sizes) else {
         return Ok(h);
     };
-    ask_each(m, 8, |k| has_bad_end(records, n, k))?;
-    ask_each(m, 9, |k| is_loop(records, k))?;
-    Err(Refusal {
-        number: 10,
-        place: fault,
-    })
+    ask_each(m, Question::Ends, |k| has_bad_end(records, n, k))?;
+    ask_each(m, Question::Loops, |k| is_loop(records, k))?;
+    Err(Question::Repeats.refused_at(fault))
 }
 
 // Questions 7 to 10, of the two tables of records.
@@ -228,7 +269,7 @@ fn ask_records(
     ensures answer { result ≡ ask_records handsets.now edges.now h }
     ensures held { Held (linked h.n edges.now h.m) result rows.new sizes.new }
 {
-    ask_each(usize::from(h.n), 7, |v| is_out_of_limits(handsets, v))?;
+    ask_each(usize::from(h.n), Question::Coordinates, |v| is_out_of_limits(handsets, v))?;
     ask_edges(edges, h, rows, sizes)
 }
 
@@ -254,9 +295,9 @@ fn ask_tables(
 fn open_header(image: &[u8]) -> Result<Header, Refusal>
     ensures { result ≡ ask_image image.now (Ok (header_of image.now)) }
 {
-    ask(image.len() >= fields::HEADER_BYTES, 1, 0)?;
+    ask(image.len() >= fields::HEADER_BYTES, Question::Header, 0)?;
     let h = read_header(image);
-    ask(h.len as usize == image.len(), 2, 0)?;
+    ask(h.len as usize == image.len(), Question::Length, 0)?;
     ask_header(h)
 }
 
