@@ -126,7 +126,11 @@ fn ask(yes: bool, question: Question, place: usize) -> Result<(), Refusal>
 }
 
 // A question to each of `count` records: its no is at the first bad one.
-fn ask_each<F: Fn(usize) -> bool>(count: usize, question: Question, is_bad: F) -> Result<(), Refusal>
+fn ask_each<F: Fn(usize) -> bool>(
+    count: usize,
+    question: Question,
+    is_bad: F,
+) -> Result<(), Refusal>
     requires { (k : ℕ) → k < count → F.pre is_bad k }
     ensures { MatchResult result (λ u. NoneBad (F.post is_bad) count) (λ r. FirstBad (F.post is_bad) count (number_of question) r) }
 {
@@ -140,7 +144,11 @@ fn ask_each<F: Fn(usize) -> bool>(count: usize, question: Question, is_bad: F) -
 fn ask_header(h: Header) -> Result<Header, Refusal>
     ensures { result ≡ ask_header h (Ok h) }
 {
-    ask(limits::counts_fit(u64::from(h.n), u64::from(h.m)), Question::Counts, 0)?;
+    ask(
+        limits::counts_fit(u64::from(h.n), u64::from(h.m)),
+        Question::Counts,
+        0,
+    )?;
     ask(limits::width_fits(h.width), Question::Width, 0)?;
     let mu = u64::from(h.mu);
     ask(
@@ -269,7 +277,11 @@ fn ask_records(
     ensures answer { result ≡ ask_records handsets.now edges.now h }
     ensures held { Held (linked h.n edges.now h.m) result rows.new sizes.new }
 {
-    ask_each(usize::from(h.n), Question::Coordinates, |v| is_out_of_limits(handsets, v))?;
+    ask_each(
+        usize::from(h.n),
+        Question::Coordinates,
+        |v| is_out_of_limits(handsets, v),
+    )?;
     ask_edges(edges, h, rows, sizes)
 }
 

@@ -116,8 +116,8 @@ fn put_reach(text: &mut Text<'_>, reach: Option<u64>)
     ensures { Writes text.old (reach_text reach) text.new }
 {
     match reach {
-        Some(d) => text.put_decimal(d),
-        None => text.put(b'-'),
+        Some(squared) => text.put_decimal(squared),
+        None => text.put_all(b"-"),
     }
 }
 

@@ -30,6 +30,7 @@ returns-in_err-ask_each-2-clause-answer c =
 
 pub returns-clause-answer : goal.returns-clause-answer
 returns-clause-answer c =
-    sym (edges_repeat c.args.records.now c.args.h c.in-Some.fault (rw (c.from-m.ensures, c.from-n.ensures) at c.in-Some.ensures.first)
+    rw c.refused_at.ensures
+    (sym (edges_repeat c.args.records.now c.args.h c.in-Some.fault (rw (c.from-m.ensures, c.from-n.ensures) at c.in-Some.ensures.first)
     (λ k h. let q = c.in_ok-ask_each.ensures k (omega (arith, h, c.from-m.ensures)) in search rules)
-    (λ k h. let q = c.in_ok-ask_each-2.ensures k (omega (arith, h, c.from-m.ensures)) in search rules))
+    (λ k h. let q = c.in_ok-ask_each-2.ensures k (omega (arith, h, c.from-m.ensures)) in search rules)))

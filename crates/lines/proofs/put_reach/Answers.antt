@@ -8,4 +8,4 @@ returns-in-Some c = rw c.in-Some.is c.put_decimal.ensures
 
 pub returns-in-None : goal.returns-in-None
 unfolding reach_text
-returns-in-None c = rw c.in-None.is c.put.ensures
+returns-in-None c = rw c.in-None.is c.put_all.ensures
