@@ -9,7 +9,7 @@ ghost use Rattle.lookup.specs.Lookup.{members_of, looked_of};
 ghost use Rattle.lookup.specs.Answers.{look_answer};
 ghost use Rattle.lookup.specs.ForProofs.{span_of};
 
-use image::Refusal;
+use image::{Question, Refusal};
 use std::ops::Range;
 
 // The two tables of a plan: the members of group k stand in the member table from start k up to start k + 1.
@@ -50,10 +50,7 @@ impl<'a> Plan<'a> {
     {
         match self.find_span(k) {
             Some(span) => Ok(span.end - span.start),
-            None => Err(Refusal {
-                number: 14,
-                place: 0,
-            }),
+            None => Err(Question::Group.refused()),
         }
     }
 }

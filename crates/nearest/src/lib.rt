@@ -11,7 +11,7 @@ ghost use Rattle.community.specs.Site.{communities_of};
 ghost use Rattle.nearest.specs.Nearest.{nearest_in, nearest_of, nearest_answer};
 ghost use Rattle.nearest.specs.ForProofs.{wrapped, Closest, Takes, TakesWord, RowsFilled, PointHeld};
 
-use image::{Header, Refusal};
+use image::{Header, Question, Refusal};
 
 // The nearest group: its number, and the squared distance of its nearest member.
 #[derive(Clone, Copy)]
@@ -144,8 +144,5 @@ pub fn nearest_group(image: &[u8], x: i32, y: i32, z: i32) -> Result<Option<Near
     if points::in_limits(x, y, z) {
         return nearest_site(image, h, &table, found.groups, x, y, z);
     }
-    Err(Refusal {
-        number: 17,
-        place: 0,
-    })
+    Err(Question::Point.refused())
 }

@@ -8,7 +8,7 @@ ghost use Rattle.std.specs.Prelude.{◌≡◌};
 ghost use Rattle.planner.specs.Plan.{PlanCall, known_answer, known_of};
 
 use community::Standing;
-use image::Refusal;
+use image::{Question, Refusal};
 use rows::Counts;
 
 // The plan of an image in both tables. A refusal writes nothing.
@@ -38,10 +38,7 @@ pub fn role(image: &[u8], v: usize) -> Result<Standing, Refusal>
         return Err(refusals::refusal_of(opened));
     };
     if h.n as usize <= v {
-        return Err(Refusal {
-            number: 13,
-            place: 0,
-        });
+        return Err(Question::Handset.refused());
     }
     let role = tables::role_in(&cores, &table, found.groups, v);
     Ok(Standing {

@@ -10,7 +10,7 @@ ghost use Rattle.lines.specs.ForProofs.{most_bytes};
 ghost use Rattle.reporting.specs.Report.{report_text, ReportCall, program_text};
 ghost use Rattle.reporting.specs.ForProofs.{RowsCounted, RowsHeld, Filled};
 
-use image::{Header, Refusal};
+use image::{Header, Question, Refusal};
 use lines::{Head, Numbers};
 use rows::Counts;
 
@@ -45,10 +45,7 @@ fn write_text<'a>(
         let length = lines::put_report(text, numbers, rows, tallies, reaches, cores, outliers);
         return Ok(length);
     }
-    Err(Refusal {
-        number: 16,
-        place: 0,
-    })
+    Err(Question::Text.refused())
 }
 
 // Writes the report of an accepted image from its header, its groups as rows, and its cores.
@@ -111,10 +108,7 @@ pub fn program_text(input: &[u8], out: &mut [u8]) -> usize
     ensures { Wrote out.old 0 (program_text input.now (length out.old)) out.new result }
 {
     if 65536 < input.len() {
-        let refusal = Refusal {
-            number: 15,
-            place: 0,
-        };
+        let refusal = Question::Input.refused();
         return lines::put_refusal(out, refusal);
     }
     let reported = report(input, out);

@@ -9,7 +9,7 @@ ghost use Rattle.lookup.specs.Lookup.{members_of, looked_of};
 ghost use Rattle.schedule.specs.Schedule.{minutes_fit, is_working, choice_of, part_of, scheduled_of};
 ghost use Rattle.schedule.specs.Answers.{scheduled_answer};
 
-use image::Refusal;
+use image::{Question, Refusal};
 use lookup::Plan;
 
 // The minutes of a day.
@@ -65,16 +65,10 @@ fn choose(t: Time, w: Window) -> Result<Day, Refusal>
     ensures { result ≡ choice_of t w }
 {
     if !dates::exists(t.year, t.month, t.day) {
-        return Err(Refusal {
-            number: 18,
-            place: 0,
-        });
+        return Err(Question::Date.refused());
     }
     if !minutes_fit(t, w) {
-        return Err(Refusal {
-            number: 19,
-            place: 0,
-        });
+        return Err(Question::Minutes.refused());
     }
     Ok(if is_working(t, w) {
         Day::Workday

@@ -13,7 +13,7 @@ ghost use Rattle.scores.specs.Scored.{pairs_of, bad_entry, score, scores_for, ta
 ghost use Rattle.scores.specs.Answers.{tally_answer, score_answer};
 ghost use Rattle.scores.specs.ForProofs.{tally_at, GoodEntries, joined_sum, leaving_sum};
 
-use image::Refusal;
+use image::{Question, Refusal};
 
 // A quotient that is not reduced.
 #[derive(Clone, Copy)]
@@ -125,10 +125,7 @@ pub fn tally_list(image: &[u8], list: &[u16]) -> Result<Tally, Refusal>
     };
     let bad = first_bad_entry(h.n as usize, list);
     if bad < list.len() {
-        return Err(Refusal {
-            number: 13,
-            place: bad,
-        });
+        return Err(Question::Handset.refused_at(bad));
     }
     let m = h.m as usize;
     let first = h.edges as usize;

@@ -13,7 +13,7 @@ ghost use Rattle.tables.specs.ForProofs.{word_members};
 ghost use Rattle.tables.specs.Plan.{ask_room, over, table_after, PlanWritten, role_for};
 
 use community::Role;
-use image::Refusal;
+use image::{Question, Refusal};
 use rows::Counts;
 use sets::{Row, Table};
 
@@ -68,16 +68,10 @@ fn ask_room(
     ensures { result ≡ ask_room groups memberships starts members }
 {
     if starts <= groups {
-        return Err(Refusal {
-            number: 11,
-            place: 0,
-        });
+        return Err(Question::StartTable.refused());
     }
     if members < memberships {
-        return Err(Refusal {
-            number: 12,
-            place: 0,
-        });
+        return Err(Question::MemberTable.refused());
     }
     Ok(Counts {
         groups,

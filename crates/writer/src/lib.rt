@@ -7,7 +7,7 @@
 ghost use Rattle.std.specs.Prelude.{◌≡◌};
 ghost use Rattle.writer.specs.Writer.{tables_answer, WriteCall};
 
-use image::{Header, Refusal};
+use image::{Header, Question, Refusal};
 use layout::Parameters;
 
 // Questions 3, 5 and 6, then 7 to 10 by the reader, each to the whole tables before the next: the header of the image that they make, or the first no.
@@ -15,22 +15,13 @@ fn ask_tables(x: Parameters, coordinates: &[i32], ends: &[u16]) -> Result<Header
     ensures { result ≡ tables_answer x coordinates.now ends.now }
 {
     if !limits::counts_fit(x.n, x.m) {
-        return Err(Refusal {
-            number: 3,
-            place: 0,
-        });
+        return Err(Question::Counts.refused());
     }
     if !limits::thresholds_fit(x.limit, x.p, x.q, x.mu) {
-        return Err(Refusal {
-            number: 5,
-            place: 0,
-        });
+        return Err(Question::Thresholds.refused());
     }
     if !layout::lengths_fit(x, coordinates.len(), ends.len()) {
-        return Err(Refusal {
-            number: 6,
-            place: 0,
-        });
+        return Err(Question::Tables.refused());
     }
     let mut draft = [0u8; layout::IMAGE_MOST];
     let len = layout::put_image(&mut draft, x, coordinates, ends);
@@ -52,10 +43,7 @@ pub fn write(
     };
     let len = h.len as usize;
     if buffer.len() < len {
-        return Err(Refusal {
-            number: 20,
-            place: 0,
-        });
+        return Err(Question::Buffer.refused());
     }
     layout::put_image(buffer, x, coordinates, ends);
     Ok(len)
