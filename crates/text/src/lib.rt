@@ -110,10 +110,11 @@ impl<'a> Text<'a> {
         requires { base < 512 }
         ensures { Writes self.old (numbers (map (λ k. base + k) (ones_of word))) self.new }
     {
+        let buffer = &mut *self.buffer;
         let mut position = self.position.min(LAST);
         for bit in sets::set_bits(word) {
-            position = put_at(self.buffer, position, b' ');
-            position = put_short(self.buffer, position, (base + bit) as u64);
+            position = put_at(buffer, position, b' ');
+            position = put_short(buffer, position, (base + bit) as u64);
         }
         self.position = position;
     }

@@ -20,6 +20,5 @@ pub loop-bit-preserved : goal.loop-bit-preserved
 loop-bit-preserved c = (
   (tt, tt),
   rw append_assoc (rw c.in-Some.ensures.steps at c.loop-bit.invariant.1),
-  c.loop-bit.invariant.2,
-  rw numbers_more (chain (omega arith) c.loop-bit.invariant.3 (chain (omega arith) c.put_at-position.ensures c.put_short-position.ensures)),
+  rw numbers_more (chain (omega arith) c.loop-bit.invariant.2 (chain (omega arith) c.put_at-position.ensures c.put_short-position.ensures)),
 )

@@ -10,5 +10,4 @@ abbrev pub invariant-loop-bit : goal.invariant-loop-bit
 invariant-loop-bit l =
     ((goal.iterator-loop-bit).can_next l.bit-iterator × (goal.iterator-loop-bit).is_finite l.bit-iterator)
     × (l.yielded ++ ones_of l.bit-iterator.word ≡ ones_of l.word)
-    × (l.self.buffer.ghost_name ≡ l.fn.self.buffer.ghost_name)
-    × Wrote l.fn.self.buffer.now l.fn.self.position (numbers (map (λ k. l.base + k) l.yielded)) l.self.buffer.now l.position
+    × Wrote l.fn.self.buffer.now l.fn.self.position (numbers (map (λ k. l.base + k) l.yielded)) l.buffer l.position
