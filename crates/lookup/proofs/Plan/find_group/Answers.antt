@@ -8,4 +8,6 @@ pub returns-in-Some : goal.returns-in-Some
 returns-in-Some c = ap look_answer (sym (looked_span _ _ _ _ (sym c.in-Some.is ∙ c.find_span.ensures.found) c.in-Some.ensures.inside))
 
 pub returns-in-None : goal.returns-in-None
-returns-in-None c = ap look_answer (sym (looked_span _ _ _ _ (sym c.in-None.is ∙ c.find_span.ensures.found) c.in-None.ensures.inside))
+returns-in-None c =
+    rw c.refused.ensures
+    (ap look_answer (sym (looked_span _ _ _ _ (sym c.in-None.is ∙ c.find_span.ensures.found) c.in-None.ensures.inside)))
