@@ -1,9 +1,9 @@
-// A refusal: taken out of the reader's answer, and as the number that C gets. And a number cut off at the end of its share of such a number.
+// A refusal: taken out of the reader's answer, and as the number that C gets.
 //
 // The definitions are in specs/Refusals and image/specs/Questions.
 #![tactic(auto)]
 
-ghost use Rattle.std.specs.Prelude.{◌≡◌, min};
+ghost use Rattle.std.specs.Prelude.{◌≡◌};
 ghost use Rattle.image.specs.Questions.{refusal_of};
 ghost use Rattle.refusals.specs.Refusals.{refusal_code};
 
@@ -22,17 +22,10 @@ pub fn refusal_of(o: Result<Header, Refusal>) -> Refusal
     }
 }
 
-// The smaller of two numbers.
-pub fn at_most(x: u64, limit: u64) -> u64
-    ensures { result ≡ min x limit }
-{
-    if x < limit { x } else { limit }
-}
-
 // A refusal's number and place, made negative.
 pub fn refusal_code(r: Refusal) -> i64
     ensures { result ≡ refusal_code r }
 {
-    let code = at_most(r.number as u64, 255) + 256 * at_most(r.place as u64, 4294967295);
+    let code = u64::from(r.number).min(255) + 256 * (r.place as u64).min(4294967295);
     -(code as i64)
 }

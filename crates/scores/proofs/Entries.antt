@@ -2,13 +2,13 @@
 --
 --     listed              the entries of a list that question 13 passes, for at most 512 handsets
 --     counted             such entries counted: the table of multiplicities
---     entries_no, none_bad, entries_yes     question 13, by the place where the scan of the entries stopped
+--     entries_no, entries_yes     question 13, by the first bad entry
 --     entries_good        a list of at most 512 entries, all below n, passes question 13
 --     table_le            no place holds more than 512
 --     ties_of, leaves      what one edge adds to t, and whether it adds to o, by a table; ties_le: at most 512 * 512
 --     joined_none, leaving_none, joined_more, leaving_more     no edge, and one more; joined_le, leaving_le: how much the first edges make
 --     table_tally         the counts by a table of multiplicities are the tally over the edges
-use Rattle.std.specs.Prelude.{Err, Ok}
+use Rattle.std.specs.Prelude.{Err, Ok, Some, None}
 use Prim.Native.Nat.{ℕ, zero, suc, ◌+◌, ◌*◌, ◌≤◌, ◌<◌}
 use native.Mathlib.Omega.{arith}
 use native.Mathlib.Numerals.{add-one}
@@ -21,12 +21,13 @@ use mathlib.Core.List.{List}
 use lib.Dec.{T, leb, eqb, not_T, le→leb, leb→le}
 use lib.ListN.{length, get_or, get_or-eq_default}
 use lib.Seq.{take_all}
-use Rattle.sets.specs.Below.{any, count, sum, bit, find}
-use Rattle.sets.proofs.Tests.{or_left, or_right, or_cases, decide, not_any, none_any, find_law, find_none, eqb_not, T_true, T_false}
+use Rattle.sets.specs.Below.{any, count, sum, bit, first}
+use Rattle.sets.proofs.Tests.{or_left, or_right, or_cases, not_any, none_any, eqb_not, T_true, T_false}
 use Rattle.sets.proofs.Counting.{count_cong, count_le, count_more, sum_cong}
 use Rattle.sets.specs.Entries.{multiplicity, EntriesCounted}
 use Rattle.sets.proofs.Entries.{multiplicity_le, multiplicity_none}
 use Rattle.image.specs.Image.{end_a, end_b}
+use Rattle.image.proofs.Scanning.{first_some, first_nothing}
 use Rattle.community.specs.Network.{contains}
 use Rattle.community.specs.Scores.{pairs, just_one}
 use Rattle.community.proofs.Multiplicities.{multiplicity_contains}
@@ -67,23 +68,16 @@ counted l table a c = record { held = λ v. pick v (dec_lt v 512) }
 pub table_le : (l table : List ℕ) → GoodEntries l → Multiplicities table l → (v : ℕ) → get_or table v 0 ≤ 512
 table_le l table a m v = omega (arith, m.held v, multiplicity_le l v, a.short)
 
--- ---- question 13, by the place where the scan of the entries stopped
+-- ---- question 13, by the first bad entry
 
-module _ (n : ℕ) (l : List ℕ) (t : Tally) (r : ℕ) (e : r ≡ find (length l) (bad_entry n l)) where
-  pub entries_no : r < length l → Err (record { number = 13; place = r }) ≡ ask_entries n l t
+module _ (n : ℕ) (l : List ℕ) (t : Tally) where
+  pub entries_no : (r : ℕ) → Some r ≡ first (length l) (bad_entry n l) → Err (record { number = 13; place = r }) ≡ ask_entries n l t
   unfolding ask_entries
-  entries_no h =
-      ⊎_elim (λ y. rw (T_true (any (length l) (bad_entry n l)) y, ← e)) (λ z. absurd (omega (arith, find_none (length l) (bad_entry n l) z)))
-      (decide (any (length l) (bad_entry n l)))
+  entries_no r e = let f = first_some (length l) (bad_entry n l) r (sym e) in rw (T_true (any (length l) (bad_entry n l)) f.0, f.1)
 
-  pub none_bad : length l ≤ r → T (not (any (length l) (bad_entry n l)))
-  none_bad h =
-      ⊎_elim (λ y. absurd (omega (arith, (find_law (length l) (bad_entry n l) y).0))) (λ z. z)
-      (decide (any (length l) (bad_entry n l)))
-
-  pub entries_yes : length l ≤ r → Ok t ≡ ask_entries n l t
+  pub entries_yes : None ≡ first (length l) (bad_entry n l) → Ok t ≡ ask_entries n l t
   unfolding ask_entries
-  entries_yes h = rw (T_false (any (length l) (bad_entry n l)) (none_bad h))
+  entries_yes e = rw (T_false (any (length l) (bad_entry n l)) (first_nothing (length l) (bad_entry n l) (sym e)))
 
 -- a list of at most 512 entries, all below n, gets a yes
 good_entry : (n : ℕ) (l : List ℕ) (i : ℕ) → i < 512 → get_or l i 0 < n → T (bad_entry n l i) → ⊥

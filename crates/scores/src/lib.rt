@@ -5,8 +5,8 @@
 // `scored_same` of proofs/Answers make equations of the answers.
 #![tactic(auto)]
 
-ghost use Rattle.std.specs.Prelude.{◌≡◌, ◌||◌, ℕ, ◌-◌, ◌≤◌, min, leb, length, get_or};
-ghost use Rattle.sets.specs.Below.{bit, find};
+ghost use Rattle.std.specs.Prelude.{◌≡◌, ℕ, ◌≤◌, min, leb, length, get_or};
+ghost use Rattle.sets.specs.Below.{bit, first};
 ghost use Rattle.limits.specs.Limits.{edges_most};
 ghost use Rattle.community.specs.Scores.{just_one, every_edge};
 ghost use Rattle.scores.specs.Scored.{pairs_of, bad_entry, score, scores_for, tallied_of, scored_of};
@@ -37,41 +37,30 @@ pub struct Tally {
     pub leaving: u32,
 }
 
-// Question 13 for one entry: it is not below n, or stands at index 512 or later.
-fn is_bad_entry(n: usize, entry: u16, i: usize) -> bool
-    ensures { result ≡ (leb n entry || leb 512 i) }
+// Question 13: the index of the first bad entry, one that is not below n or stands at index 512 or later.
+fn first_bad_entry(n: usize, list: &[u16]) -> Option<usize>
+    ensures { result ≡ first (length list.now) (bad_entry n list.now) }
 {
-    (n <= (entry as usize)) | (512 <= i)
-}
-
-// Question 13: the index of the first bad entry, or the list's length where there is none.
-fn first_bad_entry(n: usize, list: &[u16]) -> usize
-    ensures { result ≡ find (length list.now) (bad_entry n list.now) }
-{
-    let mut i: usize = 0;
-    while i < list.len() {
-        if is_bad_entry(n, list[i], i) {
-            return i;
+    for (i, entry) in list.iter().enumerate() {
+        if usize::from(*entry) >= n || i >= 512 {
+            return Some(i);
         }
-        i += 1;
     }
-    i
+    None
 }
 
 // What the table holds for v; 0 past its end.
 fn at_or_zero(table: &[u16], v: usize) -> u32
     ensures { result ≡ get_or table.now v 0 }
 {
-    if v < table.len() { table[v] as u32 } else { 0 }
+    u32::from(table.get(v).copied().unwrap_or(0))
 }
 
 // 1 where just one of two counts is not 0.
 fn just_one(a: u32, b: u32) -> u32
     ensures { result ≡ bit (just_one (leb 1 a) (leb 1 b)) }
 {
-    let x = 1 <= a;
-    let y = 1 <= b;
-    if (x & !y) | (y & !x) { 1 } else { 0 }
+    u32::from((a > 0) != (b > 0))
 }
 
 // The tally with s as given, and t and o over the first m edges, by a table of multiplicities.
@@ -81,14 +70,12 @@ fn tally_edges(edges: &[u8], m: usize, table: &[u16], all: u32) -> Tally
 {
     let mut joined: u32 = 0;
     let mut leaving: u32 = 0;
-    let mut k: usize = 0;
-    while k < m {
+    for k in 0..m {
         let ends = near::ends_at(edges, k);
         let a = at_or_zero(table, ends.a);
         let b = at_or_zero(table, ends.b);
         joined += a * b;
         leaving += just_one(a, b);
-        k += 1;
     }
     Tally {
         pairs: all,
@@ -101,7 +88,7 @@ fn tally_edges(edges: &[u8], m: usize, table: &[u16], all: u32) -> Tally
 pub fn pairs_of(size: usize) -> u32
     ensures { result ≡ pairs_of (min size 512) }
 {
-    let n = sets::smaller(size, 512);
+    let n = size.min(512);
     ((n * n - n) / 2) as u32
 }
 
@@ -123,11 +110,10 @@ pub fn tally_list(image: &[u8], list: &[u16]) -> Result<Tally, Refusal>
     let Ok(h) = opened else {
         return Err(refusals::refusal_of(opened));
     };
-    let bad = first_bad_entry(h.n as usize, list);
-    if bad < list.len() {
-        return Err(Question::Handset.refused_at(bad));
+    if let Some(place) = first_bad_entry(usize::from(h.n), list) {
+        return Err(Question::Handset.refused_at(place));
     }
-    let m = h.m as usize;
+    let m = usize::from(h.m);
     let first = h.edges as usize;
     let past = first + fields::EDGE_BYTES * m;
     Ok(tally_listed(&image[first..past], m, list))
@@ -147,22 +133,15 @@ fn score_of(a: u64, b: u64) -> Option<Ratio>
     }
 }
 
-// The difference, 0 where there is less than what is taken away.
-fn less(a: u64, b: u64) -> u64
-    ensures { result ≡ a - b }
-{
-    if a < b { 0 } else { a - b }
-}
-
 // The two scores of a tally, neither reduced. The sums are made in 64 bits, where no tally wraps.
 pub fn scores_of(t: Tally) -> Scores
     ensures { result ≡ scores_for t }
 {
-    let all = t.pairs as u64;
-    let joined = t.joined as u64;
-    let leaving = t.leaving as u64;
+    let all = u64::from(t.pairs);
+    let joined = u64::from(t.joined);
+    let leaving = u64::from(t.leaving);
     Scores {
-        density: score_of(less(all, joined), all),
+        density: score_of(all.saturating_sub(joined), all),
         conductance: score_of(leaving, 2 * joined + leaving),
     }
 }
@@ -171,9 +150,5 @@ pub fn scores_of(t: Tally) -> Scores
 pub fn score_list(image: &[u8], list: &[u16]) -> Result<Scores, Refusal>
     ensures { score_answer result ≡ score_answer (scored_of image.now list.now) }
 {
-    let tallied = tally_list(image, list);
-    match tallied {
-        Ok(t) => Ok(scores_of(t)),
-        Err(r) => Err(r),
-    }
+    Ok(scores_of(tally_list(image, list)?))
 }

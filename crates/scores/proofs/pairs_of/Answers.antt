@@ -7,4 +7,4 @@ use Rattle.scores.proofs.Pairing.{pairs_half}
 use Rattle.scores.proofs.pairs_of.Goals as goal
 
 pub returns : goal.returns
-returns c = omega (arith, (let it : pairs_of (min c.args.size 512) * 2 + c.smaller-n.result ≡ c.smaller-n.result * c.smaller-n.result = rw c.smaller-n.ensures (pairs_half _) in it))
+returns c = omega (arith, (let it : pairs_of (min c.args.size 512) * 2 + c.min-n.result ≡ c.min-n.result * c.min-n.result = rw c.min-n.ensures (pairs_half _) in it))
