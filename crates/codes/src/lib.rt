@@ -18,7 +18,7 @@ pub fn open_code(o: Result<Header, Refusal>) -> i64
     ensures { result ≡ open_code o }
 {
     match o {
-        Ok(h) => (h.n as u64 + 65536 * (h.m as u64)) as i64,
+        Ok(h) => (u64::from(h.n) + 65536 * u64::from(h.m)) as i64,
         Err(r) => refusals::refusal_code(r),
     }
 }
@@ -29,8 +29,7 @@ pub fn plan_code(p: Result<Counts, Refusal>) -> i64
 {
     match p {
         Ok(c) => {
-            (refusals::at_most(c.groups as u64, 65535)
-                + 65536 * refusals::at_most(c.memberships as u64, 65535)) as i64
+            ((c.groups as u64).min(65535) + 65536 * (c.memberships as u64).min(65535)) as i64
         }
         Err(r) => refusals::refusal_code(r),
     }
@@ -41,8 +40,8 @@ fn kind_code(role: Role) -> u64
     ensures { (result ≡ kind_code role) × (result < 4294967296) }
 {
     match role {
-        Role::Core(k) => 65536 * refusals::at_most(k as u64, 65535),
-        Role::Border(k) => 1 + 65536 * refusals::at_most(k as u64, 65535),
+        Role::Core(k) => 65536 * (k as u64).min(65535),
+        Role::Border(k) => 1 + 65536 * (k as u64).min(65535),
         Role::Outlier => 2,
     }
 }
@@ -54,7 +53,7 @@ pub fn role_code(known: Result<Standing, Refusal>) -> i64
     match known {
         Ok(x) => {
             let role = x.role;
-            (kind_code(role) + 4294967296 * refusals::at_most(x.neighbours as u64, 65535)) as i64
+            (kind_code(role) + 4294967296 * u64::from(x.neighbours).min(65535)) as i64
         }
         Err(r) => refusals::refusal_code(r),
     }
@@ -66,9 +65,8 @@ pub fn tally_code(t: Result<Tally, Refusal>) -> i64
 {
     match t {
         Ok(x) => {
-            let inner = refusals::at_most(x.leaving as u64, 65535)
-                + 65536 * refusals::at_most(x.joined as u64, 1048575);
-            (inner + 68719476736 * refusals::at_most(x.pairs as u64, 1048575)) as i64
+            let inner = u64::from(x.leaving).min(65535) + 65536 * u64::from(x.joined).min(1048575);
+            (inner + 68719476736 * u64::from(x.pairs).min(1048575)) as i64
         }
         Err(r) => refusals::refusal_code(r),
     }
@@ -80,8 +78,8 @@ pub fn nearest_code(nearest: Result<Option<NearestGroup>, Refusal>) -> i64
 {
     match nearest {
         Ok(Some(found)) => {
-            (1 + 2 * refusals::at_most(found.group as u64, 32767)
-                + 65536 * refusals::at_most(found.squared_distance, 140737488355327)) as i64
+            (1 + 2 * (found.group as u64).min(32767)
+                + 65536 * found.squared_distance.min(140737488355327)) as i64
         }
         Ok(None) => 0,
         Err(r) => refusals::refusal_code(r),
@@ -93,7 +91,7 @@ pub fn report_code(reported: Result<usize, Refusal>) -> i64
     ensures { result ≡ report_code reported }
 {
     match reported {
-        Ok(length) => refusals::at_most(length as u64, 9223372036854775807) as i64,
-        Err(r) => -(r.number as i64),
+        Ok(length) => (length as u64).min(9223372036854775807) as i64,
+        Err(r) => -i64::from(r.number),
     }
 }
