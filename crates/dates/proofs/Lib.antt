@@ -1,3 +1,4 @@
 pub mod Limits
 pub mod Months
 pub mod Calendar
+pub mod IfDate

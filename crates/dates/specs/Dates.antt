@@ -11,10 +11,11 @@
 --     days_before y             the days before 1 March of the year y, from 1 March of the year 0 on
 --     day_number y m d          the day number of a date; 1 is 1 March of the year 0
 --     weekday_number n          the weekday of the day with number n: 0 is Monday, 6 Sunday
---     day_number_of, weekday_of   the answers for any three numbers: 0, and 7, where there is no such date
+--     day_number_of, weekday_of   for any three numbers: 0, and 7, where there is no such date
+--     if_date y m d n           n where there is such a date, else none: the calls answer this of the two
 --
 -- What is proved of them is stated in Calendar.
-use Rattle.std.specs.Prelude.{ℕ, ◌+◌, ◌*◌, ◌-◌, ◌/◌, ◌%◌, Bool, ◌&&◌, ◌||◌, not, cond, List, [], ◌∷◌, leb, ltb, eqb, get_or}
+use Rattle.std.specs.Prelude.{ℕ, ◌+◌, ◌*◌, ◌-◌, ◌/◌, ◌%◌, Bool, ◌&&◌, ◌||◌, not, cond, None, Option, Some, List, [], ◌∷◌, leb, ltb, eqb, get_or}
 
 abbrev pub first_year : ℕ
 first_year = 1600
@@ -67,3 +68,7 @@ day_number_of y m d = cond (date_exists y m d) (day_number y m d) 0
 unfoldable pub weekday_of : ℕ → ℕ → ℕ → ℕ
 unfolding date_exists day_number
 weekday_of y m d = cond (date_exists y m d) (weekday_number (day_number y m d)) 7
+
+unfoldable pub if_date : ℕ → ℕ → ℕ → ℕ → Option ℕ
+unfolding date_exists
+if_date y m d n = cond (date_exists y m d) (Some n) None

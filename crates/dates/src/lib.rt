@@ -4,7 +4,7 @@
 #![tactic(auto)]
 
 ghost use Rattle.std.specs.Prelude.{◌≡◌, true, ◌≤◌};
-ghost use Rattle.dates.specs.Dates.{last_year, is_leap, month_length, date_exists, count_before, march_year, march_month, days_before, day_number, day_number_of, weekday_of};
+ghost use Rattle.dates.specs.Dates.{last_year, is_leap, month_length, date_exists, count_before, march_year, march_month, days_before, day_number, day_number_of, weekday_of, if_date};
 
 // The first and the last year whose dates are taken.
 const FIRST_YEAR: u32 = 1600;
@@ -82,22 +82,21 @@ fn count_days(year: u32, month: u32, day: u32) -> u32
     days_before(march_year(year, month)) + (before_month(month) + day)
 }
 
-// The day number of a date; 0 where there is no such date.
-pub fn day_number(year: u32, month: u32, day: u32) -> u32
-    ensures { result ≡ day_number_of year month day }
+// The day number of a date that exists.
+pub fn day_number(year: u32, month: u32, day: u32) -> Option<u32>
+    ensures { result ≡ if_date year month day (day_number_of year month day) }
 {
     if exists(year, month, day) {
-        return count_days(year, month, day);
+        Some(count_days(year, month, day))
+    } else {
+        None
     }
-    0
 }
 
-// The weekday of a date, 0 for Monday to 6 for Sunday; 7 where there is no such date.
-pub fn weekday(year: u32, month: u32, day: u32) -> u32
-    ensures { result ≡ weekday_of year month day }
+// The weekday of a date that exists, 0 for Monday to 6 for Sunday.
+pub fn weekday(year: u32, month: u32, day: u32) -> Option<u32>
+    ensures { result ≡ if_date year month day (weekday_of year month day) }
 {
-    if exists(year, month, day) {
-        return (count_days(year, month, day) + 1) % 7;
-    }
-    7
+    let days = day_number(year, month, day)?;
+    Some((days + 1) % 7)
 }

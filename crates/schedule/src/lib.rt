@@ -6,7 +6,7 @@
 
 ghost use Rattle.std.specs.Prelude.{◌≡◌};
 ghost use Rattle.lookup.specs.Lookup.{members_of, looked_of};
-ghost use Rattle.schedule.specs.Schedule.{minutes_fit, is_working, choice_of, part_of, scheduled_of};
+ghost use Rattle.schedule.specs.Schedule.{minutes_fit, is_workday, is_working, choice_of, part_of, scheduled_of};
 ghost use Rattle.schedule.specs.Answers.{scheduled_answer};
 
 use image::{Question, Refusal};
@@ -52,12 +52,21 @@ fn minutes_fit(t: Time, w: Window) -> bool
     (t.minute < DAY_MINUTES) & ((w.closing <= DAY_MINUTES) & (w.opening <= w.closing))
 }
 
+// Monday to Friday.
+fn is_workday(t: Time) -> bool
+    ensures { result ≡ is_workday t }
+{
+    match dates::weekday(t.year, t.month, t.day) {
+        Some(weekday) => weekday < 5,
+        None => false,
+    }
+}
+
 // Monday to Friday, in the window.
 fn is_working(t: Time, w: Window) -> bool
     ensures { result ≡ is_working t w }
 {
-    (dates::weekday(t.year, t.month, t.day) < 5)
-        & ((w.opening <= t.minute) & (t.minute < w.closing))
+    is_workday(t) & ((w.opening <= t.minute) & (t.minute < w.closing))
 }
 
 // Questions 18 and 19, and the plan.
