@@ -1,6 +1,6 @@
 -- The lookup on the tables that a plan wrote, of the three calls through their contracts. Proved in proofs/Lookup as `lookup_of_plan`.
 --
---     LookupOfPlan    the theorem: for each k below the count of groups, the part that `lookup::members` gives back is exactly the k-th community,
+--     LookupOfPlan    the theorem: for each k below the count of groups, the part that `lookup::Plan::members` gives back is exactly the k-th community,
 --                     and the companion refuses nothing and answers its size
 use Rattle.std.specs.Prelude.{ℕ, ◌<◌, ◌≡◌, List, [], length, get_or, Ok, Result}
 use Rattle.image.specs.Questions.{Accepted}
