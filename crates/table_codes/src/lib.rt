@@ -14,7 +14,7 @@ pub fn count_code(counted: Result<usize, Refusal>) -> i64
     ensures { result ≡ count_code counted }
 {
     match counted {
-        Ok(count) => refusals::at_most(count as u64, 9223372036854775807) as i64,
+        Ok(count) => (count as u64).min(9223372036854775807) as i64,
         Err(r) => refusals::refusal_code(r),
     }
 }
@@ -31,5 +31,5 @@ pub fn scheduled_code(scheduled: Result<Scheduled, Refusal>) -> i64
         Day::Workday => 0,
         Day::Restday => 1,
     };
-    (table + 2 * refusals::at_most(found.count as u64, 4611686018427387903)) as i64
+    (table + 2 * (found.count as u64).min(4611686018427387903)) as i64
 }

@@ -16,7 +16,9 @@ returns-in_default c =
     (told_no c.find_site-found.ensures c.in_default.field-0 c.refusal_of.result c.in_default.is c.refusal_of.ensures) c.args.v)
 
 pub returns-then-h-v : goal.returns-then-h-v
-returns-then-h-v c = ap known_answer (known_past c.args.image.now (let it : (Accepted c.args.image.now × (c.in-Ok.h.n ≡ handset_count c.args.image.now)) = told_yes c.find_site-found.ensures c.in-Ok.h c.in-Ok.is in it).0 c.args.v (omega (arith, c.if-h-v.true, (let it : (Accepted c.args.image.now × (c.in-Ok.h.n ≡ handset_count c.args.image.now)) = told_yes c.find_site-found.ensures c.in-Ok.h c.in-Ok.is in it).1)))
+returns-then-h-v c =
+    rw c.refused.ensures
+    (ap known_answer (known_past c.args.image.now (let it : (Accepted c.args.image.now × (c.in-Ok.h.n ≡ handset_count c.args.image.now)) = told_yes c.find_site-found.ensures c.in-Ok.h c.in-Ok.is in it).0 c.args.v (omega (arith, c.if-h-v.true, (let it : (Accepted c.args.image.now × (c.in-Ok.h.n ≡ handset_count c.args.image.now)) = told_yes c.find_site-found.ensures c.in-Ok.h c.in-Ok.is in it).1))))
 
 pub bounds-sizes-v : goal.bounds-sizes-v
 bounds-sizes-v c = omega (arith, (let it : (c.args.v < handset_count c.args.image.now) = omega (arith, c.if-h-v.false, (let it : (Accepted c.args.image.now × (c.in-Ok.h.n ≡ handset_count c.args.image.now)) = told_yes c.find_site-found.ensures c.in-Ok.h c.in-Ok.is in it).1) in it), handsets_most_lem c.args.image.now (let it : (Accepted c.args.image.now × (c.in-Ok.h.n ≡ handset_count c.args.image.now)) = told_yes c.find_site-found.ensures c.in-Ok.h c.in-Ok.is in it).0)

@@ -4,11 +4,11 @@ use Rattle.schedule.proofs.choose.Goals as goal
 
 pub returns-then-not-exists : goal.returns-then-not-exists
 unfolding choice_of date_fits
-returns-then-not-exists c = simp (← c.exists.ensures, c.if-not-exists.true)
+returns-then-not-exists c = simp (← c.exists.ensures, c.if-not-exists.true, c.refused.ensures)
 
 pub returns-then-not-minutes_fit : goal.returns-then-not-minutes_fit
 unfolding choice_of date_fits
-returns-then-not-minutes_fit c = simp (← c.exists.ensures, c.if-not-exists.false, ← c.minutes_fit.ensures, c.if-not-minutes_fit.true)
+returns-then-not-minutes_fit c = simp (← c.exists.ensures, c.if-not-exists.false, ← c.minutes_fit.ensures, c.if-not-minutes_fit.true, c.refused-then-not-minutes_fit.ensures)
 
 pub returns-then-is_working : goal.returns-then-is_working
 unfolding choice_of date_fits plan_at

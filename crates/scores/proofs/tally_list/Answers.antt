@@ -26,7 +26,8 @@ returns-in-Some c =
     let h = c.in-Ok.h in
     let l = c.args.list.now in
     let is : open_of c.args.image.now ≡ Ok h = sym (open_same _ _ c.open-opened.ensures) ∙ c.in-Ok.is in
-    ap tally_answer (entries_no h.n l (tally_at (edge_slice c.args.image.now h) h.m every_edge l) _ (rw c.from.ensures at c.in-Some.ensures) ∙ site_tallied c.args.image.now h is l)
+    rw c.refused_at.ensures
+    (ap tally_answer (entries_no h.n l (tally_at (edge_slice c.args.image.now h) h.m every_edge l) _ (rw c.from.ensures at c.in-Some.ensures) ∙ site_tallied c.args.image.now h is l))
 
 pub slice_bounds-tally_listed-end : goal.slice_bounds-tally_listed-end
 slice_bounds-tally_listed-end c =
