@@ -38,7 +38,8 @@ type Edges = [u64; EDGE_WORDS];
 // stay the caller's, and that the sizes are the rows' is no fact of the type, as it fails between the two writes of `take_out`.
 type Sizes = [u32; 512];
 
-// The reader's answer, how many communities were found, and by how many tests for similarity.
+// The reader's answer, how many communities were found, and by how many tests for similarity; both counts are 0 after a no. The answer stands in it whole, and
+// not a Result of these numbers: each call takes the header out of the reader's answer by let .. else, and ends with its refusal.
 #[derive(Clone, Copy)]
 pub struct SiteGroups {
     pub opened: Result<Header, Refusal>,
@@ -244,7 +245,8 @@ impl<'a> Records<'a> {
         sets::has(within, e.a) & sets::has(within, e.b)
     }
 
-    // Of the edges base + k, for each set bit k of the word, those with both ends within a set of handsets, as a word.
+    // Of the edges base + k, for each set bit k of the word, those with both ends within a set of handsets, as a word. Not one function with `dissimilar_word`
+    // over a test that is passed in: each closure would need its own requires and ensures, which is no plainer.
     fn within_word(&self, word: u64, base: usize, within: &sets::Row) -> u64
         requires { (k : ℕ) → T (in_word word base k) → k < self.now.h.m }
         ensures { WordOf result (λ k. eqb (bit_of word k) 1 && both_within within.now self.now.edges.now (base + k)) }

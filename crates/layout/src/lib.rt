@@ -90,7 +90,7 @@ fn put_ends(s: &mut [u8], from: u32, ends: &[u16])
 }
 
 // Writes an image at the front of a buffer, and gives its length; nothing and 0 where the counts are past their limits, the tables are not those of the counts,
-// or the buffer is too short.
+// or the buffer is too short. Not an Option: the writer asks the questions that rule 0 out first, and would take apart one that is always Some.
 pub fn put_image(s: &mut [u8], x: Parameters, coordinates: &[i32], ends: &[u16]) -> usize
     ensures { Put x coordinates.now ends.now s.old result s.new }
 {

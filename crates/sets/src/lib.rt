@@ -1,5 +1,5 @@
-// Sets of numbers as bits of 64-bit words: one bit set, cleared or looked at. A number past the last word is in no set. And the smaller of two numbers,
-// and how often each number stands in a list.
+// Sets of numbers as bits of 64-bit words: one bit set, cleared or looked at. A number past the last word is in no set. And the
+// set bits of a word one after the other, and how often each number stands in a list.
 //
 // The specs are what every crate above counts by: tests below a bound, bits, renumberings. Their laws are in proofs/.
 #![tactic(auto)]
@@ -75,13 +75,6 @@ impl Iterator for SetBits {
         self.word &= self.word - 1;
         Some(lowest)
     }
-}
-
-// The smaller of two numbers.
-pub fn smaller(a: usize, b: usize) -> usize
-    ensures { result ≡ min a b }
-{
-    if a < b { a } else { b }
 }
 
 // Counts how often each number below 512 stands in the list; the table that is lent gets the counts. It looks at no more than 65,535 entries, so that each

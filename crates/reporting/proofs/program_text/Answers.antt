@@ -6,7 +6,7 @@ use Rattle.reporting.proofs.Answers.{program_long, program_written, program_refu
 use Rattle.reporting.proofs.program_text.Goals as goal
 
 pub returns-then-input-gt65536 : goal.returns-then-input-gt65536
-returns-then-input-gt65536 c = rw (program_long c.args.input.now (length c.args.out.now) c.if-input-gt65536.true) c.put_refusal.ensures
+returns-then-input-gt65536 c = rw (program_long c.args.input.now (length c.args.out.now) c.if-input-gt65536.true) (rw c.refused-refusal.ensures at c.put_refusal.ensures)
 
 pub returns-in-Ok : goal.returns-in-Ok
 returns-in-Ok c =

@@ -42,4 +42,4 @@ returns-then-need-text c =
     filled_written (small test) ((fits test).0 c.if-need-text.true) c.put_report-length.ensures
 
 pub returns : goal.returns
-returns c = filled_refused ((fits (goal.at.returns c).Joined-text-need).1 c.if-need-text.false)
+returns c = rw c.refused.ensures (filled_refused ((fits (goal.at.returns c).Joined-text-need).1 c.if-need-text.false))

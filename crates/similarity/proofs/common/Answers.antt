@@ -6,8 +6,14 @@ use Rattle.similarity.proofs.common.Goals as goal
 pub loop-x-init : goal.loop-x-init
 loop-x-init c =
     let e = shared_all c.args.a.now c.args.b.now (λ i. (c.type_inv.a i).fits) (λ i. (c.type_inv.b i).fits) in
-    rw (c.into_iter-x-iterator.ensures.into_iter_gives, c.take-x-items.ensures.source, c.take-x-items.ensures.count, c.zip.ensures.first, c.iter.ensures.rest,
-    c.zip.ensures.second.0) (omega (arith, e))
+    rw (
+      c.into_iter-x-iterator.ensures.into_iter_gives,
+      c.take-x-items.ensures.source,
+      c.take-x-items.ensures.count,
+      c.zip.ensures.first,
+      c.iter.ensures.rest,
+      c.zip.ensures.second.0,
+    ) (omega (arith, e))
 
 pub overflow_add-n : goal.overflow_add-n
 overflow_add-n c =

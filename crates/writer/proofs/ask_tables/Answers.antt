@@ -9,15 +9,20 @@ use Rattle.writer.proofs.Drafting.{no_3, no_5, no_6, by_reader, draft_image}
 use Rattle.writer.proofs.ask_tables.Goals as goal
 
 pub returns-then-not-counts_fit : goal.returns-then-not-counts_fit
-returns-then-not-counts_fit c = sym (no_3 c.args.x c.args.coordinates.now c.args.ends.now (sym c.counts_fit.ensures ∙ c.if-not-counts_fit.true))
+returns-then-not-counts_fit c =
+    rw c.refused.ensures
+    (sym (no_3 c.args.x c.args.coordinates.now c.args.ends.now (sym c.counts_fit.ensures ∙ c.if-not-counts_fit.true)))
 
 pub returns-then-not-thresholds_fit : goal.returns-then-not-thresholds_fit
-returns-then-not-thresholds_fit c = sym (no_5 c.args.x c.args.coordinates.now c.args.ends.now (let it : (T (counts_fit c.args.x.n c.args.x.m)) = subst T (sym (sym c.counts_fit.ensures ∙ c.if-not-counts_fit.false)) tt in it) (sym c.thresholds_fit.ensures ∙ c.if-not-thresholds_fit.true))
+returns-then-not-thresholds_fit c =
+    rw c.refused-then-not-thresholds_fit.ensures
+    (sym (no_5 c.args.x c.args.coordinates.now c.args.ends.now (let it : (T (counts_fit c.args.x.n c.args.x.m)) = subst T (sym (sym c.counts_fit.ensures ∙ c.if-not-counts_fit.false)) tt in it) (sym c.thresholds_fit.ensures ∙ c.if-not-thresholds_fit.true)))
 
 pub returns-then-not-lengths_fit : goal.returns-then-not-lengths_fit
 returns-then-not-lengths_fit c =
-    sym (no_6 c.args.x c.args.coordinates.now c.args.ends.now (let it : (T (counts_fit c.args.x.n c.args.x.m)) = subst T (sym (sym c.counts_fit.ensures ∙ c.if-not-counts_fit.false)) tt in it) (let it : (T (thresholds_fit c.args.x.limit c.args.x.p c.args.x.q c.args.x.mu)) = subst T (sym (sym c.thresholds_fit.ensures ∙ c.if-not-thresholds_fit.false)) tt in it)
-    (sym c.lengths_fit.ensures ∙ c.if-not-lengths_fit.true))
+    rw c.refused-then-not-lengths_fit.ensures
+    (sym (no_6 c.args.x c.args.coordinates.now c.args.ends.now (let it : (T (counts_fit c.args.x.n c.args.x.m)) = subst T (sym (sym c.counts_fit.ensures ∙ c.if-not-counts_fit.false)) tt in it) (let it : (T (thresholds_fit c.args.x.limit c.args.x.p c.args.x.q c.args.x.mu)) = subst T (sym (sym c.thresholds_fit.ensures ∙ c.if-not-thresholds_fit.false)) tt in it)
+    (sym c.lengths_fit.ensures ∙ c.if-not-lengths_fit.true)))
 
 pub returns : goal.returns
 returns c =

@@ -13,7 +13,9 @@ returns-in_default c =
     (sym c.ask_tables-asked.ensures ∙ c.in_default.is ∙ sym (ap Err (c.refusal_of.ensures ∙ ap refusal_of c.in_default.is)))
 
 pub returns-then-buffer-len : goal.returns-then-buffer-len
-returns-then-buffer-len c = call_short c.args.x c.args.coordinates.now c.args.ends.now c.args.buffer.now c.in-Ok.h (let it : (tables_answer c.args.x c.args.coordinates.now c.args.ends.now ≡ Ok c.in-Ok.h) = sym c.ask_tables-asked.ensures ∙ c.in-Ok.is in it) (search rules)
+returns-then-buffer-len c =
+    rw c.refused.ensures
+    (call_short c.args.x c.args.coordinates.now c.args.ends.now c.args.buffer.now c.in-Ok.h (let it : (tables_answer c.args.x c.args.coordinates.now c.args.ends.now ≡ Ok c.in-Ok.h) = sym c.ask_tables-asked.ensures ∙ c.in-Ok.is in it) (search rules))
 
 pub returns : goal.returns
 returns c = call_yes c.args.x c.args.coordinates.now c.args.ends.now c.args.buffer.now c.in-Ok.h _ _ (let it : (tables_answer c.args.x c.args.coordinates.now c.args.ends.now ≡ Ok c.in-Ok.h) = sym c.ask_tables-asked.ensures ∙ c.in-Ok.is in it) (search rules) c.put_image.ensures
