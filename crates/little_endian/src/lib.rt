@@ -67,7 +67,7 @@ pub fn read<T: LittleEndian>(s: &[u8], at: usize) -> T
 pub fn write(s: &mut [u8], at: usize, w: usize, v: u64)
     ensures { s.new ≡ stored w s.old at v }
 {
-    if s.len() < at || s.len() - at < w {
+    if s.len() < w || s.len() - w < at {
         return;
     }
     let mut rest = v;

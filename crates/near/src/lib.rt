@@ -37,8 +37,12 @@ pub fn ends_at(edges: &[u8], k: usize) -> Ends
 fn record_at(handsets: &[u8], v: usize) -> Option<&[u8]>
     ensures { MatchOption result (handsets_in handsets.now ≤ v) (λ x. (v < handsets_in handsets.now) × (x.now ≡ handset_record handsets.now v)) }
 {
-    let at = v.saturating_mul(fields::HANDSET_BYTES);
-    handsets.get(at..)?.get(..fields::HANDSET_BYTES)
+    if v < handsets.len() / fields::HANDSET_BYTES {
+        let at = fields::HANDSET_BYTES * v;
+        Some(&handsets[at..at + fields::HANDSET_BYTES])
+    } else {
+        None
+    }
 }
 
 // The near test of two handsets by their numbers, from the handset records: not near where a record is missing.

@@ -1,7 +1,7 @@
 use Rattle.std.proofs.Common.{arith, sym, ℕ, ◌+◌, ◌-◌, ◌≡◌, length-take, length-drop}
 use Rattle.little_endian.proofs.Writing.{write_none, write_more, stored_past, stored_part}
 use Rattle.little_endian.proofs.write.Goals as goal
-use Rattle.little_endian.proofs.write.Goals.{then-s-at-via-then-s-at, then-s-at-via-else-s-at+then-s-at-2}
+use Rattle.little_endian.proofs.write.Goals.{then-s-w-via-then-s-w, then-s-w-via-else-s-w+then-s-w-2}
 
 pub loop-byte-init : goal.loop-byte-init
 loop-byte-init c = write_none _ c.args.v
@@ -9,10 +9,10 @@ loop-byte-init c = write_none _ c.args.v
 pub loop-byte-preserved : goal.loop-byte-preserved
 loop-byte-preserved c = write_more _ c.args.v c.loop-byte.byte-index c.loop-byte.rest c.loop-byte.byte-items c.loop-byte.invariant.0 c.loop-byte.invariant.1
 
-pub returns-then-s-at : goal.returns-then-s-at
-returns-then-s-at c =
+pub returns-then-s-w : goal.returns-then-s-w
+returns-then-s-w c =
     sym (stored_past c.args.w c.args.s.now c.args.at c.args.v
-    (elim c.then-s-at.branch [ then-s-at-via-then-s-at w ↦ omega arith | then-s-at-via-else-s-at+then-s-at-2 w ↦ omega arith ]))
+    (elim c.then-s-w.branch [ then-s-w-via-then-s-w w ↦ omega arith | then-s-w-via-else-s-w+then-s-w-2 w ↦ omega arith ]))
 
 pub returns : goal.returns
 returns c =
