@@ -11,7 +11,7 @@ ghost use Rattle.lines.specs.Lines.{newline, head_line, score_text, scores_text,
 ghost use Rattle.lines.specs.ForProofs.{fields_line};
 
 use image::Refusal;
-use rows::Counts;
+use rows::{Counts, Groups};
 use scores::{Ratio, Tally};
 use text::Text;
 use totals::Totals;
@@ -178,10 +178,14 @@ pub fn put_report<'a>(
 {
     let mut text = Text::new(buffer);
     put_head(&mut text, numbers.head);
-    for k in 0..numbers.head.counts.groups.min(512) {
-        let tally = group_tally(tallies, k, rows::row_size(rows, k) as usize);
+    let groups = Groups {
+        rows,
+        count: numbers.head.counts.groups,
+    };
+    for k in 0..groups.count.min(512) {
+        let tally = group_tally(tallies, k, groups.size(k) as usize);
         let reach = group_reach(reaches, k);
-        put_group(&mut text, k, tally, reach, rows::row_of(rows, k));
+        put_group(&mut text, k, tally, reach, groups.row(k));
     }
     put_set(&mut text, b"cores:", cores);
     put_set(&mut text, b"outliers:", outliers);

@@ -12,6 +12,7 @@ ghost use Rattle.nearest.specs.Nearest.{nearest_in, nearest_of, nearest_answer};
 ghost use Rattle.nearest.specs.ForProofs.{wrapped, Closest, Takes, TakesWord, RowsFilled, PointHeld};
 
 use image::{Header, Question, Refusal};
+use rows::Groups;
 
 // The nearest group: its number, and the squared distance of its nearest member.
 #[derive(Clone, Copy)]
@@ -84,24 +85,23 @@ fn find_closest<'a>(
     least
 }
 
-// The nearest of the first groups of a table of rows, each of which has a member.
+// The nearest of the groups, each of which has a member.
 fn nearest_of<'a>(
     point: &'a [u32; fields::COORDINATES],
     handsets: &'a [u8],
-    rows: &'a sets::Table,
-    groups: usize,
+    groups: Groups<'a>,
 ) -> Result<Option<NearestGroup>, Refusal>
-    requires { RowsFilled rows.now groups }
-    ensures { result ≡ nearest_in (wrapped point.now handsets.now) (rows_of rows.now groups) }
+    requires { RowsFilled groups.rows.now groups.count }
+    ensures { result ≡ nearest_in (wrapped point.now handsets.now) (rows_of groups.entry.rows.now groups.entry.count) }
 {
     let mut once = [0; sets::ROW_WORDS];
     let mut twice = [0; sets::ROW_WORDS];
-    rows::find_members(rows, groups, &mut once, &mut twice);
+    groups.find_members(&mut once, &mut twice);
     let mut closest = [0; sets::ROW_WORDS];
     let Some(least) = find_closest(point, handsets, &once, &mut closest) else {
         return Ok(None);
     };
-    match rows::first_meeting(rows, groups, &closest) {
+    match groups.first_meeting(&closest) {
         Some(group) => Ok(Some(NearestGroup {
             group,
             squared_distance: least,
@@ -110,23 +110,22 @@ fn nearest_of<'a>(
     }
 }
 
-// The nearest group of an accepted image with the header h, whose communities are the first groups of a table of rows.
+// The nearest group of an accepted image with the header h, whose communities are the groups.
 fn nearest_site<'a>(
     image: &'a [u8],
     h: Header,
-    rows: &'a sets::Table,
-    groups: usize,
+    groups: Groups<'a>,
     x: i32,
     y: i32,
     z: i32,
 ) -> Result<Option<NearestGroup>, Refusal>
-    requires { (PointHeld image.now h (x ∷ y ∷ z ∷ [])) × ((groups ≤ 512) × (rows_of rows.now groups ≡ communities_of image.now)) }
+    requires { (PointHeld image.now h (x ∷ y ∷ z ∷ [])) × ((groups.count ≤ 512) × (rows_of groups.rows.now groups.count ≡ communities_of image.now)) }
     ensures { result ≡ nearest_of image.now (x ∷ y ∷ z ∷ []) }
 {
     let start = h.handsets as usize;
     let end = start + fields::HANDSET_BYTES * (h.n as usize);
     let point = points::raise_point(x, y, z);
-    nearest_of(&point, &image[start..end], rows, groups)
+    nearest_of(&point, &image[start..end], groups)
 }
 
 // The group that stands nearest to the point x, y, z, and the squared distance of its nearest member; of groups at the same distance the lowest. A refused
@@ -142,7 +141,11 @@ pub fn nearest_group(image: &[u8], x: i32, y: i32, z: i32) -> Result<Option<Near
         return Err(refusals::refusal_of(opened));
     };
     if points::in_limits(x, y, z) {
-        return nearest_site(image, h, &table, found.groups, x, y, z);
+        let groups = Groups {
+            rows: &table,
+            count: found.groups,
+        };
+        return nearest_site(image, h, groups, x, y, z);
     }
     Err(Question::Point.refused())
 }

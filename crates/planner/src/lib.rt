@@ -9,7 +9,7 @@ ghost use Rattle.planner.specs.Plan.{PlanCall, known_answer, known_of};
 
 use community::Standing;
 use image::{Question, Refusal};
-use rows::Counts;
+use rows::{Counts, Groups};
 
 // The plan of an image in both tables. A refusal writes nothing.
 pub fn plan(image: &[u8], starts: &mut [u32], members: &mut [u16]) -> Result<Counts, Refusal>
@@ -21,7 +21,11 @@ pub fn plan(image: &[u8], starts: &mut [u32], members: &mut [u16]) -> Result<Cou
     let Ok(_) = found.opened else {
         return Err(refusals::refusal_of(found.opened));
     };
-    tables::write_plan(&table, found.groups, starts, members)
+    let groups = Groups {
+        rows: &table,
+        count: found.groups,
+    };
+    tables::write_plan(groups, starts, members)
 }
 
 // The near count and the role of handset v.
@@ -40,7 +44,11 @@ pub fn role(image: &[u8], v: usize) -> Result<Standing, Refusal>
     if h.n as usize <= v {
         return Err(Question::Handset.refused());
     }
-    let role = tables::role_in(&cores, &table, found.groups, v);
+    let groups = Groups {
+        rows: &table,
+        count: found.groups,
+    };
+    let role = tables::role_in(&cores, groups, v);
     Ok(Standing {
         neighbours: sizes[v],
         role,

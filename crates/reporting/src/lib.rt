@@ -12,7 +12,7 @@ ghost use Rattle.reporting.specs.ForProofs.{RowsCounted, RowsHeld, Filled};
 
 use image::{Header, Question, Refusal};
 use lines::{Head, Numbers};
-use rows::Counts;
+use rows::{Counts, Groups};
 
 // An upper bound on the length of a report with these counts: 160 bytes for what stands before a group's members, four for a member, and 4,608 for the other lines.
 fn most_bytes(counts: Counts) -> usize
@@ -48,16 +48,15 @@ fn write_text<'a>(
     Err(Question::Text.refused())
 }
 
-// Writes the report of an accepted image from its header, its groups as rows, and its cores.
+// Writes the report of an accepted image from its header, its groups, and its cores.
 fn report_groups<'a>(
     text: &mut [u8],
     image: &'a [u8],
     h: Header,
-    rows: &'a [u64; sets::TABLE_WORDS],
-    groups: usize,
+    groups: Groups<'a>,
     cores: &'a [u64; 8],
 ) -> Result<usize, Refusal>
-    requires { RowsHeld image.now h rows.now groups cores.now }
+    requires { RowsHeld image.now h groups.rows.now groups.count cores.now }
     ensures { Filled (report_text image.now) text.old result text.new }
 {
     let from = h.handsets as usize;
@@ -70,20 +69,27 @@ fn report_groups<'a>(
         &image[from..to],
         &image[a..b],
         h.limit,
-        rows,
         groups,
         &mut tallies,
         &mut reaches,
     );
     let mut outliers = [0u64; 8];
-    let totals = totals::count_roles(rows, groups, cores, h.n as usize, &mut outliers);
+    let totals = totals::count_roles(groups, cores, h.n as usize, &mut outliers);
     let head = Head {
         handsets: h.n,
         ties: h.m,
-        counts: rows::counts_of(rows, groups),
+        counts: groups.counts(),
     };
     let numbers = Numbers { head, totals };
-    write_text(text, numbers, rows, &tallies, &reaches, cores, &outliers)
+    write_text(
+        text,
+        numbers,
+        groups.rows,
+        &tallies,
+        &reaches,
+        cores,
+        &outliers,
+    )
 }
 
 // Writes the report of an image into the buffer, and answers the text's length. A refused image, or a buffer that does not hold the whole text
@@ -95,11 +101,14 @@ pub fn report(image: &[u8], text: &mut [u8]) -> Result<usize, Refusal>
     let mut cores = [0u64; 8];
     let found = graph::find_rows(image, &mut rows, &mut cores);
     let opened = found.opened;
-    let groups = found.groups;
     let Ok(h) = opened else {
         return Err(refusals::refusal_of(opened));
     };
-    report_groups(text, image, h, &rows, groups, &cores)
+    let groups = Groups {
+        rows: &rows,
+        count: found.groups,
+    };
+    report_groups(text, image, h, groups, &cores)
 }
 
 // What the report program prints for an input, written at the front of the buffer; the answer is its length. An input of more than 65,536 bytes

@@ -306,21 +306,14 @@ overlaps_any (suc n) (x ∷ a) (y ∷ b) h l s t =
 abbrev pub meets_at : List ℕ → List ℕ → ℕ → Bool
 meets_at set rows k = meets set (row_members rows k)
 
-pub overlaps_row : (set rows row : List ℕ) (k : ℕ) → k < 512 → length set ≡ 8 → length rows ≡ table_words → Words set → Words rows → row ≡ row_words rows k
+pub overlaps_row : (set rows row : List ℕ) (k : ℕ) → k < 512 → length set ≡ 8 → length rows ≡ table_words → Words set → Words row → row ≡ row_words rows k
     → overlaps row set ≡ meets_at set rows k
 unfolding meets in_both
 overlaps_row set rows row k h l e s t is =
-    ap (λ (ws : List ℕ). overlaps ws set) is
-    ∙ overlaps_any 8 (row_words rows k) set (row_words_long rows k e h) l fits s
+    overlaps_any 8 row set (ap length is ∙ row_words_long rows k e h) l t s
+    ∙ ap (λ (ws : List ℕ). any 512 (in_both ws set)) is
     ∙ any_cong 512 (in_both (row_words rows k) set) (λ v. eqb (bit_at set v) 1 && contains v (row_members rows k))
     (λ v q. ap (λ (b : Bool). eqb (bit_at set v) 1 && b) (ap (λ (n : ℕ). eqb n 1) (row_bit rows k v q) ∙ sym (contains_row rows k v q)))
-  where
-    fits : Words (row_words rows k)
-    fits i = pick (dec_lt i 8)
-      where
-        pick : Dec (i < 8) → get_or (row_words rows k) i 0 < 2 ^ 64
-        pick (yes q) = rw (row_word rows k i q) (t (k * 8 + i))
-        pick (no q) = rw (get_or-eq_default (row_words rows k) 0 {n = i} (omega (arith, row_words_long rows k e h))) (omega arith)
 
 -- ---- the first row that meets a set
 pub none_before : (f : ℕ → Bool) → T (not (any 0 f))

@@ -4,7 +4,8 @@
 #![tactic(auto)]
 
 ghost use Rattle.std.specs.Prelude.{◌≡◌, ◌≤◌, ◌<◌, min, length};
-ghost use Rattle.community.specs.Tables.{member_table};
+ghost use Rattle.sets.specs.Bits.{Words};
+ghost use Rattle.sets.specs.Rows.{table_words};
 ghost use Rattle.rows.specs.Rows.{rows_of, row_in, row_words, counts_of, first_met, MembersFound};
 ghost use Rattle.rows.specs.ForProofs.{RowAdded, overlaps};
 
@@ -17,48 +18,73 @@ pub struct Counts {
     pub memberships: usize,
 }
 
-// How many members row k has, the ones of its words; 0 from 512 on.
-pub fn row_size(rows: &Table, k: usize) -> u32
-    ensures { result ≡ length (row_in rows.now k) }
-{
-    let row = row_of(rows, k);
-    let mut n = 0;
-    for word in row {
-        n += word.count_ones();
+// Communities: the first `count` rows of a table.
+#[derive(Clone, Copy)]
+pub struct Groups<'a> {
+    pub rows: &'a Table,
+    pub count: usize,
+}
+
+impl<'a> Groups<'a> {
+    // Row k of the table: a slice of it, not a copy. Empty from 512 on.
+    pub fn row(self, k: usize) -> &'a [u64]
+        ensures words { result.now ≡ row_words self.entry.rows.now k }
+        ensures table { length self.entry.rows.now ≡ table_words }
+    {
+        let first = k.min(512) * 8;
+        let past = k.min(511) * 8 + 8;
+        let rows = self.rows;
+        &rows[first..past]
     }
-    n
-}
 
-// Row k: a slice of the table, not a copy. Empty from 512 on.
-pub fn row_of(rows: &Table, k: usize) -> &[u64]
-    ensures { result.now ≡ row_words rows.now k }
-{
-    let first = k.min(512) * 8;
-    let past = k.min(511) * 8 + 8;
-    &rows[first..past]
-}
-
-// How many memberships the first `count` rows have.
-fn count_members(rows: &Table, count: usize) -> usize
-    requires { count ≤ 512 }
-    ensures { result ≡ length (member_table (rows_of rows.now count)) }
-{
-    let mut total = 0;
-    for k in 0..count {
-        total += row_size(rows, k) as usize;
+    // How many members row k of the table has, the ones of its words; 0 from 512 on.
+    pub fn size(self, k: usize) -> u32
+        ensures { result ≡ length (row_in self.entry.rows.now k) }
+    {
+        let row = self.row(k);
+        let mut n = 0;
+        for word in row {
+            n += word.count_ones();
+        }
+        n
     }
-    total
-}
 
-// The counts of a plan of the first `count` rows.
-pub fn counts_of(rows: &Table, count: usize) -> Counts
-    ensures { result ≡ counts_of (rows_of rows.now (min count 512)) }
-{
-    let groups = count.min(512);
-    let memberships = count_members(rows, groups);
-    Counts {
-        groups,
-        memberships,
+    // The counts of a plan of these communities.
+    pub fn counts(self) -> Counts
+        ensures { result ≡ counts_of (rows_of self.entry.rows.now (min self.entry.count 512)) }
+    {
+        let groups = self.count.min(512);
+        let mut memberships = 0;
+        for k in 0..groups {
+            memberships += self.size(k) as usize;
+        }
+        Counts {
+            groups,
+            memberships,
+        }
+    }
+
+    // Finds the handsets in at least one community, and those in at least two; the sets that are lent get these.
+    pub fn find_members(self, once: &mut Row, twice: &mut Row)
+        ensures { MembersFound (rows_of self.entry.rows.now (min self.entry.count 512)) once.new twice.new }
+    {
+        *once = [0; 8];
+        *twice = [0; 8];
+        for k in 0..self.count.min(512) {
+            add_row(self.rows, k, once, twice);
+        }
+    }
+
+    // The number of the first community that has a member in the set.
+    pub fn first_meeting(self, set: &Row) -> Option<usize>
+        ensures { result ≡ first_met set.now (rows_of self.entry.rows.now (min self.entry.count 512)) }
+    {
+        for k in 0..self.count.min(512) {
+            if overlaps(self.row(k), set) {
+                return Some(k);
+            }
+        }
+        None
     }
 }
 
@@ -74,33 +100,10 @@ fn add_row(rows: &Table, k: usize, once: &mut Row, twice: &mut Row)
     }
 }
 
-// Finds the handsets in at least one of the first `count` rows, and those in at least two; the sets that are lent get these.
-pub fn find_members(rows: &Table, count: usize, once: &mut Row, twice: &mut Row)
-    ensures { MembersFound (rows_of rows.now (min count 512)) once.new twice.new }
-{
-    let groups = count.min(512);
-    *once = [0; 8];
-    *twice = [0; 8];
-    for k in 0..groups {
-        add_row(rows, k, once, twice);
-    }
-}
-
 // Whether two sets have a handset in common.
 fn overlaps(a: &[u64], b: &[u64]) -> bool
-    ensures { result ≡ overlaps a.now b.now }
+    ensures told { result ≡ overlaps a.now b.now }
+    ensures fits { Words a.now }
 {
     a.iter().zip(b).any(|(x, y)| x & y != 0)
-}
-
-// The number of the first of the first `count` rows that has a member in the set.
-pub fn first_meeting(rows: &Table, count: usize, set: &Row) -> Option<usize>
-    ensures { result ≡ first_met set.now (rows_of rows.now (min count 512)) }
-{
-    for k in 0..count.min(512) {
-        if overlaps(row_of(rows, k), set) {
-            return Some(k);
-        }
-    }
-    None
 }

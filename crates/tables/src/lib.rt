@@ -14,7 +14,7 @@ ghost use Rattle.tables.specs.Plan.{ask_room, over, table_after, PlanWritten, ro
 
 use community::Role;
 use image::{Question, Refusal};
-use rows::Counts;
+use rows::{Counts, Groups};
 use sets::{Row, Table};
 
 // Writes base + k for each set bit k of the word, ascending, from the place `at` on, and gives the place after them. A zero word writes nothing.
@@ -44,18 +44,18 @@ fn write_row(rows: &Table, k: usize, members: &mut [u16], at: usize) -> usize
     place
 }
 
-// Writes both tables of the first `count` rows, from their first places on, and leaves the places after them alone. With no rows the start table gets a 0.
-fn write_tables(rows: &Table, count: usize, starts: &mut [u32], members: &mut [u16])
-    requires { (count ≤ 512) × (count < length starts.old) × (length (member_table (rows_of rows.now count)) ≤ length members.old) }
-    ensures started { starts.new ≡ over (start_table (rows_of rows.now count)) starts.old }
-    ensures written { members.new ≡ over (member_table (rows_of rows.now count)) members.old }
+// Writes both tables, from their first places on, and leaves the places after them alone. With no communities the start table gets a 0.
+fn write_tables(groups: Groups<'_>, starts: &mut [u32], members: &mut [u16])
+    requires { (groups.count ≤ 512) × (groups.count < length starts.old) × (length (member_table (rows_of groups.rows.now groups.count)) ≤ length members.old) }
+    ensures started { starts.new ≡ over (start_table (rows_of groups.entry.rows.now groups.entry.count)) starts.old }
+    ensures written { members.new ≡ over (member_table (rows_of groups.entry.rows.now groups.entry.count)) members.old }
 {
     let mut place = 0;
-    for k in 0..count {
+    for k in 0..groups.count {
         starts[k] = place as u32;
-        place = write_row(rows, k, members, place);
+        place = write_row(groups.rows, k, members, place);
     }
-    starts[count] = place as u32;
+    starts[groups.count] = place as u32;
 }
 
 // Questions 11 and 12, of a plan's two counts and the two tables' lengths: the refusal, or the counts.
@@ -79,39 +79,44 @@ fn ask_room(
     })
 }
 
-// Writes both tables of the first `groups` rows where these fit, and nothing where one of them does not.
+// Writes both tables where they fit, and nothing where one of them does not.
 fn write_where_it_fits(
-    rows: &Table,
-    groups: usize,
+    groups: Groups<'_>,
     memberships: usize,
     starts: &mut [u32],
     members: &mut [u16],
 )
-    requires { (groups ≤ 512) × (memberships ≡ length (member_table (rows_of rows.now groups))) }
-    ensures started { starts.new ≡ table_after (rows_of rows.now groups) (length starts.old) (length members.old) (start_table (rows_of rows.now groups)) starts.old }
-    ensures written { members.new ≡ table_after (rows_of rows.now groups) (length starts.old) (length members.old) (member_table (rows_of rows.now groups)) members.old }
+    requires { (groups.count ≤ 512) × (memberships ≡ length (member_table (rows_of groups.rows.now groups.count))) }
+    ensures started { starts.new ≡ table_after (rows_of groups.entry.rows.now groups.entry.count) (length starts.old) (length members.old) (start_table (rows_of groups.entry.rows.now groups.entry.count)) starts.old }
+    ensures written { members.new ≡ table_after (rows_of groups.entry.rows.now groups.entry.count) (length starts.old) (length members.old) (member_table (rows_of groups.entry.rows.now groups.entry.count)) members.old }
 {
-    let fits = (groups < starts.len()) & (memberships <= members.len());
+    let fits = (groups.count < starts.len()) & (memberships <= members.len());
     if !fits {
         return;
     }
-    write_tables(rows, groups, starts, members);
+    write_tables(groups, starts, members);
 }
 
-// The plan of the first `count` rows in both tables, with its counts; or question 11 or 12, which writes nothing.
+// The plan of the communities in both tables, with its counts; or question 11 or 12, which writes nothing.
 pub fn write_plan(
-    rows: &Table,
-    count: usize,
+    groups: Groups<'_>,
     starts: &mut [u32],
     members: &mut [u16],
 ) -> Result<Counts, Refusal>
-    ensures { PlanWritten (rows_of rows.now (min count 512)) starts.old members.old result starts.new members.new }
+    ensures { PlanWritten (rows_of groups.entry.rows.now (min groups.entry.count 512)) starts.old members.old result starts.new members.new }
 {
-    let counts = rows::counts_of(rows, count);
-    let groups = counts.groups;
-    let memberships = counts.memberships;
-    write_where_it_fits(rows, groups, memberships, starts, members);
-    ask_room(groups, memberships, starts.len(), members.len())
+    let counts = groups.counts();
+    let listed = Groups {
+        rows: groups.rows,
+        count: counts.groups,
+    };
+    write_where_it_fits(listed, counts.memberships, starts, members);
+    ask_room(
+        counts.groups,
+        counts.memberships,
+        starts.len(),
+        members.len(),
+    )
 }
 
 // Whether row k contains v; no row contains 512 or more.
@@ -122,42 +127,46 @@ fn in_row(rows: &Table, k: usize, v: usize) -> bool
     v < 512 && sets::has(rows, k * 512 + v)
 }
 
-// How many of the first `count` rows contain v.
-fn count_containing(rows: &Table, count: usize, v: usize) -> usize
-    requires { count ≤ 512 }
-    ensures { result ≡ membership_count v (rows_of rows.now count) }
+// How many of the communities contain v.
+fn count_containing(groups: Groups<'_>, v: usize) -> usize
+    requires { groups.count ≤ 512 }
+    ensures { result ≡ membership_count v (rows_of groups.entry.rows.now groups.entry.count) }
 {
     let mut times = 0;
-    for k in 0..count {
-        if in_row(rows, k, v) {
+    for k in 0..groups.count {
+        if in_row(groups.rows, k, v) {
             times += 1;
         }
     }
     times
 }
 
-// The number of the first of the first `count` rows that contains v.
-fn first_containing(rows: &Table, count: usize, v: usize) -> Option<usize>
-    requires { count ≤ 512 }
-    ensures { MatchOption result (community_number v (rows_of rows.now count) ≡ count) (λ k. community_number v (rows_of rows.now count) ≡ k) }
+// The number of the first community that contains v.
+fn first_containing(groups: Groups<'_>, v: usize) -> Option<usize>
+    requires { groups.count ≤ 512 }
+    ensures { MatchOption result (community_number v (rows_of groups.entry.rows.now groups.entry.count) ≡ groups.entry.count) (λ k. community_number v (rows_of groups.entry.rows.now groups.entry.count) ≡ k) }
 {
-    for k in 0..count {
-        if in_row(rows, k, v) {
+    for k in 0..groups.count {
+        if in_row(groups.rows, k, v) {
             return Some(k);
         }
     }
     None
 }
 
-// The role of v, from the set of cores and the communities as the first `count` rows. A core that no row contains gets their count for its group.
-pub fn role_in(cores: &Row, rows: &Table, count: usize, v: usize) -> Role
-    ensures { role_values result ≡ role_values (role_for cores.now rows.now (min count 512) v) }
+// The role of v, from the set of cores and the communities. A core that no community contains gets their count for its group.
+pub fn role_in(cores: &Row, groups: Groups<'_>, v: usize) -> Role
+    ensures { role_values result ≡ role_values (role_for cores.now groups.entry.rows.now (min groups.entry.count 512) v) }
 {
-    let groups = count.min(512);
+    let count = groups.count.min(512);
+    let listed = Groups {
+        rows: groups.rows,
+        count,
+    };
     if sets::has(cores, v) {
-        return Role::Core(first_containing(rows, groups, v).unwrap_or(groups));
+        return Role::Core(first_containing(listed, v).unwrap_or(count));
     }
-    match count_containing(rows, groups, v) {
+    match count_containing(listed, v) {
         0 => Role::Outlier,
         times => Role::Border(times),
     }

@@ -7,7 +7,7 @@
 // two tables. The definitions are in specs/Tallies.
 #![tactic(auto)]
 
-ghost use Rattle.std.specs.Prelude.{ℕ, ◌+◌, ◌≤◌, ◌<◌, max, ◌≡◌, ◌&&◌, cond, eqb, ltb, length, get_or, replicate};
+ghost use Rattle.std.specs.Prelude.{ℕ, ◌+◌, ◌-◌, ◌≤◌, ◌<◌, min, max, ◌≡◌, ◌&&◌, cond, eqb, ltb, length, get_or, replicate};
 ghost use Rattle.sets.specs.Bits.{bit_at};
 ghost use Rattle.limits.specs.Limits.{limit_most, edges_most};
 ghost use Rattle.near.specs.Near.{ends_proximity};
@@ -16,6 +16,8 @@ ghost use Rattle.community.specs.Scores.{every_edge};
 ghost use Rattle.rows.specs.Rows.{row_members};
 ghost use Rattle.tallies.specs.Tallies.{reach_entry, GroupsCounted, GroupsReach};
 ghost use Rattle.tallies.specs.ForProofs.{EndAdded, DegreesHold, DegreesFit, degree_sum, bit_for, WordMarked, RowMarked, WordsHold, RowsSummed, Raised, RaisedTo, EdgesCounted, EdgesRaised, Progress, InsideFits, InsideTaken};
+
+use rows::Groups;
 
 // Adds an end to the degree of handset v; a handset that has no place gets none.
 fn add_end(degrees: &mut [u32], v: usize)
@@ -74,26 +76,26 @@ fn mark_row<'a>(row: &'a [u64], i: usize, degrees: &'a [u32; 512], words: &mut [
     sum
 }
 
-// Fills empty words: bit i of handset v's is whether v is in row first + i, for the `count` rows from `first` on. The sum of the degrees in each of these rows goes
-// to the row's second place in the table of tallies.
+// Fills empty words: bit i of handset v's is whether v is in row first + i, for the groups from `first` on, 64 at most. The sum of the degrees in each of these rows
+// goes to the row's second place in the table of tallies.
 fn mark_rows<'a>(
-    rows: &'a sets::Table,
+    groups: Groups<'a>,
     first: usize,
-    count: usize,
     degrees: &'a [u32; 512],
     words: &mut [u64; 512],
     tallies: &mut [u32; 1024],
 )
     requires in_rows { first ≤ 448 }
-    requires few { count ≤ 64 }
+    requires left { first < groups.count }
     requires fits { DegreesFit degrees.now }
     requires empty { words.old ≡ replicate 512 0 }
-    ensures marked { WordsHold (λ (i v : ℕ). ltb i count && contains v (row_members rows.now (first + i))) words.new }
-    ensures summed { RowsSummed rows.now first count degrees.now tallies.old tallies.new }
+    ensures marked { WordsHold (λ (i v : ℕ). ltb i (min (groups.entry.count - first) 64) && contains v (row_members groups.entry.rows.now (first + i))) words.new }
+    ensures summed { RowsSummed groups.entry.rows.now first (min (groups.entry.count - first) 64) degrees.now tallies.old tallies.new }
 {
-    for i in 0..count {
+    let some = (groups.count - first).min(64);
+    for i in 0..some {
         let k = first + i;
-        tallies[512 + k] = mark_row(rows::row_of(rows, k), i, degrees, words);
+        tallies[512 + k] = mark_row(groups.row(k), i, degrees, words);
     }
 }
 
@@ -166,31 +168,29 @@ fn count_edges<'a>(
     }
 }
 
-// Counts the first m edges for the 64 groups from `first` on, of the `all` groups that there are, where those below `first` are counted already. The edges that leave
-// a group are counted with two for each edge inside it.
+// Counts the first m edges for the 64 groups from `first` on, where those below `first` are counted already. The edges that leave a group are counted with two for each
+// edge inside it.
 fn count_chunk<'a>(
     handsets: &'a [u8],
     edges: &'a [u8],
     m: usize,
     limit: u64,
-    rows: &'a sets::Table,
-    all: usize,
+    groups: Groups<'a>,
     first: usize,
     degrees: &'a [u32; 512],
     tallies: &mut [u32; 1024],
     reaches: &mut [u64; 512],
 )
     requires in_tables { first ≤ 448 }
-    requires left { first < all }
+    requires left { first < groups.count }
     requires in_limits { limit ≤ limit_most }
     requires few { m ≤ edges_most }
     requires degrees_hold { DegreesHold edges.now every_edge m degrees.now }
-    requires so_far { Progress handsets.now edges.now m limit rows.now all first tallies.old reaches.old }
-    ensures { Progress handsets.now edges.now m limit rows.now all (first + 64) tallies.new reaches.new }
+    requires so_far { Progress handsets.now edges.now m limit groups.rows.now groups.count first tallies.old reaches.old }
+    ensures { Progress handsets.now edges.now m limit groups.entry.rows.now groups.entry.count (first + 64) tallies.new reaches.new }
 {
     let mut words = [0u64; 512];
-    let some = (all - first).min(64);
-    mark_rows(rows, first, some, degrees, &mut words, tallies);
+    mark_rows(groups, first, degrees, &mut words, tallies);
     count_edges(&words, handsets, edges, m, limit, first, tallies, reaches);
 }
 
@@ -205,23 +205,26 @@ fn take_inside(groups: usize, tallies: &mut [u32; 1024])
     }
 }
 
-// Counts the edges inside and the edges leaving each of the first `count` groups of a table of rows, over the edge records, and finds the reach of each by the
+// Counts the edges inside and the edges leaving each of the groups, over the edge records, and finds the reach of each by the
 // handset records and the square of the near distance. The tables that are lent get these, and 0 for the other groups. It looks at no more handsets, edges and
 // groups than a site can have, and takes no larger limit.
 pub fn count_groups<'a>(
     handsets: &'a [u8],
     edges: &'a [u8],
     limit: u64,
-    rows: &'a [u64; sets::TABLE_WORDS],
-    count: usize,
+    groups: Groups<'a>,
     tallies: &mut [u32; 1024],
     reaches: &mut [u64; 512],
 )
-    ensures counted { GroupsCounted edges.now rows.now count tallies.new }
-    ensures raised { GroupsReach handsets.now edges.now limit rows.now count reaches.new }
+    ensures counted { GroupsCounted edges.now groups.entry.rows.now groups.entry.count tallies.new }
+    ensures raised { GroupsReach handsets.now edges.now limit groups.entry.rows.now groups.entry.count reaches.new }
 {
     let m = (edges.len() / fields::EDGE_BYTES).min(limits::EDGES_MOST);
-    let all = count.min(512);
+    let all = groups.count.min(512);
+    let listed = Groups {
+        rows: groups.rows,
+        count: all,
+    };
     let most = limit.min(limits::LIMIT_MOST);
     *tallies = [0u32; 1024];
     *reaches = [0u64; 512];
@@ -229,7 +232,7 @@ pub fn count_groups<'a>(
     count_degrees(edges, m, &mut degrees);
     for first in (0..all).step_by(64) {
         count_chunk(
-            handsets, edges, m, most, rows, all, first, &degrees, tallies, reaches,
+            handsets, edges, m, most, listed, first, &degrees, tallies, reaches,
         );
     }
     take_inside(all, tallies);

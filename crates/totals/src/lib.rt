@@ -8,7 +8,8 @@ ghost use Rattle.std.specs.Prelude.{◌<◌, min, ◌≡◌};
 ghost use Rattle.totals.specs.Totals.{RolesCounted};
 ghost use Rattle.totals.specs.ForProofs.{BitsBelow, with_words, TotalsAtMost, WordsCounted};
 
-use sets::{Row, Table};
+use rows::Groups;
+use sets::Row;
 
 // The handsets of a site: cores, borders, outliers; and of the borders those in two groups or more.
 #[derive(Clone, Copy, Default)]
@@ -63,13 +64,13 @@ fn add_words(once: &Row, twice: &Row, cores: &Row, n: usize, outliers: &mut Row)
     totals
 }
 
-// Counts the roles of the handsets below n, by the first `count` rows and a set of cores; the set that is lent gets the outliers. It looks at no more than
+// Counts the roles of the handsets below n, by the groups and a set of cores; the set that is lent gets the outliers. It looks at no more than
 // 512 handsets and 512 rows; a site has no more.
-pub fn count_roles(rows: &Table, count: usize, cores: &Row, n: usize, outliers: &mut Row) -> Totals
-    ensures { RolesCounted cores.now rows.now (min count 512) n result outliers.new }
+pub fn count_roles(groups: Groups<'_>, cores: &Row, n: usize, outliers: &mut Row) -> Totals
+    ensures { RolesCounted cores.now groups.entry.rows.now (min groups.entry.count 512) n result outliers.new }
 {
     let mut once = [0; 8];
     let mut twice = [0; 8];
-    rows::find_members(rows, count, &mut once, &mut twice);
+    groups.find_members(&mut once, &mut twice);
     add_words(&once, &twice, cores, n, outliers)
 }

@@ -14,14 +14,14 @@ loop-k-init c = still c.put_head.ensures
 pub group_tally-tally-requires-clause-few : goal.group_tally-tally-requires-clause-few
 group_tally-tally-requires-clause-few c =
     let few : c.loop-k.k < 512 = omega (arith, c.min-k-end.ensures, c.loop-k-test.true) in
-    omega (arith, c.row_size.ensures, row_few c.args.rows.now c.loop-k.k few)
+    omega (arith, c.size.ensures, row_few c.args.rows.now c.loop-k.k few)
 
 pub loop-k-preserved : goal.loop-k-preserved
 loop-k-preserved c =
     let few : c.loop-k.k < 512 = omega (arith, c.min-k-end.ensures, c.loop-k-test.true) in
     rw (lines_more c.args.rows.now c.args.tallies.now c.args.reaches.now c.loop-k.k)
     (then c.loop-k.invariant
-    (rw (c.group_tally-tally.ensures, c.row_size.ensures, c.group_reach-reach.ensures, c.row_of.ensures, row_elements c.args.rows.now c.loop-k.k few) at c.put_group.ensures))
+    (rw (c.group_tally-tally.ensures, c.size.ensures, c.group_reach-reach.ensures, c.row.ensures.words, row_elements c.args.rows.now c.loop-k.k few) at c.put_group.ensures))
 
 pub returns : goal.returns
 unfolding table_text

@@ -9,21 +9,21 @@ use Rattle.nearest.proofs.nearest_of.Goals as goal
 pub returns-in_default : goal.returns-in_default
 returns-in_default c =
     let far : ℕ → ℕ = wrapped c.args.point.now c.args.handsets.now in
-    let all : min c.args.groups 512 ≡ c.args.groups = omega (arith, c.requires.few) in
+    let all : min c.args.groups.count 512 ≡ c.args.groups.count = omega (arith, c.requires.few) in
     let found = rw all at c.find_members.ensures in
-    no_rows far c.args.rows.now c.args.groups (none_seen far c.args.rows.now c.args.groups c.requires _ _ found c.in_default.ensures.standing)
+    no_rows far c.args.groups.rows.now c.args.groups.count (none_seen far c.args.groups.rows.now c.args.groups.count c.requires _ _ found c.in_default.ensures.standing)
 
 pub returns-in-Some-first_meeting : goal.returns-in-Some-first_meeting
 returns-in-Some-first_meeting c =
     let far : ℕ → ℕ = wrapped c.args.point.now c.args.handsets.now in
-    let all : min c.args.groups 512 ≡ c.args.groups = omega (arith, c.requires.few) in
+    let all : min c.args.groups.count 512 ≡ c.args.groups.count = omega (arith, c.requires.few) in
     let found = rw all at c.find_members.ensures in
     let met = met_some _ _ _ (rw all at c.in-Some-first_meeting.ensures) in
-    ap (λ (g : ℕ). group_found g c.in-Some.least) met.0 ∙ rows_nearest far c.args.rows.now c.args.groups c.requires _ _ found c.in-Some.least _ c.in-Some.ensures
+    ap (λ (g : ℕ). group_found g c.in-Some.least) met.0 ∙ rows_nearest far c.args.groups.rows.now c.args.groups.count c.requires _ _ found c.in-Some.least _ c.in-Some.ensures
 
 pub returns-in-None : goal.returns-in-None
 returns-in-None c =
     let far : ℕ → ℕ = wrapped c.args.point.now c.args.handsets.now in
-    let all : min c.args.groups 512 ≡ c.args.groups = omega (arith, c.requires.few) in
+    let all : min c.args.groups.count 512 ≡ c.args.groups.count = omega (arith, c.requires.few) in
     let found = rw all at c.find_members.ensures in
-    absurd (not_unmet far c.args.rows.now c.args.groups c.requires _ _ found c.in-Some.least _ c.in-Some.ensures (rw all at c.in-None.ensures))
+    absurd (not_unmet far c.args.groups.rows.now c.args.groups.count c.requires _ _ found c.in-Some.least _ c.in-Some.ensures (rw all at c.in-None.ensures))

@@ -7,9 +7,9 @@ use Rattle.nearest.proofs.Rows.{rows_filled, site_answer_lem}
 use Rattle.nearest.proofs.nearest_site.Goals as goal
 
 pub nearest_of-requires : goal.nearest_of-requires
-nearest_of-requires c = rows_filled c.args.image.now c.args.rows.now c.args.groups c.requires.0.accepted c.requires.1.0 c.requires.1.1
+nearest_of-requires c = rows_filled c.args.image.now c.args.groups.rows.now c.args.groups.count c.requires.0.accepted c.requires.1.0 c.requires.1.1
 
 pub returns : goal.returns
 returns c =
-    site_answer_lem c.requires.0 refl c.raise_point-point.result c.args.rows.now c.args.groups c.nearest_of.result
+    site_answer_lem c.requires.0 refl c.raise_point-point.result c.args.groups.rows.now c.args.groups.count c.nearest_of.result
     (c.raise_point-point.ensures ∙ ap (map raised) (handed c.ranges.x c.ranges.y c.ranges.z)) c.requires.1.1 c.nearest_of.ensures

@@ -4,10 +4,10 @@ use Rattle.reporting.proofs.Answers.{filled_same}
 use Rattle.reporting.proofs.report_groups.Goals as goal
 
 pub write_text-requires : goal.write_text-requires
-write_text-requires c = rows_counted c.args.rows.now c.args.groups c.counts_of.result c.counts_of.ensures
+write_text-requires c = rows_counted c.args.groups.rows.now c.args.groups.count c.counts.result c.counts.ensures
 
 pub returns : goal.returns
 returns c =
     filled_same
-    (text_held c.requires c.counts_of.result c.count_roles-totals.result _ _ _ c.counts_of.ensures c.count_groups.ensures.counted c.count_groups.ensures.raised c.count_roles-totals.ensures)
+    (text_held c.requires c.counts.result c.count_roles-totals.result _ _ _ c.counts.ensures c.count_groups.ensures.counted c.count_groups.ensures.raised c.count_roles-totals.ensures)
     c.write_text.ensures

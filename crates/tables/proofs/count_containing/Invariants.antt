@@ -6,4 +6,4 @@ use Rattle.rows.specs.Rows.{rows_of}
 use Rattle.tables.proofs.count_containing.Given as goal
 
 abbrev pub invariant-loop-k : goal.invariant-loop-k
-invariant-loop-k l = (l.times ≤ l.k) × (l.times ≡ membership_count l.v (rows_of l.rows l.k))
+invariant-loop-k l = (l.times ≤ l.k) × (l.times ≡ membership_count l.v (rows_of l.groups.rows.now l.k))

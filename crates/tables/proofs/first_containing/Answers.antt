@@ -7,15 +7,15 @@ use Rattle.tables.proofs.Roles.{number_start, number_next, number_found}
 use Rattle.tables.proofs.first_containing.Goals as goal
 
 pub loop-k-init : goal.loop-k-init
-loop-k-init c = number_start c.args.rows.now c.args.v
+loop-k-init c = number_start c.args.groups.rows.now c.args.v
 
 pub returns-then-in_row : goal.returns-then-in_row
-returns-then-in_row c = number_found c.args.rows.now c.loop-k.k c.args.v c.args.count (omega arith) c.loop-k.invariant (sym c.in_row.ensures ∙ c.if-in_row.true)
+returns-then-in_row c = number_found c.args.groups.rows.now c.loop-k.k c.args.v c.args.groups.count (omega arith) c.loop-k.invariant (sym c.in_row.ensures ∙ c.if-in_row.true)
 
 pub loop-k-preserved : goal.loop-k-preserved
-loop-k-preserved c = number_next c.args.rows.now c.loop-k.k c.args.v c.loop-k.invariant (sym c.in_row.ensures ∙ c.if-in_row.false)
+loop-k-preserved c = number_next c.args.groups.rows.now c.loop-k.k c.args.v c.loop-k.invariant (sym c.in_row.ensures ∙ c.if-in_row.false)
 
 pub returns : goal.returns
 returns c =
-    let e : c.loop-k.k ≡ c.args.count = omega arith in
-    ap (λ (k : ℕ). community_number c.args.v (rows_of c.args.rows.now k)) (sym e) ∙ c.loop-k.invariant ∙ e
+    let e : c.loop-k.k ≡ c.args.groups.count = omega arith in
+    ap (λ (k : ℕ). community_number c.args.v (rows_of c.args.groups.rows.now k)) (sym e) ∙ c.loop-k.invariant ∙ e

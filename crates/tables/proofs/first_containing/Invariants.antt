@@ -5,4 +5,4 @@ use Rattle.rows.specs.Rows.{rows_of}
 use Rattle.tables.proofs.first_containing.Given as goal
 
 abbrev pub invariant-loop-k : goal.invariant-loop-k
-invariant-loop-k l = community_number l.v (rows_of l.rows l.k) ≡ l.k
+invariant-loop-k l = community_number l.v (rows_of l.groups.rows.now l.k) ≡ l.k

@@ -21,16 +21,16 @@ counted rows n c e =
 
 pub write_where_it_fits-requires : goal.write_where_it_fits-requires
 write_where_it_fits-requires c =
-    let n = counted c.args.rows.now (min c.args.count 512) c.counts_of-counts.result c.counts_of-counts.ensures in
+    let n = counted c.args.groups.rows.now (min c.args.groups.count 512) c.counts-counts.result c.counts-counts.ensures in
     (omega (arith, n.0), n.1)
 
 pub returns : goal.returns
 returns c =
-    let n = counted c.args.rows.now (min c.args.count 512) c.counts_of-counts.result c.counts_of-counts.ensures in
-    let gs : List (List ℕ) = rows_of c.args.rows.now c.counts_of-counts.result.groups in
-    let g : c.counts_of-counts.result.groups ≡ length gs = sym (rows_length c.args.rows.now c.counts_of-counts.result.groups) in
+    let n = counted c.args.groups.rows.now (min c.args.groups.count 512) c.counts-counts.result c.counts-counts.ensures in
+    let gs : List (List ℕ) = rows_of c.args.groups.rows.now c.counts-counts.result.groups in
+    let g : c.counts-counts.result.groups ≡ length gs = sym (rows_length c.args.groups.rows.now c.counts-counts.result.groups) in
     let room : c.ask_room.result ≡ ask_room (length gs) (length (member_table gs)) (length c.args.starts.now) (length c.args.members.now) =
     c.ask_room.ensures ∙ (λ i. ask_room (g i) (n.1 i) (c.write_where_it_fits.auto.starts i) (c.write_where_it_fits.auto.members i)) in
-    subst (λ (k : ℕ). PlanWritten (rows_of c.args.rows.now k) c.args.starts.now c.args.members.now c.ask_room.result c.write_where_it_fits.new.starts c.write_where_it_fits.new.members)
+    subst (λ (k : ℕ). PlanWritten (rows_of c.args.groups.rows.now k) c.args.starts.now c.args.members.now c.ask_room.result c.write_where_it_fits.new.starts c.write_where_it_fits.new.members)
     n.0
     (record { answer = ap plan_answer room; starts = c.write_where_it_fits.ensures.started; members = c.write_where_it_fits.ensures.written })

@@ -8,5 +8,5 @@ use Rattle.rows.specs.Rows.{rows_of}
 use Rattle.tables.proofs.write_tables.Given as goal
 
 abbrev pub invariant-loop-k : goal.invariant-loop-k
-invariant-loop-k l = (l.place ≡ length (member_table (rows_of l.rows l.k)))
-    × (set l.starts l.k l.place ≡ sets l.initial.starts 0 (start_table (rows_of l.rows l.k))) × (l.members ≡ sets l.initial.members 0 (member_table (rows_of l.rows l.k)))
+invariant-loop-k l = (l.place ≡ length (member_table (rows_of l.groups.rows.now l.k)))
+    × (set l.starts l.k l.place ≡ sets l.initial.starts 0 (start_table (rows_of l.groups.rows.now l.k))) × (l.members ≡ sets l.initial.members 0 (member_table (rows_of l.groups.rows.now l.k)))

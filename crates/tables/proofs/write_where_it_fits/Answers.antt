@@ -19,7 +19,7 @@ tests rows groups memberships a b h l new = ap₂ (λ (g m : ℕ). by_room g m a
 
 pub returns-then-not-fits : goal.returns-then-not-fits
 returns-then-not-fits c =
-    let few : Bool = ltb c.args.groups (length c.args.starts.now) in
+    let few : Bool = ltb c.args.groups.count (length c.args.starts.now) in
     let short : Bool = leb c.args.memberships (length c.args.members.now) in
     record {
       started = sym (tests _ _ _ _ _ c.requires.1 _ _ ∙ room_no _ _ few short (ap not c.if-not-fits.true));
@@ -28,7 +28,7 @@ returns-then-not-fits c =
 
 pub returns : goal.returns
 returns c =
-    let few : Bool = ltb c.args.groups (length c.args.starts.now) in
+    let few : Bool = ltb c.args.groups.count (length c.args.starts.now) in
     let short : Bool = leb c.args.memberships (length c.args.members.now) in
     let b : (few ≡ true) × (short ≡ true) = room_yes few short (ap not c.if-not-fits.false) in
     record {

@@ -10,7 +10,5 @@ mark_rows-requires-clause-fits c = degrees_fit c.args.edges.now every_edge c.arg
 
 pub returns : goal.returns
 returns c =
-    let marked = rw c.min-some.ensures at c.mark_rows.ensures.marked in
-    let summed = rw c.min-some.ensures at c.mark_rows.ensures.summed in
-    progress_chunk c.args.handsets.now c.args.edges.now c.args.m c.args.limit c.args.rows.now c.args.all c.args.first _ c.args.degrees.now c.args.tallies.now _ c.args.reaches.now _ _
-    marked c.requires.left c.requires.in_tables c.requires.degrees_hold summed c.requires.so_far c.count_edges.ensures.counted c.count_edges.ensures.raised
+    progress_chunk c.args.handsets.now c.args.edges.now c.args.m c.args.limit c.args.groups.rows.now c.args.groups.count c.args.first _ c.args.degrees.now c.args.tallies.now _ c.args.reaches.now _ _
+    c.mark_rows.ensures.marked c.requires.left c.requires.in_tables c.requires.degrees_hold c.mark_rows.ensures.summed c.requires.so_far c.count_edges.ensures.counted c.count_edges.ensures.raised

@@ -10,7 +10,7 @@ invariant-loop-first l = record {
   chunks : l.first % 64 ≡ 0;
   few : l.first ≤ 512;
   degrees : DegreesHold l.edges every_edge l.m l.degrees;
-  so_far : Progress l.handsets l.edges l.m l.most l.rows l.all l.first l.tallies l.reaches;
+  so_far : Progress l.handsets l.edges l.m l.most l.groups.rows.now l.all l.first l.tallies l.reaches;
 }
 
 abbrev pub decreases-loop-first : goal.decreases-loop-first

@@ -3,4 +3,4 @@ use Rattle.totals.proofs.Words.{counted_rows}
 use Rattle.totals.proofs.count_roles.Goals as goal
 
 pub returns : goal.returns
-returns c = counted_rows c.args.rows.now c.args.cores.now _ _ _ c.find_members.ensures c.args.n _ _ c.add_words.ensures
+returns c = counted_rows c.args.groups.rows.now c.args.cores.now _ _ _ c.find_members.ensures c.args.n _ _ c.add_words.ensures

@@ -1,5 +1,5 @@
 use Rattle.rows.proofs.Rows.{found_none, found_more}
-use Rattle.rows.proofs.find_members.Goals as goal
+use Rattle.rows.proofs.Groups.find_members.Goals as goal
 
 pub loop-k-init : goal.loop-k-init
 loop-k-init c = found_none _

@@ -1,9 +1,0 @@
--- `rows::row_of` meets its contract: the slice has the eight words of the row, or none.
-use mathlib.Core.Path.{ap}
-use Prim.Native.Nat.{ℕ, ◌+◌, ◌*◌}
-use native.Mathlib.Omega.{arith}
-use Rattle.rows.proofs.Rows.{row_slice}
-use Rattle.rows.proofs.row_of.Goals as goal
-
-pub returns : goal.returns
-returns c = row_slice c.args.rows.now c.args.k _ _ (omega arith) (ap (λ (n : ℕ). n * 8) c.min-first.ensures) (ap (λ (n : ℕ). n * 8 + 8) c.min.ensures)
