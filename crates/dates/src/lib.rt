@@ -1,6 +1,6 @@
 // Dates of the Gregorian calendar, years 1600 to 9999: which exist, their day numbers and their weekdays.
 //
-// The definitions are in specs/Dates, and what is proved of them in specs/Calendar. Each call takes any three numbers.
+// The definitions are in specs/Dates, and what is proved of them in specs/Calendar. Each method takes any three numbers.
 #![tactic(auto)]
 
 ghost use Rattle.std.specs.Prelude.{◌≡◌, true, ◌≤◌};
@@ -36,27 +36,6 @@ fn month_length(year: u32, month: u32) -> u32
     MONTH_LENGTHS[k]
 }
 
-// Whether there is such a date, in a year from 1600 to 9999.
-pub fn exists(year: u32, month: u32, day: u32) -> bool
-    ensures { result ≡ date_exists year month day }
-{
-    if month < 1 {
-        return false;
-    }
-    if 12 < month {
-        return false;
-    }
-    (FIRST_YEAR <= year) & ((year <= LAST_YEAR) & ((1 <= day) & (day <= month_length(year, month))))
-}
-
-// The year that a month counts to when years begin with March: January and February count to the year before.
-fn march_year(year: u32, month: u32) -> u32
-    requires { 1 ≤ year }
-    ensures { result ≡ march_year year month }
-{
-    if month < 3 { year - 1 } else { year }
-}
-
 // The days before 1 March of a year, from 1 March of the year 0 on.
 fn days_before(year: u32) -> u32
     requires { year ≤ last_year }
@@ -74,29 +53,66 @@ fn before_month(month: u32) -> u32
     DAY_COUNTS[k]
 }
 
-// The day number of a date that exists.
-fn count_days(year: u32, month: u32, day: u32) -> u32
-    requires { date_exists year month day ≡ true }
-    ensures { result ≡ day_number year month day }
-{
-    days_before(march_year(year, month)) + (before_month(month) + day)
+// A date: any three numbers.
+#[derive(Clone, Copy, PartialEq, Eq)]
+pub struct Date {
+    pub year: u32,
+    pub month: u32,
+    pub day: u32,
 }
 
-// The day number of a date that exists.
-pub fn day_number(year: u32, month: u32, day: u32) -> Option<u32>
-    ensures { result ≡ if_date year month day (day_number_of year month day) }
-{
-    if exists(year, month, day) {
-        Some(count_days(year, month, day))
-    } else {
-        None
+impl Date {
+    // Whether there is such a date, in a year from 1600 to 9999.
+    pub fn exists(self) -> bool
+        ensures { result ≡ date_exists self.year self.month self.day }
+    {
+        if self.month < 1 {
+            return false;
+        }
+        if 12 < self.month {
+            return false;
+        }
+        (FIRST_YEAR <= self.year)
+            & ((self.year <= LAST_YEAR)
+                & ((1 <= self.day) & (self.day <= month_length(self.year, self.month))))
     }
-}
 
-// The weekday of a date that exists, 0 for Monday to 6 for Sunday.
-pub fn weekday(year: u32, month: u32, day: u32) -> Option<u32>
-    ensures { result ≡ if_date year month day (weekday_of year month day) }
-{
-    let days = day_number(year, month, day)?;
-    Some((days + 1) % 7)
+    // The year that the date counts to when years begin with March: January and February count to the year before.
+    fn march_year(self) -> u32
+        requires { 1 ≤ self.year }
+        ensures { result ≡ march_year self.year self.month }
+    {
+        if self.month < 3 {
+            self.year - 1
+        } else {
+            self.year
+        }
+    }
+
+    // The day number of a date that exists.
+    fn count_days(self) -> u32
+        requires { date_exists self.year self.month self.day ≡ true }
+        ensures { result ≡ day_number self.year self.month self.day }
+    {
+        days_before(self.march_year()) + (before_month(self.month) + self.day)
+    }
+
+    // The day number of a date that exists.
+    pub fn day_number(self) -> Option<u32>
+        ensures { result ≡ if_date self.year self.month self.day (day_number_of self.year self.month self.day) }
+    {
+        if self.exists() {
+            Some(self.count_days())
+        } else {
+            None
+        }
+    }
+
+    // The weekday of a date that exists, 0 for Monday to 6 for Sunday.
+    pub fn weekday(self) -> Option<u32>
+        ensures { result ≡ if_date self.year self.month self.day (weekday_of self.year self.month self.day) }
+    {
+        let days = self.day_number()?;
+        Some((days + 1) % 7)
+    }
 }

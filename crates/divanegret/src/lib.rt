@@ -15,6 +15,7 @@ ghost use Rattle.writer.specs.Writer.{encoded_of, buffer_after};
 ghost use Rattle.codes.specs.Codes.{open_code, plan_code, role_code, tally_code, nearest_code, report_code};
 ghost use Rattle.table_codes.specs.Codes.{count_code, scheduled_code};
 
+use dates::Date;
 use layout::Parameters;
 use lookup::Plan;
 use schedule::{Time, Window};
@@ -83,18 +84,13 @@ pub extern "C" fn dvg_members_at(
     restday_starts: &[u32],
     restday_members: &[u16],
 ) -> i64
-    ensures { result ≡ scheduled_code (scheduled_of (choice_of (record { year = year; month = month; day = day; minute = minute }) (record { opening = opening; closing = closing })) (looked_of workday_starts.now workday_members.now k) (looked_of restday_starts.now restday_members.now k)) }
+    ensures { result ≡ scheduled_code (scheduled_of (choice_of (record { date = record { year = year; month = month; day = day }; minute = minute }) (record { opening = opening; closing = closing })) (looked_of workday_starts.now workday_members.now k) (looked_of restday_starts.now restday_members.now k)) }
 {
     let time = Time {
-        year: year,
-        month: month,
-        day: day,
-        minute: minute,
+        date: Date { year, month, day },
+        minute,
     };
-    let window = Window {
-        opening: opening,
-        closing: closing,
-    };
+    let window = Window { opening, closing };
     let workday = Plan {
         starts: workday_starts,
         members: workday_members,
@@ -130,12 +126,12 @@ pub extern "C" fn dvg_write(
     ensures { (result ≡ count_code (encoded_of (record { n = n; m = m; limit = limit; p = p; q = q; mu = mu }) coordinates.now ends.now (length buffer.old))) × (buffer.new ≡ buffer_after (record { n = n; m = m; limit = limit; p = p; q = q; mu = mu }) coordinates.now ends.now buffer.old) }
 {
     let x = Parameters {
-        n: n,
-        m: m,
-        limit: limit,
-        p: p,
-        q: q,
-        mu: mu,
+        n,
+        m,
+        limit,
+        p,
+        q,
+        mu,
     };
     table_codes::count_code(writer::write(x, coordinates, ends, buffer))
 }

@@ -12,7 +12,7 @@ use Rattle.schedule.specs.declared.Day.TheVariants.{Workday, Restday}
 use Rattle.schedule.specs.Schedule.{choice_of}
 
 abbrev pub at : ℕ → ℕ → ℕ → ℕ → Time
-at y m d minute = record { year = y; month = m; day = d; minute = minute }
+at y m d minute = record { date = record { year = y; month = m; day = d }; minute = minute }
 
 abbrev pub from : ℕ → ℕ → Window
 from opening closing = record { opening = opening; closing = closing }

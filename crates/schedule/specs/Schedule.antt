@@ -32,7 +32,7 @@ day_minutes = 1440
 
 unfoldable pub date_fits : Time → Bool
 unfolding date_exists
-date_fits t = date_exists t.year t.month t.day
+date_fits t = date_exists t.date.year t.date.month t.date.day
 
 unfoldable pub minutes_fit : Time → Window → Bool
 minutes_fit t w = ltb t.minute day_minutes && (leb w.closing day_minutes && leb w.opening w.closing)
@@ -40,7 +40,7 @@ minutes_fit t w = ltb t.minute day_minutes && (leb w.closing day_minutes && leb 
 -- weekdays 0 to 4
 unfoldable pub is_workday : Time → Bool
 unfolding weekday_of
-is_workday t = ltb (weekday_of t.year t.month t.day) 5
+is_workday t = ltb (weekday_of t.date.year t.date.month t.date.day) 5
 
 unfoldable pub in_window : Time → Window → Bool
 in_window t w = leb w.opening t.minute && ltb t.minute w.closing

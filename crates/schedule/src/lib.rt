@@ -9,6 +9,7 @@ ghost use Rattle.lookup.specs.Lookup.{members_of, looked_of};
 ghost use Rattle.schedule.specs.Schedule.{minutes_fit, is_workday, is_working, choice_of, part_of, scheduled_of};
 ghost use Rattle.schedule.specs.Answers.{scheduled_answer};
 
+use dates::Date;
 use image::{Question, Refusal};
 use lookup::Plan;
 
@@ -18,9 +19,7 @@ const DAY_MINUTES: u32 = 1440;
 // A date and a minute of that day: any numbers.
 #[derive(Clone, Copy)]
 pub struct Time {
-    pub year: u32,
-    pub month: u32,
-    pub day: u32,
+    pub date: Date,
     pub minute: u32,
 }
 
@@ -56,7 +55,7 @@ fn minutes_fit(t: Time, w: Window) -> bool
 fn is_workday(t: Time) -> bool
     ensures { result ≡ is_workday t }
 {
-    match dates::weekday(t.year, t.month, t.day) {
+    match t.date.weekday() {
         Some(weekday) => weekday < 5,
         None => false,
     }
@@ -73,7 +72,7 @@ fn is_working(t: Time, w: Window) -> bool
 fn choose(t: Time, w: Window) -> Result<Day, Refusal>
     ensures { result ≡ choice_of t w }
 {
-    if !dates::exists(t.year, t.month, t.day) {
+    if !t.date.exists() {
         return Err(Question::Date.refused());
     }
     if !minutes_fit(t, w) {

@@ -2,6 +2,7 @@
 // a line each. The plans are those of site S, with mu 4 for working hours, from 8:00 to 17:00, and with mu 3 for the rest.
 #![tactic(auto)]
 
+use dates::Date;
 use lookup::Plan;
 use schedule::{Time, Window};
 use std::io;
@@ -25,9 +26,11 @@ fn print_members(
     k: u16,
 ) -> io::Result<()> {
     let time = Time {
-        year: year as u32,
-        month: month as u32,
-        day: day as u32,
+        date: Date {
+            year: year as u32,
+            month: month as u32,
+            day: day as u32,
+        },
         minute: minute as u32,
     };
     let window = Window {

@@ -1,6 +1,6 @@
--- `dates::day_number` meets its contract, by the test of the date.
+-- `dates::Date::day_number` meets its contract, by the test of the date.
 use Rattle.dates.specs.Dates.{day_number_of, if_date}
-use Rattle.dates.proofs.day_number.Goals as goal
+use Rattle.dates.proofs.Date.day_number.Goals as goal
 
 pub returns-then-exists : goal.returns-then-exists
 unfolding day_number_of if_date
