@@ -18,6 +18,7 @@ ghost use Rattle.table_codes.specs.Codes.{count_code, scheduled_code};
 use dates::Date;
 use layout::Parameters;
 use lookup::Plan;
+use points::Point;
 use schedule::{Time, Window};
 
 // The report of an image, in the text buffer.
@@ -107,7 +108,7 @@ pub extern "C" fn dvg_members_at(
 pub extern "C" fn dvg_nearest(image: &[u8], x: i32, y: i32, z: i32) -> i64
     ensures { result ≡ nearest_code (nearest_of image.now (x ∷ y ∷ z ∷ [])) }
 {
-    codes::nearest_code(nearest::nearest_group(image, x, y, z))
+    codes::nearest_code(nearest::nearest_group(image, Point { x, y, z }))
 }
 
 // The image of a site, written into the buffer.

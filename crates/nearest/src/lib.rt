@@ -12,6 +12,7 @@ ghost use Rattle.nearest.specs.Nearest.{nearest_in, nearest_of, nearest_answer};
 ghost use Rattle.nearest.specs.ForProofs.{wrapped, Closest, Takes, TakesWord, RowsFilled, PointHeld};
 
 use image::{Header, Question, Refusal};
+use points::Point;
 use rows::Groups;
 
 // The nearest group: its number, and the squared distance of its nearest member.
@@ -115,23 +116,20 @@ fn nearest_site<'a>(
     image: &'a [u8],
     h: Header,
     groups: Groups<'a>,
-    x: i32,
-    y: i32,
-    z: i32,
+    point: Point,
 ) -> Result<Option<NearestGroup>, Refusal>
-    requires { (PointHeld image.now h (x ∷ y ∷ z ∷ [])) × ((groups.count ≤ 512) × (rows_of groups.rows.now groups.count ≡ communities_of image.now)) }
-    ensures { result ≡ nearest_of image.now (x ∷ y ∷ z ∷ []) }
+    requires { (PointHeld image.now h (point.x ∷ point.y ∷ point.z ∷ [])) × ((groups.count ≤ 512) × (rows_of groups.rows.now groups.count ≡ communities_of image.now)) }
+    ensures { result ≡ nearest_of image.now (point.x ∷ point.y ∷ point.z ∷ []) }
 {
     let start = h.handsets as usize;
     let end = start + fields::HANDSET_BYTES * (h.n as usize);
-    let point = points::raise_point(x, y, z);
-    nearest_of(&point, &image[start..end], groups)
+    nearest_of(&point.raised(), &image[start..end], groups)
 }
 
-// The group that stands nearest to the point x, y, z, and the squared distance of its nearest member; of groups at the same distance the lowest. A refused
+// The group that stands nearest to a point, and the squared distance of its nearest member; of groups at the same distance the lowest. A refused
 // image ends the call with its refusal, a point out of the limits with 17. None is that there are no groups.
-pub fn nearest_group(image: &[u8], x: i32, y: i32, z: i32) -> Result<Option<NearestGroup>, Refusal>
-    ensures { nearest_answer result ≡ nearest_answer (nearest_of image.now (x ∷ y ∷ z ∷ [])) }
+pub fn nearest_group(image: &[u8], point: Point) -> Result<Option<NearestGroup>, Refusal>
+    ensures { nearest_answer result ≡ nearest_answer (nearest_of image.now (point.x ∷ point.y ∷ point.z ∷ [])) }
 {
     let mut table = [0; sets::TABLE_WORDS];
     let mut cores = [0; sets::ROW_WORDS];
@@ -140,12 +138,12 @@ pub fn nearest_group(image: &[u8], x: i32, y: i32, z: i32) -> Result<Option<Near
     let Ok(h) = opened else {
         return Err(refusals::refusal_of(opened));
     };
-    if points::in_limits(x, y, z) {
+    if point.is_in_limits() {
         let groups = Groups {
             rows: &table,
             count: found.groups,
         };
-        return nearest_site(image, h, groups, x, y, z);
+        return nearest_site(image, h, groups, point);
     }
     Err(Question::Point.refused())
 }

@@ -1,4 +1,3 @@
-pub mod Handed
 pub mod Limits
 pub mod Distances
 pub mod Signed

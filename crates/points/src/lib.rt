@@ -6,7 +6,7 @@
 
 ghost use Rattle.std.specs.Prelude.{◌≡◌, ◌%◌, ◌^◌, [], ◌∷◌};
 ghost use Rattle.image.specs.Image.{handset_record};
-ghost use Rattle.image.specs.Signed.{raised};
+ghost use Rattle.image.specs.Signed.{raised, within_limits};
 ghost use Rattle.points.specs.Points.{point_in_limits, distance_from};
 
 // A signed coordinate plus 2 ^ 31.
@@ -16,18 +16,35 @@ pub fn raise(x: i32) -> u32
     (x as i64 + fields::RAISE as i64) as u32
 }
 
-// Question 17: whether every coordinate of a point is within the limits.
-pub fn in_limits(x: i32, y: i32, z: i32) -> bool
-    ensures { result ≡ point_in_limits (x ∷ y ∷ z ∷ []) }
+// Whether a signed coordinate is within the limits.
+fn is_within_limits(x: i32) -> bool
+    ensures { result ≡ within_limits x }
 {
-    fields::in_limits(raise(x)) & (fields::in_limits(raise(y)) & fields::in_limits(raise(z)))
+    fields::in_limits(raise(x))
 }
 
-// The coordinates of a point, each plus 2 ^ 31.
-pub fn raise_point(x: i32, y: i32, z: i32) -> [u32; fields::COORDINATES]
-    ensures { result ≡ raised x ∷ raised y ∷ raised z ∷ [] }
-{
-    [raise(x), raise(y), raise(z)]
+// A point: any three coordinates.
+#[derive(Clone, Copy)]
+pub struct Point {
+    pub x: i32,
+    pub y: i32,
+    pub z: i32,
+}
+
+impl Point {
+    // Question 17: whether every coordinate is within the limits.
+    pub fn is_in_limits(self) -> bool
+        ensures { result ≡ point_in_limits (self.x ∷ self.y ∷ self.z ∷ []) }
+    {
+        is_within_limits(self.x) & (is_within_limits(self.y) & is_within_limits(self.z))
+    }
+
+    // The coordinates, each plus 2 ^ 31.
+    pub fn raised(self) -> [u32; fields::COORDINATES]
+        ensures { result ≡ raised self.x ∷ raised self.y ∷ raised self.z ∷ [] }
+    {
+        [raise(self.x), raise(self.y), raise(self.z)]
+    }
 }
 
 // The squared distance from a point, by its raised coordinates, to handset v of the handset records; a coordinate that is not there counts as 0. Exact below

@@ -4,11 +4,8 @@ use Rattle.std.specs.Prelude.{Err}
 use mathlib.Core.Path.{◌≡◌, sym, ap, ◌∙◌, subst}
 use mathlib.Core.List.{[], ◌∷◌}
 use lib.Dec.{T}
-use Rattle.image.specs.Image.{header_of}
-use Rattle.image.specs.Questions.{Accepted, open_of, refusal_of}
+use Rattle.image.specs.Questions.{open_of, refusal_of}
 use Rattle.image.proofs.Acceptance.{accepted}
-use Rattle.points.specs.Points.{point_in_limits}
-use Rattle.points.proofs.Handed.{handed}
 use Rattle.nearest.specs.Nearest.{nearest_answer}
 use Rattle.nearest.proofs.Answers.{refused_answer, past_answer}
 use Rattle.nearest.proofs.Rows.{rows_found}
@@ -18,15 +15,14 @@ pub returns-in_default : goal.returns-in_default
 returns-in_default c =
     let e : open_of c.args.image.now ≡ Err c.refusal_of.result =
     sym c.find_rows-found.ensures.site.answered ∙ c.in_default.is ∙ ap Err (sym (c.refusal_of.ensures ∙ ap refusal_of c.in_default.is)) in
-    ap nearest_answer (refused_answer c.args.image.now (c.args.x ∷ c.args.y ∷ c.args.z ∷ []) c.refusal_of.result e)
+    ap nearest_answer (refused_answer c.args.image.now (c.args.point.x ∷ c.args.point.y ∷ c.args.point.z ∷ []) c.refusal_of.result e)
 
 pub nearest_site-requires : goal.nearest_site-requires
 nearest_site-requires c =
-    let ok = (let it : Accepted c.args.image.now × (c.in-Ok.h ≡ header_of c.args.image.now) = accepted c.args.image.now c.in-Ok.h (sym c.find_rows-found.ensures.site.answered ∙ c.in-Ok.is) in it) in
-    (record { accepted = ok.0; header = ok.1; inside = subst T c.in_limits.ensures (subst T (sym c.if-in_limits.true) tt) }, rows_found _ ok.0 (c.find_rows-found.ensures.site.found c.in-Ok.h c.in-Ok.is))
+    let ok = accepted c.args.image.now c.in-Ok.h (sym c.find_rows-found.ensures.site.answered ∙ c.in-Ok.is) in
+    (record { accepted = ok.0; header = ok.1; inside = subst T (c.is_in_limits.ensures) (subst T (sym c.if-is_in_limits.true) tt) }, rows_found _ ok.0 (c.find_rows-found.ensures.site.found c.in-Ok.h c.in-Ok.is))
 
 pub returns : goal.returns
 returns c =
-    rw c.refused.ensures
-    (ap nearest_answer
-    (past_answer c.args.image.now (c.args.x ∷ c.args.y ∷ c.args.z ∷ []) (let it : Accepted c.args.image.now × (c.in-Ok.h ≡ header_of c.args.image.now) = accepted c.args.image.now c.in-Ok.h (sym c.find_rows-found.ensures.site.answered ∙ c.in-Ok.is) in it).0 (sym (ap point_in_limits (handed c.ranges.x c.ranges.y c.ranges.z)) ∙ sym c.in_limits.ensures ∙ c.if-in_limits.false)))
+    let ok = accepted c.args.image.now c.in-Ok.h (sym c.find_rows-found.ensures.site.answered ∙ c.in-Ok.is) in
+    rw c.refused.ensures (ap nearest_answer (past_answer c.args.image.now _ ok.0 (sym c.is_in_limits.ensures ∙ c.if-is_in_limits.false)))

@@ -1,8 +1,5 @@
 -- `nearest::nearest_site` meets its contract: the rows of an accepted image's communities each have a member, and the answer over them is the call's.
-use mathlib.Core.Path.{refl, ap, ◌∙◌}
-use mathlib.Core.List.{map}
-use Rattle.image.specs.Signed.{raised}
-use Rattle.points.proofs.Handed.{handed}
+use mathlib.Core.Path.{refl}
 use Rattle.nearest.proofs.Rows.{rows_filled, site_answer_lem}
 use Rattle.nearest.proofs.nearest_site.Goals as goal
 
@@ -11,5 +8,5 @@ nearest_of-requires c = rows_filled c.args.image.now c.args.groups.rows.now c.ar
 
 pub returns : goal.returns
 returns c =
-    site_answer_lem c.requires.0 refl c.raise_point-point.result c.args.groups.rows.now c.args.groups.count c.nearest_of.result
-    (c.raise_point-point.ensures ∙ ap (map raised) (handed c.ranges.x c.ranges.y c.ranges.z)) c.requires.1.1 c.nearest_of.ensures
+    site_answer_lem c.requires.0 refl c.raised.result c.args.groups.rows.now c.args.groups.count c.nearest_of.result
+    c.raised.ensures c.requires.1.1 c.nearest_of.ensures
