@@ -41,7 +41,7 @@ pub fn role(image: &[u8], v: usize) -> Result<Standing, Refusal>
     let Ok(h) = opened else {
         return Err(refusals::refusal_of(opened));
     };
-    if h.n as usize <= v {
+    if usize::from(h.n) <= v {
         return Err(Question::Handset.refused());
     }
     let groups = Groups {
