@@ -1,7 +1,8 @@
 // A site image made of numbers: the header, the handsets directly after it, the edges directly after them.
 //
 // The definitions are in specs/Layout. `put_image` writes an image at the front of a buffer, and nothing where the tables are not those of its counts or the
-// buffer is too short; it does not ask whether the reader would accept it. proofs/Reading has what the reader finds in such an image.
+// buffer is too short; it does not ask whether the reader would accept it. proofs/Reading has what the reader finds in such an image. No From exists between usize
+// and u32 or u64, so these are casts.
 #![tactic(auto)]
 
 ghost use Rattle.std.specs.Prelude.{◌+◌, ◌*◌, ◌≤◌, ◌≡◌, length};
@@ -40,7 +41,7 @@ pub fn lengths_fit(x: Parameters, coordinates: usize, ends: usize) -> bool
 fn word(x: i32) -> u64
     ensures { result ≡ word32 x }
 {
-    points::raise(x).wrapping_add(fields::RAISE) as u64
+    u64::from(points::raise(x).wrapping_add(fields::RAISE))
 }
 
 // Writes the counts of handsets and edges, where their records begin, and the length of the image: the first half of the header.
@@ -85,7 +86,7 @@ fn put_ends(s: &mut [u8], from: u32, ends: &[u16])
 {
     for (i, v) in ends.iter().enumerate() {
         let at = from as usize + fields::END_BYTES * i;
-        little_endian::write(s, at, fields::END_BYTES, *v as u64);
+        little_endian::write(s, at, fields::END_BYTES, u64::from(*v));
     }
 }
 

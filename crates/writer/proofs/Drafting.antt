@@ -1,7 +1,7 @@
 -- Laws for the writer's code: its questions one by one, the draft that it puts 7 to 10 to, and the call's outcome.
 --
 --     no_3, no_5, no_6     the answer where a question gets a no and those before it a yes
---     by_reader            where all three get a yes, it is the reader's answer to the image
+--     asked, by_reader     where all three get a yes, it is the reader's answer to the image
 --     Asked                questions 3, 5 and 6 got a yes (layout/proofs/Reading); writes_asked: then the image is written where there is room
 --     put_within           what is written is no longer than the draft; draft_image: and the slice of it that is handed to the reader is the image
 --     tables_site          a header as answer: the three questions got a yes, and it is that of the image
@@ -34,6 +34,9 @@ use Rattle.layout.specs.declared.Parameters.{Parameters}
 use Rattle.layout.proofs.Reading.{Asked, tables_fit_lem, asked_length, open_image}
 use Rattle.writer.specs.Writer.{tables_answer, ask_buffer, encoded_of, buffer_for, buffer_after, encoded_answer, WriteCall}
 
+T_of : {b : Bool} → b ≡ true → T b
+T_of e = subst T (sym e) tt
+
 module _ (x : Parameters) (coords : List ℤ) (ends : List ℕ) where
   abbrev q3 : Bool
   q3 = counts_fit x.n x.m
@@ -50,13 +53,16 @@ module _ (x : Parameters) (coords : List ℤ) (ends : List ℕ) where
   unfolding tables_answer
   no_3 e = refuse q3 3 0 _ e
 
-  pub no_5 : T q3 → q5 ≡ false → tables_answer x coords ends ≡ Err (refusal 5)
+  pub no_5 : q3 ≡ true → q5 ≡ false → tables_answer x coords ends ≡ Err (refusal 5)
   unfolding tables_answer
-  no_5 a e = go_on q3 3 0 _ a ∙ refuse q5 5 0 _ e
+  no_5 a e = go_on q3 3 0 _ (T_of a) ∙ refuse q5 5 0 _ e
 
-  pub no_6 : T q3 → T q5 → q6 ≡ false → tables_answer x coords ends ≡ Err (refusal 6)
+  pub no_6 : q3 ≡ true → q5 ≡ true → q6 ≡ false → tables_answer x coords ends ≡ Err (refusal 6)
   unfolding tables_answer
-  no_6 a b e = go_on q3 3 0 _ a ∙ go_on q5 5 0 _ b ∙ refuse q6 6 0 _ e
+  no_6 a b e = go_on q3 3 0 _ (T_of a) ∙ go_on q5 5 0 _ (T_of b) ∙ refuse q6 6 0 _ e
+
+  pub asked : q3 ≡ true → q5 ≡ true → q6 ≡ true → Asked x coords ends
+  asked a b e = record { q3 = T_of a; q5 = T_of b; q6 = T_of e }
 
   pub by_reader : Asked x coords ends → tables_answer x coords ends ≡ open_of (image_of x coords ends)
   unfolding tables_answer

@@ -1,7 +1,7 @@
 // The writer of site images, for the tool that commissions a site: from the numbers of a site to the bytes that the reader accepts.
 //
 // The definitions are in specs/Writer. Questions 7 to 10 are put by the reader itself, to a draft: the caller's buffer gets no byte before all questions, and 20,
-// have a yes. What the reader and the other calls make of what is written is said by the crate `roundtrips`.
+// have a yes. What the reader and the other calls make of what is written is said by the crate `roundtrips`. No From exists from u32 to usize, so the cast.
 #![tactic(auto)]
 
 ghost use Rattle.std.specs.Prelude.{◌≡◌};

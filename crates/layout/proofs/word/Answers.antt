@@ -7,4 +7,4 @@ use Rattle.layout.proofs.Numbers.{shifted_raised}
 use Rattle.layout.proofs.word.Goals as goal
 
 pub returns : goal.returns
-returns c = ap shifted (c.raise.ensures ∙ ap raised (to_z-of_z c.ranges.x)) ∙ shifted_raised c.args.x c.ranges.x.sfits
+returns c = c.from.ensures ∙ ap shifted (c.raise.ensures ∙ ap raised (to_z-of_z c.ranges.x)) ∙ shifted_raised c.args.x c.ranges.x.sfits
