@@ -1,6 +1,7 @@
 // Dates of the Gregorian calendar, years 1600 to 9999: which exist, their day numbers and their weekdays.
 //
-// The definitions are in specs/Dates, and what is proved of them in specs/Calendar. Each method takes any three numbers.
+// The definitions are in specs/Dates, and what is proved of them in specs/Calendar. Each method takes any three numbers. No From exists
+// from u32 to usize, so the casts.
 #![tactic(auto)]
 
 ghost use Rattle.std.specs.Prelude.{◌≡◌, true, ◌≤◌};
