@@ -1,7 +1,7 @@
 // The lines of a report, and the line that stands for a refusal, written into a lent buffer: what a report looks like, and nothing of how its numbers are found.
 //
 // A text is written from its first byte on; past the end of the buffer nothing is written, and the answer is the text's length all the same. The definitions are
-// in specs/Lines. Callers cite proofs/Lengths for how long a report can be.
+// in specs/Lines. Callers cite proofs/Lengths for how long a report can be. No From exists between usize and u32 or u64, so these are casts.
 #![tactic(auto)]
 
 ghost use Rattle.std.specs.Prelude.{◌≤◌, ◌<◌, ◌≡◌, ◌++◌};
@@ -198,7 +198,7 @@ pub fn put_refusal(buffer: &mut [u8], refusal: Refusal) -> usize
     ensures { Wrote buffer.old 0 (refused_text refusal) buffer.new result }
 {
     let mut text = Text::new(buffer);
-    put_labelled(&mut text, b"refused ", refusal.number as u64);
+    put_labelled(&mut text, b"refused ", u64::from(refusal.number));
     put_labelled(&mut text, b" ", refusal.place as u64);
     end_line(&mut text);
     text.position

@@ -1,7 +1,8 @@
 // Which group stands nearest to a point: the least squared distance from the point to a member of any group, and the lowest group that has it.
 //
 // The definitions are in specs/Nearest, what they mean in specs/Meaning. The groups stand as rows of bits; each handset that is in one is measured once, however
-// many groups it is in, and the handsets at the least distance so far are kept in a set.
+// many groups it is in, and the handsets at the least distance so far are kept in a set. No From exists from u32 to usize, nor from usize to u16, so these are
+// casts.
 #![tactic(auto)]
 
 ghost use Rattle.std.specs.Prelude.{Some, ◌≤◌, ◌<◌, ◌*◌, ◌≡◌, [], ◌∷◌, eqb};
@@ -122,7 +123,7 @@ fn nearest_site<'a>(
     ensures { result ≡ nearest_of image.now (point.x ∷ point.y ∷ point.z ∷ []) }
 {
     let start = h.handsets as usize;
-    let end = start + fields::HANDSET_BYTES * (h.n as usize);
+    let end = start + fields::HANDSET_BYTES * usize::from(h.n);
     nearest_of(&point.raised(), &image[start..end], groups)
 }
 

@@ -8,4 +8,4 @@ pub returns : goal.returns
 unfolding refused_text
 returns c =
     written c.new-text.ensures.bytes c.new-text.ensures.position (search rules)
-    (then c.put_labelled.ensures (then c.put_labelled-2.ensures c.end_line.ensures))
+    (then (rw c.from.ensures at c.put_labelled.ensures) (then c.put_labelled-2.ensures c.end_line.ensures))

@@ -9,4 +9,4 @@ nearest_of-requires c = rows_filled c.args.image.now c.args.groups.rows.now c.ar
 pub returns : goal.returns
 returns c =
     site_answer_lem c.requires.0 refl c.raised.result c.args.groups.rows.now c.args.groups.count c.nearest_of.result
-    c.raised.ensures c.requires.1.1 c.nearest_of.ensures
+    c.raised.ensures c.requires.1.1 (rw c.from.ensures at c.nearest_of.ensures)
