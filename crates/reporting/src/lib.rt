@@ -1,6 +1,7 @@
 // The report: the text of a site's plan, written into a lent buffer, and the text that the report program prints.
 //
-// An image is opened once, and its groups stay rows of bits; `lines` writes the text. The definitions are in specs/Report.
+// An image is opened once, and its groups stay rows of bits; `lines` writes the text. The definitions are in specs/Report. No From exists from u32 to
+// usize, so these are casts.
 #![tactic(auto)]
 
 ghost use Rattle.std.specs.Prelude.{◌≤◌, ◌≡◌, length};
@@ -59,10 +60,12 @@ fn report_groups<'a>(
     requires { RowsHeld image.now h groups.rows.now groups.count cores.now }
     ensures { Filled (report_text image.now) text.old result text.new }
 {
+    let n = usize::from(h.n);
+    let m = usize::from(h.m);
     let from = h.handsets as usize;
-    let to = from + fields::HANDSET_BYTES * (h.n as usize);
+    let to = from + fields::HANDSET_BYTES * n;
     let a = h.edges as usize;
-    let b = a + fields::EDGE_BYTES * (h.m as usize);
+    let b = a + fields::EDGE_BYTES * m;
     let mut tallies = [0u32; 1024];
     let mut reaches = [0u64; 512];
     tallies::count_groups(
@@ -74,7 +77,7 @@ fn report_groups<'a>(
         &mut reaches,
     );
     let mut outliers = [0u64; 8];
-    let totals = totals::count_roles(groups, cores, h.n as usize, &mut outliers);
+    let totals = totals::count_roles(groups, cores, n, &mut outliers);
     let head = Head {
         handsets: h.n,
         ties: h.m,

@@ -9,5 +9,6 @@ write_text-requires c = rows_counted c.args.groups.rows.now c.args.groups.count 
 pub returns : goal.returns
 returns c =
     filled_same
-    (text_held c.requires c.counts.result c.count_roles-totals.result _ _ _ c.counts.ensures c.count_groups.ensures.counted c.count_groups.ensures.raised c.count_roles-totals.ensures)
+    (text_held c.requires c.counts.result c.count_roles-totals.result _ _ _ c.counts.ensures (rw c.from-m.ensures at c.count_groups.ensures.counted)
+    (rw (c.from-n.ensures, c.from-m.ensures) at c.count_groups.ensures.raised) (rw c.from-n.ensures at c.count_roles-totals.ensures))
     c.write_text.ensures
