@@ -1,6 +1,7 @@
 // What is read off communities that stand in a table as rows of bits: a row of eight words for each community, one bit a handset.
 //
-// More than 512 rows count as 512. The definitions are in specs/Rows; callers cite proofs/Rows and proofs/Listing.
+// More than 512 rows count as 512. The definitions are in specs/Rows; callers cite proofs/Rows and proofs/Listing. No From exists from u32 to usize, so the
+// cast.
 #![tactic(auto)]
 
 ghost use Rattle.std.specs.Prelude.{◌≡◌, ◌≤◌, ◌<◌, min, length};

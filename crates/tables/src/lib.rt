@@ -1,7 +1,7 @@
 // The tables of a plan and the role of a handset, from the communities as rows of bits: eight words to a row, one bit a handset.
 //
 // Counting comes first, so that a refusal writes nothing; a row's members are found word by word, by the lowest set bit. More than 512 rows count as 512. The
-// definitions are in specs/Plan.
+// definitions are in specs/Plan. No From exists from usize to u16 or u32, so these are casts.
 #![tactic(auto)]
 
 ghost use Rattle.std.specs.Prelude.{◌≡◌, ◌+◌, ◌≤◌, ◌<◌, min, length, MatchOption};
@@ -31,6 +31,7 @@ fn write_word(word: u64, base: usize, members: &mut [u16], at: usize) -> usize
     place
 }
 
+// No plainer with the rest of the table and a count for an answer: `write_tables` needs the place itself, for the start table.
 // Writes the members of row k, ascending, from the place `at` on, and gives the place after them. An empty row writes nothing.
 fn write_row(rows: &Table, k: usize, members: &mut [u16], at: usize) -> usize
     requires { (k < 512) × (at + length (row_members rows.now k) ≤ length members.old) }
