@@ -31,8 +31,8 @@ fn write_word(word: u64, base: usize, members: &mut [u16], at: usize) -> usize
     place
 }
 
-// No plainer with the rest of the table and a count for an answer: `write_tables` needs the place itself, for the start table.
 // Writes the members of row k, ascending, from the place `at` on, and gives the place after them. An empty row writes nothing.
+// No plainer with the rest of the table and a count for an answer: `write_tables` needs the place itself, for the start table.
 fn write_row(rows: &Table, k: usize, members: &mut [u16], at: usize) -> usize
     requires { (k < 512) × (at + length (row_members rows.now k) ≤ length members.old) }
     ensures next { result ≡ at + length (row_members rows.now k) }
