@@ -1,6 +1,6 @@
 // A refusal: taken out of the reader's answer, and as the number that C gets.
 //
-// The definitions are in specs/Refusals and image/specs/Questions.
+// The definitions are in specs/Refusals and image/specs/Questions. No From exists from usize to u64, nor from u64 to i64, so these are casts.
 #![tactic(auto)]
 
 ghost use Rattle.std.specs.Prelude.{◌≡◌};

@@ -1,6 +1,7 @@
 // The answers of the calls on tables as the numbers that C gets: the lookup, the lookup at a time, and the writer. Those of the calls on an image are in `codes`.
 //
 // The definitions are in specs/Codes. Where a number may be larger than its share of the code it is cut off; divanegret/specs/Lossless says that no call's answer is.
+// No From exists from usize to u64, nor from u64 to i64, so these are casts; each function here is one rule of docs/SITE-IMAGE.md for the number that C gets.
 #![tactic(auto)]
 
 ghost use Rattle.std.specs.Prelude.{◌≡◌};

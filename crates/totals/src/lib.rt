@@ -1,7 +1,7 @@
 // How many handsets have each role, from the groups as rows of bits and the set of cores.
 //
 // The handsets in one row or more, and in two or more, are found first; the roles are then counted a word at a time, as ones. The definitions are in
-// specs/Totals.
+// specs/Totals. No From exists from u32 to usize, so these are casts.
 #![tactic(auto)]
 
 ghost use Rattle.std.specs.Prelude.{◌<◌, min, ◌≡◌};
