@@ -2,6 +2,7 @@
 //
 // The definitions are in specs/Codes, and a caller needs nothing else: each function gives exactly the code of what it is handed, for every answer, also
 // one that no call gives. Where a number may be larger than its share of the code it is cut off; divanegret/specs/Lossless says that no call's answer is.
+// No From exists from usize to u64, nor from u64 to i64, so these are casts; each function here is one rule of docs/SITE-IMAGE.md for the number that C gets.
 #![tactic(auto)]
 
 ghost use Rattle.std.specs.Prelude.{◌≡◌, ◌<◌};
