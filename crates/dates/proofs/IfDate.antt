@@ -1,5 +1,7 @@
--- What an answer for a date says: `held`, that the date exists, with the number; `none`, that it does not.
+-- What an answer for a date says: `held`, that the date exists, with the number; `none`, that it does not; `told`, the number that stands for none, where the
+-- answer is taken for a number.
 use Rattle.std.specs.Prelude.{None, Some}
+use Rattle.std.specs.Option.{unwrap_or}
 use Prim.Native.Nat.{ℕ}
 use mathlib.Core.Path.{◌≡◌, refl}
 use mathlib.Core.Bool.{Bool, true, false, cond}
@@ -20,3 +22,11 @@ none y m d n = go (date_exists y m d)
     go : (b : Bool) → cond b (Some n) None ≡ None → b ≡ false
     go true e = absurd cc
     go false e = refl
+
+pub told : (y m d n k : ℕ) → unwrap_or (if_date y m d (cond (date_exists y m d) n k)) k ≡ cond (date_exists y m d) n k
+unfolding if_date
+told y m d n k = go (date_exists y m d)
+  where
+    go : (b : Bool) → unwrap_or (cond b (Some (cond b n k)) None) k ≡ cond b n k
+    go true = refl
+    go false = refl

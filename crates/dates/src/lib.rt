@@ -1,6 +1,6 @@
 // Dates of the Gregorian calendar, years 1600 to 9999: which exist, their day numbers and their weekdays.
 //
-// The definitions are in specs/Dates, and what is proved of them in specs/Calendar. Each method takes any three numbers. No From exists
+// The definitions are in specs/Dates, and what is proved of them in specs/Calendar. Each call takes any three numbers. No From exists
 // from u32 to usize, so the casts.
 #![tactic(auto)]
 
@@ -116,4 +116,18 @@ impl Date {
         let days = self.day_number()?;
         Some((days + 1) % 7)
     }
+}
+
+// The day number of a date; 0 where there is no such date. Unlike `Date::day_number`, it always answers a number; so does `weekday`.
+pub fn day_number(year: u32, month: u32, day: u32) -> u32
+    ensures { result ≡ day_number_of year month day }
+{
+    Date { year, month, day }.day_number().unwrap_or(0)
+}
+
+// The weekday of a date, 0 for Monday to 6 for Sunday; 7 where there is no such date.
+pub fn weekday(year: u32, month: u32, day: u32) -> u32
+    ensures { result ≡ weekday_of year month day }
+{
+    Date { year, month, day }.weekday().unwrap_or(7)
 }

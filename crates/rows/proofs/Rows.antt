@@ -2,7 +2,7 @@
 -- meets a set. Each goes by a word or by a row at a time, as the code does.
 --
 --     row_in_lem, row_in_past            row k of the 512; none from 512 on; row_listed: of rows that are listed
---     row_words_most, row_ones           a row has at most eight words; their bits are its members
+--     row_words_most, words_most, row_ones    a row has at most eight words; their bits are its members
 --     row_words_in                   the words of row k of the 512 have its members
 --     row_words_lem, row_slice           the words of row k have its members; the slice that the code cuts has them
 --     contains_row, contains_past    a row contains v where its bit is set; it contains nothing from 512 on
@@ -11,7 +11,7 @@
 --     overlaps_row                   the words of a row overlap those of a set where the row meets it
 --     none_before, none_next         no row so far meets a set: at first, and of one row more
 --     first_found, first_unmet       the first row that meets a set; none does
---     met_some, met_none             what was found is the first list that meets a set; where nothing was found none does
+--     met_some, met_none             what was found is the first list that meets a set; where nothing was found none does; met_or: as a number
 use Prim.Native.Nat.{ℕ, zero, suc, ◌+◌, ◌-◌, ◌*◌, ◌/◌, ◌%◌, ◌^◌, ◌≤◌, ◌<◌, min, max}
 use native.Mathlib.Omega.{arith}
 use native.Mathlib.Numerals.{add-one}
@@ -29,7 +29,7 @@ use borrow.Author.Tests.{le-leb, ne_eqb}
 use Rattle.sets.specs.Below.{any, bit, sum, find, first}
 use Rattle.sets.specs.Bits.{bit_of, bit_at, Words, cell}
 use Rattle.sets.specs.Rows.{table_words}
-use Rattle.sets.proofs.Tests.{T-ext, T_true, T_false, decide, any_take, any_none, any_cong, eqb_of, eqb_not, or_comm, first_is, first_none}
+use Rattle.sets.proofs.Tests.{T-ext, T_true, T_false, decide, any_take, any_none, any_cong, eqb_of, eqb_not, or_comm, find_none, first_is, first_none}
 use Rattle.sets.proofs.Counting.{test_bit, sum_cong}
 use Rattle.sets.proofs.Selecting.{select_cong, mem_select, select_mem}
 use Rattle.sets.proofs.Bits.{zeros, bit_at_zeros, bit_at_past, bit_at_lt, bit_of_lt, bit_of_none, bit_of_and, bit_of_or, cell_word}
@@ -40,6 +40,7 @@ use Rattle.rows.specs.Rows.{row_members, rows_of, row_in, row_words, MembersFoun
 use Rattle.rows.specs.ForProofs.{RowAdded, overlaps}
 use Rattle.rows.proofs.Listing.{in_row, row_length, rows_next, rows_at, rows_length}
 use Rattle.std.specs.Prelude.{Some, None}
+use Rattle.std.specs.Option.{unwrap_or}
 use Rattle.sets.proofs.Ascending.{select_none}
 use Rattle.sets.proofs.Front.{bit_first, bit_later}
 
@@ -75,6 +76,10 @@ row_bit rows k v h = ap (λ (w : ℕ). bit_of w (v % 64)) (row_word rows k (v / 
 pub row_words_most : (rows : List ℕ) (k : ℕ) → length (row_words rows k) ≤ 8
 unfolding row_words
 row_words_most rows k = omega (arith, length-take 8 (drop (8 * k) rows))
+
+-- the same of words that are a row's, whichever it is
+pub words_most : (rows : List ℕ) (k : ℕ) (words : List ℕ) → words ≡ row_words rows k → length words ≤ 8
+words_most rows k words e = omega (arith, ap length e, row_words_most rows k)
 
 -- from 512 on there are none
 row_words_past : (rows : List ℕ) (k : ℕ) → length rows ≡ table_words → 512 ≤ k → row_words rows k ≡ []
@@ -365,3 +370,18 @@ met_none set gs e = pick (any (length gs) at) e
     pick : (b : Bool) → None ≡ cond b (Some (find (length gs) at)) None → T (not b)
     pick true p = absurd (let z : ⊥ = cc in z)
     pick false p = tt
+
+-- where nothing was found, the count of the rows is the number
+pub met_or : (set rows : List ℕ) (n : ℕ) → unwrap_or (first_met set (rows_of rows n)) n ≡ first_meeting set (rows_of rows n)
+unfolding first_met first_meeting first
+met_or set rows n = pick (any (length (rows_of rows n)) at) refl
+  where
+    at : ℕ → Bool
+    at i = meets set (get_or (rows_of rows n) i [])
+
+    found : ℕ
+    found = find (length (rows_of rows n)) at
+
+    pick : (b : Bool) → any (length (rows_of rows n)) at ≡ b → unwrap_or (cond b (Some found) None) n ≡ found
+    pick true q = refl
+    pick false q = sym (find_none (length (rows_of rows n)) at (subst T (ap not (sym q)) tt) ∙ rows_length rows n)

@@ -7,7 +7,7 @@
 ghost use Rattle.std.specs.Prelude.{◌≡◌, ◌≤◌, ◌<◌, min, length};
 ghost use Rattle.sets.specs.Bits.{Words};
 ghost use Rattle.sets.specs.Rows.{table_words};
-ghost use Rattle.rows.specs.Rows.{rows_of, row_in, row_words, counts_of, first_met, MembersFound};
+ghost use Rattle.rows.specs.Rows.{rows_of, row_in, row_words, counts_of, first_met, first_meeting, MembersFound};
 ghost use Rattle.rows.specs.ForProofs.{RowAdded, overlaps};
 
 use sets::{Row, Table};
@@ -87,6 +87,16 @@ impl<'a> Groups<'a> {
         }
         None
     }
+}
+
+// The number of the first of the first `count` rows that has a member in the set, or their count where none has. Unlike `Groups::first_meeting`, it always
+// answers a number.
+pub fn first_meeting(rows: &Table, count: usize, set: &Row) -> usize
+    ensures { result ≡ first_meeting set.now (rows_of rows.now (min count 512)) }
+{
+    Groups { rows, count }
+        .first_meeting(set)
+        .unwrap_or(count.min(512))
 }
 
 // Adds row k to the set `once`, and those of it that were in `once` already to the set `twice`.
