@@ -1,7 +1,8 @@
 -- How writes follow one another, and how the texts that a loop writes grow by one step.
 --
 --     from_start, chain_from       so from a buffer and a position that are known by an equation
---     copied                       bytes copied as far as the buffer reaches
+--     copied                       bytes copied as far as the buffer reaches; copied_part: through the part of it that is left
+--     byte_more                    bytes at the front of a list, one more
 --     chain                        a write after a write is one write; then: the same of a text
 --     still                        nothing more is written
 --     written                      what a text from the front of a buffer leaves in it
@@ -16,13 +17,14 @@ use mathlib.Core.List.{List, [], ◌∷◌, ◌++◌, map, append_assoc, append-
 use native.Mathlib.Omega.{arith}
 use native.Mathlib.Decide.{dec_lt}
 use native.Mathlib.Numerals.{add-one}
-use lib.ListN.{length, get_or, length-append, take, drop, drop_of_length-le}
+use lib.ListN.{length, get_or, set, length-append, length-drop, take, drop, drop_of_length-le}
 use lib.Seq.{sets, sets-eq, length-sets, take-suc, drop-drop}
-use Rattle.std.proofs.lemmas.List.{take-append-drop, length-take-le}
+use Rattle.std.proofs.lemmas.List.{take-append-drop, length-take-le, take_rest}
 use lib.Dec.{T}
+use borrow.Rule.Slice.PartMut.{put_mid}
 use Rattle.sets.specs.Below.{select}
 use Rattle.sets.proofs.Selecting.{select_yes, select_no, map_append}
-use Rattle.sets.proofs.Writing.{sets_out, sets_append}
+use Rattle.sets.proofs.Writing.{sets_out, sets_append, sets_front}
 use Rattle.text.specs.Text.{Wrote, Writes, decimal, numbers}
 use Rattle.text.specs.declared.Text.{Text}
 
@@ -74,6 +76,26 @@ copied l vs p i n k e d same =
     rest : Dec (n < length vs) → sets (sets l i (take n vs)) (i + length (take n vs)) (drop n vs) ≡ sets l i (take n vs)
     rest (yes h) = sets_out (sets l i (take n vs)) (i + length (take n vs)) (drop n vs) (omega (arith, long, length-sets l i (take n vs)))
     rest (no h) = ap (sets (sets l i (take n vs)) (i + length (take n vs))) (drop_of_length-le vs {i = n} (omega arith))
+
+-- where the room from a position on has got the bytes, at its front, the buffer has the bytes stored
+pub copied_part : (l vs : List ℕ) (p i n : ℕ) (room : List ℕ) → i ≡ min p (length l) → n ≡ min (length vs) (length l - i)
+    → room ≡ sets (take (length l - i) (drop i l)) 0 (take n vs) → put_mid i (length l - i) l room ≡ sets l p vs
+copied_part l vs p i n room e d h =
+    let long : length (take n vs) ≡ n = length-take-le n vs (omega arith) in
+    let front : room ≡ take n vs ++ drop (length (take n vs)) (drop i l) =
+    h ∙ ap (λ (x : List ℕ). sets x 0 (take n vs)) (take_rest l i) ∙ sets_front (drop i l) (take n vs) (omega (arith, long, length-drop i l)) in
+    ap₂ (λ (x y : List ℕ). take i l ++ (x ++ y)) front (drop_of_length-le (drop i l) {i = length l - i} (omega (arith, length-drop i l)))
+    ∙ ap (λ (x : List ℕ). take i l ++ x) (append-nil (take n vs ++ drop (length (take n vs)) (drop i l)))
+    ∙ sym (copied l vs p i n (length (take n vs)) e d long)
+
+-- one byte more at the front of a list
+pub byte_more : (l vs l' : List ℕ) (i : ℕ) → i < length vs → l' ≡ sets l 0 (take i vs) → set l' i (get_or vs i 0) ≡ sets l 0 (take (i + 1) vs)
+byte_more l vs l' i h e =
+    let long : 0 + length (take i vs) ≡ i = omega (arith, length-take-le i vs (omega arith)) in
+    ap₂ (λ (x : List ℕ) (k : ℕ). set x k (get_or vs i 0)) e (sym long)
+    ∙ sym (sets_append l 0 (take i vs) (get_or vs i 0 ∷ []))
+    ∙ ap (sets l 0) (sym (take-suc vs i 0 h))
+    ∙ ap (λ (k : ℕ). sets l 0 (take k vs)) (sym (add-one i))
 
 -- the same of a text
 pub then : {s t u : Text} {vs ws : List ℕ} → Writes s vs t → Writes t ws u → Writes s (vs ++ ws) u

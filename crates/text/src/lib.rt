@@ -70,8 +70,12 @@ impl<'a> Text<'a> {
         ensures { Writes self.old bytes.now self.new }
     {
         let start = self.position.min(self.buffer.len());
-        let count = bytes.len().min(self.buffer.len() - start);
-        self.buffer[start..start + count].copy_from_slice(&bytes[..count]);
+        let room = &mut self.buffer[start..];
+        let count = bytes.len().min(room.len());
+        // Byte by byte: where the slice was copied whole, the archive needed memmove from outside, beside memcpy and memset.
+        for (i, byte) in bytes[..count].iter().enumerate() {
+            room[i] = *byte;
+        }
         self.position = self.position.saturating_add(bytes.len()).min(LAST);
     }
 
