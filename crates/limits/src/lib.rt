@@ -39,7 +39,10 @@ pub fn thresholds_fit(limit: u64, p: u64, q: u64, mu: u64) -> bool
 pub fn out_of_limits(handset: &[u8]) -> bool
     ensures { result ≡ out_of_limits handset.now }
 {
-    (0..fields::COORDINATES).any(|i| {
-        !fields::in_limits(fields::coordinate(handset, fields::COORDINATE_BYTES * i))
-    })
+    // Without a branch: by `any` over the coordinates, tried, opening a site of 512 handsets without edges takes a quarter longer (measured).
+    let mut bad = false;
+    for i in 0..fields::COORDINATES {
+        bad |= !fields::in_limits(fields::coordinate(handset, fields::COORDINATE_BYTES * i));
+    }
+    bad
 }

@@ -2,14 +2,14 @@
 --
 --     NoneCommon            the loop of first_common: no number of the words before j is in both sets
 --     Joining               the loop of join_row: the words before j are done
---     stored                a row written over by a set
+--     Storing               the loop of store_row: the words of the row before j are the set's
 --     Adding                the loop of join_all: the rows of the bits that are not in w are added
 --     shared, without       the numbers of word j that are in both the set and left; left without them
 --     Growing               the loop of collect: the set has the rows of the numbers taken out of left
 use Prim.Native.Nat.{ℕ, zero, suc, ◌+◌, ◌*◌, ◌-◌, ◌/◌, ◌%◌, ◌≤◌, ◌<◌, min, max}
 use native.Mathlib.Omega.{arith}
 use native.Mathlib.Nat.{le_refl, mod-lt, zero-lt-suc}
-use native.Mathlib.Decide.{ℕ_discrete, dec_lt}
+use native.Mathlib.Decide.{ℕ_discrete}
 use mathlib.Core.Path.{◌≡◌, refl, sym, ap, ap₂, ◌∙◌, subst}
 use mathlib.Core.Logic.{◌⊎◌, inl, inr, ⊎_elim}
 use mathlib.Core.Bool.{Bool}
@@ -19,9 +19,6 @@ use lib.Bits.{bit_and, bit_or, bit_xor, differ}
 use lib.Dec.{T, eqb}
 use lib.ListN.{length, get_or, set, length-set}
 use lib.Seq.{get_or-set_same, get_or-set_other}
-use borrow.Rule.Slice.PartMut.{put_mid}
-use borrow.Author.Rules.{rules}
-use Rattle.std.proofs.lemmas.List.{places}
 use Rattle.sets.specs.Below.{sum}
 use Rattle.sets.specs.Bits.{bit_of, bit_at, cell, without_bit, ones_of}
 use Rattle.sets.proofs.Tests.{below, eqb_of}
@@ -133,31 +130,42 @@ module _ (table : List ℕ) (u : ℕ) (s₀ : List ℕ) where
 
 -- ---- a set is stored as a row
 
--- the table whose row k is written over by the set
-module _ (rows : List ℕ) (k : ℕ) (s ys : List ℕ) (e : ys ≡ s) (l : length s ≡ 8) (h : k * 8 + 8 ≤ length rows) where
-  abbrev after : List ℕ
-  after = put_mid (k * 8) (k * 8 + 8 - k * 8) rows ys
+pub record Storing (rows₀ : List ℕ) (k : ℕ) (s rows : List ℕ) (j : ℕ) : Type 0 where
+  pub within : j ≤ 8
+  pub size : length rows ≡ length rows₀
+  pub done : (i : ℕ) → i < j → get_or rows (k * 8 + i) 0 ≡ get_or s i 0
+  pub others : (i : ℕ) → (i / 8 ≡ k → ⊥) → get_or rows i 0 ≡ get_or rows₀ i 0
 
-  inside : (i : ℕ) → i < 8 → get_or after (k * 8 + i) 0 ≡ get_or s i 0
-  inside i q = rw e (search (rules, places))
+module _ (rows₀ : List ℕ) (k : ℕ) (s : List ℕ) where
+  pub storing_start : Storing rows₀ k s rows₀ 0
+  storing_start = record { within = omega arith; size = refl; done = λ i h. absurd (omega arith); others = λ i n. refl }
 
-  outside : (i : ℕ) → (i / 8 ≡ k → ⊥) → get_or after i 0 ≡ get_or rows i 0
-  outside i n = pick (dec_lt i (k * 8))
-    where
-      pick : Dec (i < k * 8) → get_or after i 0 ≡ get_or rows i 0
-      pick (yes q) = rw e (search (rules, places))
-      pick (no q) = let past : k * 8 + 8 ≤ i = omega arith in rw e (search (rules, places))
+  module _ (rows : List ℕ) (j : ℕ) (now : Storing rows₀ k s rows j) where
+    pub storing_on : j < 8 → k * 8 + 8 ≤ length rows₀ → Storing rows₀ k s (set rows (k * 8 + j) (get_or s j 0)) (j + 1)
+    storing_on h l = record {
+      within = omega arith;
+      size = length-set rows (k * 8 + j) w ∙ now.size;
+      done = λ i q. pick i q (ℕ_discrete i j);
+      others = λ i n. get_or-set_other rows (k * 8 + j) i w 0 (λ e. n (omega arith)) ∙ now.others i n;
+    }
+      where
+        w : ℕ
+        w = get_or s j 0
 
-  long : length after ≡ length rows
-  long = rw e (search (rules, places))
+        pick : (i : ℕ) → i < j + 1 → Dec (i ≡ j) → get_or (set rows (k * 8 + j) w) (k * 8 + i) 0 ≡ get_or s i 0
+        pick i q (yes e) =
+            ap (λ (x : ℕ). get_or (set rows (k * 8 + j) w) (k * 8 + x) 0) e
+            ∙ get_or-set_same rows (k * 8 + j) w 0 (omega (arith, now.size))
+            ∙ ap (λ (x : ℕ). get_or s x 0) (sym e)
+        pick i q (no n) = get_or-set_other rows (k * 8 + j) (k * 8 + i) w 0 (λ e. n (omega arith)) ∙ now.done i (omega arith)
 
-  pub stored : Stored rows k s after
-  unfolding bit_at
-  stored = record {
-    size = long;
-    row = λ v q. cell_at after k v q ∙ ap (λ (x : ℕ). bit_of x (v % 64)) (inside (v / 64) (omega arith));
-    others = outside;
-  }
+    pub storing_end : 8 ≤ j → Stored rows₀ k s rows
+    unfolding bit_at
+    storing_end h = record {
+      size = now.size;
+      row = λ v l. cell_at rows k v l ∙ ap (λ (x : ℕ). bit_of x (v % 64)) (now.done (v / 64) (omega arith));
+      others = now.others;
+    }
 
 -- ---- the rows of a word's bits are added
 

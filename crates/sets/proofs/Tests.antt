@@ -2,12 +2,11 @@
 use Prim.Native.Nat.{ℕ, zero, suc, ◌+◌, ◌<◌}
 use native.Mathlib.Omega.{arith}
 use native.Mathlib.Decide.{ℕ_discrete}
-use mathlib.Core.Path.{◌≡◌, refl, sym, ap, ap₂, subst, ◌∙◌}
+use mathlib.Core.Path.{◌≡◌, refl, sym, ap, ap₂, subst}
 use mathlib.Core.Logic.{◌⊎◌, inl, inr, ⊎_elim}
 use mathlib.Core.Bool.{Bool, true, false, ◌&&◌, ◌||◌, not, cond}
 use lib.Dec.{T, eqb, ltb, eqb→eq, ltb→lt, lt→ltb, eqb_refl, T_not, not_T}
 use Rattle.std.specs.Prelude.{Some, None}
-use Rattle.std.specs.List.{list_any, range_with_len}
 use Rattle.sets.specs.Below.{any, find, first}
 
 pub and_make : (a b : Bool) → T a → T b → T (a && b)
@@ -92,24 +91,6 @@ none_any n f h = not_T (any n f) (λ t. let r = any_take n f t in T_not (f r.0) 
 
 pub any_none : (n : ℕ) (f : ℕ → Bool) → T (not (any n f)) → (k : ℕ) → k < n → T (not (f k))
 any_none n f t k h = not_T (f k) (λ x. not_any n f k t h x)
-
-or_swap : (a b c : Bool) → (a || (b || c)) ≡ (b || (a || c))
-or_swap true true c = refl
-or_swap true false c = refl
-or_swap false true c = refl
-or_swap false false c = refl
-
-any_first : (n : ℕ) (f : ℕ → Bool) → any (suc n) f ≡ (f 0 || any n (λ (i : ℕ). f (suc i)))
-unfolding any
-any_first zero f = refl
-any_first (suc n) f = ap (λ (b : Bool). f (suc n) || b) (any_first n f) ∙ or_swap (f (suc n)) (f 0) (any n (λ (i : ℕ). f (suc i)))
-
--- as a chain over a range asks, from the least on
-pub any_range : (n a : ℕ) (f : ℕ → Bool) → list_any f (range_with_len a n) ≡ any n (λ (i : ℕ). f (a + i))
-unfolding any
-any_range zero a f = refl
-any_range (suc n) a f =
-    ap₂ ◌||◌ (ap f (omega arith)) (any_range n (a + 1) f ∙ any_cong n _ _ (λ i h. ap f (omega arith))) ∙ sym (any_first n (λ (i : ℕ). f (a + i)))
 
 -- a number is equal to another, below it or above it
 pub three : (u w : ℕ) → (u ≡ w) ⊎ ((u < w) ⊎ (w < u))
