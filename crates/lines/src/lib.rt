@@ -127,7 +127,7 @@ fn put_set(text: &mut Text<'_>, word: &[u8], set: &[u64])
 {
     text.put_all(word);
     text.put_members(set);
-    end_line(text);
+    end_line(text)
 }
 
 // Writes the line of group k, whose members are a set of bits.

@@ -49,5 +49,7 @@ fn record_at(handsets: &[u8], v: usize) -> Option<&[u8]>
 pub fn test_ends(handsets: &[u8], u: usize, v: usize, limit: u64) -> Option<u64>
     ensures { result ≡ ends_proximity handsets.now u v limit }
 {
-    proximity_of(record_at(handsets, u)?, record_at(handsets, v)?, limit)
+    let first = record_at(handsets, u)?;
+    let second = record_at(handsets, v)?;
+    proximity_of(first, second, limit)
 }

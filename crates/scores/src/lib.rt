@@ -150,5 +150,9 @@ pub fn scores_of(t: Tally) -> Scores
 pub fn score_list(image: &[u8], list: &[u16]) -> Result<Scores, Refusal>
     ensures { score_answer result ≡ score_answer (scored_of image.now list.now) }
 {
-    Ok(scores_of(tally_list(image, list)?))
+    // Not by `?`: the proof of `?` names both ways out after the call, so that an edit of one way out is refused for that name alone.
+    match tally_list(image, list) {
+        Ok(t) => Ok(scores_of(t)),
+        Err(refusal) => Err(refusal),
+    }
 }

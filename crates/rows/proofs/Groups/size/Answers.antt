@@ -7,7 +7,7 @@ use lib.ListN.{length}
 use Rattle.sets.specs.Below.{sum}
 use Rattle.sets.specs.Bits.{bit_at}
 use Rattle.sets.proofs.Bits.{word_bit, sum_word}
-use Rattle.rows.proofs.Rows.{row_words_most, row_ones}
+use Rattle.rows.proofs.Rows.{words_most, row_ones}
 use Rattle.rows.proofs.Groups.size.Goals as goal
 
 pub loop-word-init : goal.loop-word-init
@@ -19,8 +19,7 @@ overflow_add-n c =
     omega (
       arith,
       ones-le 64 _ (c.type_inv.row c.loop-word.word-index).fits,
-      ap length c.row-row.ensures.words,
-      row_words_most c.args.self.rows.now c.args.k,
+      words_most _ _ _ c.row-row.ensures.words,
     )
 
 pub loop-word-preserved : goal.loop-word-preserved
