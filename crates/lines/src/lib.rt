@@ -35,7 +35,7 @@ pub struct Numbers {
 fn end_line(text: &mut Text<'_>)
     ensures { Writes text.old newline text.new }
 {
-    text.put(b'\n');
+    text.put_all(b"\n");
 }
 
 // Writes a label and a number.
@@ -53,7 +53,7 @@ fn put_fields(text: &mut Text<'_>, fields: &[(&[u8], u64)])
     for &(label, n) in fields {
         put_labelled(text, label, n);
     }
-    end_line(text);
+    text.put(b'\n');
 }
 
 // Writes line one.
@@ -127,7 +127,7 @@ fn put_set(text: &mut Text<'_>, word: &[u8], set: &[u64])
 {
     text.put_all(word);
     text.put_members(set);
-    end_line(text)
+    end_line(text);
 }
 
 // Writes the line of group k, whose members are a set of bits.

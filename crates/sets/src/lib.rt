@@ -77,6 +77,9 @@ impl Iterator for SetBits {
     }
 }
 
+// The numbers of handsets are below this one.
+const HANDSETS: u16 = 512;
+
 // Counts how often each number below 512 stands in the list; the table that is lent gets the counts. It looks at no more than 65,535 entries, so that each
 // count fits.
 pub fn count_entries(list: &[u16], table: &mut [u16; 512])
@@ -84,7 +87,7 @@ pub fn count_entries(list: &[u16], table: &mut [u16; 512])
 {
     *table = [0; 512];
     for v in list.iter().take(65535) {
-        if *v < 512 {
+        if *v < HANDSETS {
             table[*v as usize] += 1;
         }
     }

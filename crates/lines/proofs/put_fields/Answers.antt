@@ -8,4 +8,4 @@ loop-label-preserved c =
     λ after rest. c.loop-label.invariant after (fields_more c.args.fields.now c.loop-label.label-index _ (omega arith) c.put_labelled.ensures rest)
 
 pub returns : goal.returns
-returns c = c.loop-label.invariant _ (rw (drop_of_length-le c.args.fields.now {i = c.loop-label.label-index} (omega arith)) c.end_line.ensures)
+returns c = c.loop-label.invariant _ (rw (drop_of_length-le c.args.fields.now {i = c.loop-label.label-index} (omega arith)) c.put.ensures)
