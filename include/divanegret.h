@@ -13,7 +13,8 @@
  *     time if neither writes what the other reads;
  *   - always return. No image, however damaged, no table and no number makes one trap or loop.
  *
- * The archive is compiled for x86-64-v2, so the processor must have popcnt and SSE4.2.
+ * The archive is compiled for x86-64-v2, so the processor must have popcnt and SSE4.2. From outside it
+ * needs memcpy and memset, and nothing else.
  *
  * Stack that a call needs on x86-64, as this archive is compiled: the frames along its deepest path
  * added up, and confirmed by measuring (tests/rust, program stack). It is no part of what is proved,
